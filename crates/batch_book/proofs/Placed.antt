@@ -1,7 +1,7 @@
 -- Ends in their places.
-use Rattle.batch_book.proofs.Common.{◌≡◌, ℕ, zero, suc, ◌+◌, ◌-◌, ◌<◌, List, [], ◌∷◌, ◌++◌, length, refl, sym, ap, ◌∙◌, subst, get_or, true}
-use Rattle.batch_book.proofs.Common.{false, true≢false, inl, inr, arith, IfSome, is_none, slice_get, end_at, first_of, AreOwn, HasEnd, IsPut, IsMissing}
-use Rattle.batch_book.proofs.Common.{AreJobEnds, those_there, Some}
+use Rattle.batch_book.proofs.Common.{◌≡◌, ℕ, zero, suc, ◌+◌, ◌-◌, ◌<◌, List, [], ◌∷◌, ◌++◌, length, refl, sym, ap, ◌∙◌, subst, get_or, true, false, true≢false}
+use Rattle.batch_book.proofs.Common.{inl, inr, arith, IfSome, is_none, slice_get, end_at, first_of, AreOwn, HasEnd, IsPut, IsMissing, AreJobEnds, those_there}
+use Rattle.batch_book.proofs.Common.{Some}
 use Rattle.std.proofs.lemmas.Bool.{cases_eq, cases_lt}
 use Rattle.std.proofs.lemmas.List.{append-nil, get_or_read}
 use Rattle.std.specs.Prelude.{Option, None}

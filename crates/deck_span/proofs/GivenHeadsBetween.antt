@@ -1,11 +1,11 @@
 -- A given head lies between those of the other two decks at each step.
-use Rattle.deck_span.proofs.Common.{◌≡◌, ℕ, zero, suc, ◌+◌, ◌*◌, ◌-◌, ◌≤◌, arith, subst, Bool, true, false, cond, ℤ, pos, neg_ℤ, ◌+ℤ◌, ◌*ℤ◌, ints, mul-pos}
+use Rattle.deck_span.proofs.Common.{◌≡◌, ℕ, zero, suc, ◌+◌, ◌*◌, ◌-◌, ◌≤◌, arith, subst, Bool, true, false, cond, ℤ, pos, neg_ℤ, ◌+ℤ◌, ◌*ℤ◌, mul-pos, ints}
 use Rattle.deck_span.proofs.Common.{◌==◌, ◌||◌, number, Ratio, AtMost, mul_mono_right, le_over, over_le, own_share, AtMost-refl, num_plus, den_plus, Period}
 use Rattle.deck_span.proofs.Common.{Given, one, power, geometric, multiplier, passed, between_heads, IsFractionBetween, IsGivenAtMost, IsGivenBetween}
 use Rattle.deck_span.proofs.Common.{AtMost-trans, le-add}
+use Rattle.decimal_input.specs.{over as size_over, ratio as size_ratio}
 use Rattle.decimal_input.proofs.Differences.{diffs, as_diff, same_diff}
 use Rattle.decimal_input.specs.Ratios.{den as size_den, AtMost as IsRatioAtMost, plus as size_plus}
-use Rattle.decimal_input.specs.{over as size_over, ratio as size_ratio}
 use Rattle.flow_equations.proofs.GivenAtSteps.{between_over}
 use Rattle.deck_span.proofs.HullBounds.{between_image, den_of, over_all}
 

@@ -1,11 +1,11 @@
 -- A number between two enclosed ones lies between the outer bounds.
 use Rattle.deck_span.proofs.Common.{◌≡◌, ℕ, ◌*◌, ◌^◌, ◌≤◌, ◌<◌, ◌⊎◌, inl, inr, refl, arith, ℤ, pos, ◌*ℤ◌, ◌≤ℤ◌, ◌+ℤ◌, ints, clamps, Ratio, Fraction, signed}
-use Rattle.deck_span.proofs.Common.{Encloses, EnclosesSigned, den, AtMost, plus, mul_mono_right, IsFractionBetween, IsRatioBetween, LiesBetween, min, max}
-use Rattle.deck_span.proofs.Common.{IsHullPair, AtMost-refl, times-AtMost, over-AtMost, IsOver, le_over, over_le, mul-pos, own_share, cross_trans_signed}
-use Rattle.cell_balance.proofs.Deep.{le_trans_z}
-use Rattle.cell_balance.proofs.Denominators.{fraction_over}
+use Rattle.deck_span.proofs.Common.{Encloses, EnclosesSigned, IsOver, den, AtMost, plus, mul_mono_right, IsFractionBetween, IsRatioBetween, LiesBetween, min}
+use Rattle.deck_span.proofs.Common.{max, IsHullPair, AtMost-refl, times-AtMost, over-AtMost, le_over, over_le, mul-pos, own_share, cross_trans_signed}
 use Rattle.decimal_input.specs.{over as size_over}
 use Rattle.decimal_input.specs.Fractions.{times}
+use Rattle.cell_balance.proofs.Deep.{le_trans_z}
+use Rattle.cell_balance.proofs.Denominators.{fraction_over}
 use Rattle.std.specs.Int.{int_min, int_max}
 use Rattle.decimal_input.specs.Ratios.{den as ratio_den, AtMost as IsRatioAtMost, times as size_times}
 use Rattle.cell_balance.proofs.Scaling.{IsOver-plus, IsOver-signed, IsOver-times}

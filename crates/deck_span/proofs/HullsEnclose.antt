@@ -1,9 +1,9 @@
 -- The hull of two problems encloses each exact step between those that they enclose.
 use Rattle.deck_span.proofs.Common.{◌+◌, ◌≡◌, ℕ, zero, suc, [], ◌∷◌, refl, sym, subst, ap, ◌∙◌, List, length, AllZip, ExactFlow, ExactLink, ExactFixed}
-use Rattle.deck_span.proofs.Common.{ExactRiver, ExactDrain, ExactEvap, ExactCell, cell_at, AllThree, none, next, IsFlowBetween, IsFixedBetween, IsRiverBetween}
-use Rattle.deck_span.proofs.Common.{IsDrainBetween, IsEvapBetween, IsCellBetween, IsStepBetween, flow_hull, fixed_hull, river_hull, drain_hull, evap_hull}
-use Rattle.deck_span.proofs.Common.{cell_hull, zip_with, IsHull, HasEqualEnds, HasLinkBack, FlowEncloses, LinkEncloses, FixedEncloses, RiverEncloses}
-use Rattle.deck_span.proofs.Common.{DrainEncloses, EvapEncloses, CellEncloses, EnclosesStep}
+use Rattle.deck_span.proofs.Common.{ExactRiver, ExactDrain, ExactEvap, ExactCell, cell_at, HasEqualEnds, HasLinkBack, FlowEncloses, LinkEncloses, FixedEncloses}
+use Rattle.deck_span.proofs.Common.{RiverEncloses, DrainEncloses, EvapEncloses, CellEncloses, EnclosesStep, AllThree, none, next, IsFlowBetween, IsFixedBetween}
+use Rattle.deck_span.proofs.Common.{IsRiverBetween, IsDrainBetween, IsEvapBetween, IsCellBetween, IsStepBetween, flow_hull, fixed_hull, river_hull, drain_hull}
+use Rattle.deck_span.proofs.Common.{evap_hull, cell_hull, zip_with, IsHull}
 use Rattle.step_problem.specs.declared.entry.Flow.{Flow}
 use Rattle.step_problem.specs.declared.entry.Fixed.{Fixed}
 use Rattle.step_problem.specs.declared.entry.River.{River}

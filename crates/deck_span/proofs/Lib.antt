@@ -1,4 +1,9 @@
 mod Common
+pub mod NumberOrders
+pub mod Layers
+pub mod Finding
+pub mod AlikeParts
+pub mod OneDifference
 pub mod ThreeLists
 pub mod HullBounds
 pub mod HullsEnclose

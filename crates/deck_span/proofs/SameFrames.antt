@@ -1,8 +1,8 @@
 -- What a model between two others has in common with them; and where some model lies between two, the two are alike.
-use Rattle.deck_span.proofs.Common.{◌≡◌, ℕ, ◌≤◌, ap, subst, List, length, map, flat_map, range_with_len, Dec, FlowModel, Period, cell_count, is_active}
+use Rattle.deck_span.proofs.Common.{◌≡◌, ℕ, ◌≤◌, ap, subst, List, length, map, flat_map, range_with_len, AllZip, Dec, FlowModel, Period, cell_count, is_active}
 use Rattle.deck_span.proofs.Common.{period_at, is_variable, index_of, start_head, constant_head, AllThree, IsFractionBetween, IsDecBetween, IsPeriodBetween}
-use Rattle.deck_span.proofs.Common.{IsBetween, Fraction, inl, inr, refl, AllZip, Entry, Given, none, next, IsEntryBetween, IsGivenAtMost, IsGivenBetween}
-use Rattle.deck_span.proofs.Common.{IsRateBetween, wells, rivers, drains, generals, AreGivenAlike, ArePeriodsAlike, AreAlike, AreEntriesAlike, AreRatesAlike}
+use Rattle.deck_span.proofs.Common.{IsBetween, none, next, IsEntryBetween, IsGivenAtMost, IsGivenBetween, IsRateBetween, wells, rivers, drains, generals}
+use Rattle.deck_span.proofs.Common.{AreGivenAlike, ArePeriodsAlike, AreAlike, AreEntriesAlike, AreRatesAlike, Fraction, inl, inr, refl, Entry, Given}
 use Rattle.model_types.specs.{times}
 use Rattle.deck_span.proofs.SourcesBetween.{framed, no_dec, at_period, variable_is, cells_are}
 use Rattle.deck_span.proofs.StepsBetween.{framed_is, constant_between}

@@ -4,9 +4,9 @@ use Rattle.deck_span.proofs.Common.{filter, filter_map, range_with_len, Dec, num
 use Rattle.deck_span.proofs.Common.{no_number, dec_at, int_at, is_active, no_period, period_at, entries, given_in, last_given, is_variable, variable_below}
 use Rattle.deck_span.proofs.Common.{is_chosen, EvapSource, recharge_at, evap_source, evap_at, FixedSource, FlowSource, RiverSource, DrainSource, cell_of}
 use Rattle.deck_span.proofs.Common.{as_well, as_river, as_drain, as_general, entries_of, local_entries, variable_faces, constant_faces, storage_at}
-use Rattle.deck_span.proofs.Common.{flow_sources, fixed_sources, river_sources, drain_sources, evap_sources, AllThree, none, IsDecBetween, IsSizeBetween}
-use Rattle.deck_span.proofs.Common.{IsEntryBetween, IsGivenBetween, IsRateBetween, IsPeriodBetween, wells, rivers, drains, generals, faces, through}
-use Rattle.deck_span.proofs.Common.{IsRiverBetween, IsDrainBetween, exact_river, exact_drain, ToConstant, ToGeneral, FromStorage, Pumped, Received}
+use Rattle.deck_span.proofs.Common.{flow_sources, fixed_sources, river_sources, drain_sources, evap_sources, faces, through, ToConstant, ToGeneral, FromStorage}
+use Rattle.deck_span.proofs.Common.{Pumped, Received, AllThree, none, IsDecBetween, IsSizeBetween, IsEntryBetween, IsGivenBetween, IsRateBetween}
+use Rattle.deck_span.proofs.Common.{IsPeriodBetween, wells, rivers, drains, generals, IsRiverBetween, IsDrainBetween, exact_river, exact_drain}
 use Rattle.deck_span.proofs.ThreeLists.{OptionThree, option_all_or_none, option_list, three_append, three_at, three_flat_map, three_images, three_map}
 use Rattle.deck_span.proofs.ThreeLists.{three_reverse, three_take, three_filter, three_find, three_filter_map}
 use Rattle.deck_span.proofs.ThreeLists.OptionThree.{nothing, something}

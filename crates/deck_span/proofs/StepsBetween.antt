@@ -1,20 +1,19 @@
 -- Each exact step of a model between two others lies between theirs.
 use Rattle.deck_span.proofs.Common.{◌≡◌, ℕ, zero, suc, ◌-◌, ◌≤◌, ◌<◌, refl, sym, ap, ◌∙◌, subst, arith, true, Option, List, [], ◌∷◌, length, map, All, int_lt}
-use Rattle.deck_span.proofs.Common.{not, Dec, number, size, Ratio, over, Fraction, signed, negated, plus, ExactEvap, FlowModel, Period, Given, Face, cell_count}
-use Rattle.deck_span.proofs.Common.{no_number, is_active, area, int_at, conductance, row_conductance, column_conductance, vertical_conductance, vertical_half}
-use Rattle.deck_span.proofs.Common.{period_at, passed, is_variable, variable_below, variable_cells, start_head, kept_head, head_or_kept, constant_head}
-use Rattle.deck_span.proofs.Common.{between_heads, EvapSource, FixedSource, FlowSource, variable_faces, evap_sources, AllThree, get_or_default, ◌==◌}
-use Rattle.deck_span.proofs.Common.{unsigned_abs, none, next, IsFractionBetween, IsRatioBetween, IsDecBetween, IsFlowBetween, IsFixedBetween, IsRiverBetween}
-use Rattle.deck_span.proofs.Common.{IsDrainBetween, IsEvapBetween, IsCellBetween, IsStepBetween, IsGivenBetween, IsPeriodBetween, IsBetween, IsGivenAtMost}
-use Rattle.deck_span.proofs.Common.{AtMost, frame, period_frame, and_parts, exact_river, exact_drain, exact_link, exact_fixed, exact_flow, exact_evap}
-use Rattle.deck_span.proofs.Common.{exact_cell, exact_step, negsuc, storage, IsModel, IsEvapValid}
+use Rattle.deck_span.proofs.Common.{not, ◌==◌, unsigned_abs, negsuc, Dec, number, size, Ratio, over, Fraction, signed, negated, plus, AtMost, ExactEvap}
+use Rattle.deck_span.proofs.Common.{FlowModel, Period, Given, Face, cell_count, no_number, is_active, area, int_at, conductance, row_conductance}
+use Rattle.deck_span.proofs.Common.{column_conductance, vertical_conductance, vertical_half, period_at, passed, is_variable, variable_below, variable_cells}
+use Rattle.deck_span.proofs.Common.{start_head, kept_head, head_or_kept, constant_head, between_heads, EvapSource, FixedSource, FlowSource, variable_faces}
+use Rattle.deck_span.proofs.Common.{evap_sources, storage, IsModel, IsEvapValid, AllThree, none, next, IsFractionBetween, IsRatioBetween, IsDecBetween}
+use Rattle.deck_span.proofs.Common.{IsFlowBetween, IsFixedBetween, IsRiverBetween, IsDrainBetween, IsEvapBetween, IsCellBetween, IsStepBetween, IsGivenBetween}
+use Rattle.deck_span.proofs.Common.{IsPeriodBetween, IsBetween, IsGivenAtMost, frame, period_frame, get_or_default, and_parts, exact_river, exact_drain}
+use Rattle.deck_span.proofs.Common.{exact_link, exact_fixed, exact_flow, exact_evap, exact_cell, exact_step, All-head, All-tail}
 use Rattle.std.specs.Prelude.{pos, ℤ}
-use Rattle.decimal_input.specs.Ratios.{times as size_times, AtMost as IsRatioAtMost}
 use Rattle.decimal_input.specs.Fractions.{times}
+use Rattle.decimal_input.specs.Ratios.{times as size_times, AtMost as IsRatioAtMost}
 use Rattle.model_types.specs.declared.face.Axis.{Axis}
 use Rattle.model_types.specs.declared.face.Axis.TheVariants.{Row, Column, Vertical}
 use Rattle.model_types.proofs.Ranks.{passing, is_at}
-use Rattle.std.proofs.lemmas.List.Elements.{All-head, All-tail}
 use Rattle.std.proofs.lemmas.Bool.Decides.{nat_tests}
 use Rattle.deck_span.proofs.ThreeLists.{OptionThree, three_at, three_map}
 use Rattle.deck_span.proofs.ThreeLists.OptionThree.{nothing, something}

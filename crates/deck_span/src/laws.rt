@@ -1,5 +1,5 @@
 // Which models and exact steps lie between two others, and what the hull of two problems encloses.
-ghost use Rattle.deck_span.specs.{AlikeLieBetween, BetweenAreAlike, HullsEnclose, StepsLieBetween};
+ghost use Rattle.deck_span.specs.{AlikeLieBetween, BetweenAreAlike, HullsEnclose, StepsLieBetween, DifferenceIsOne, SharedPackagesAreAlike};
 
 /// Each of two models that are alike lies between the two; and where some model lies between two, the two are alike.
 pub fn alike_lie_between()
@@ -16,4 +16,14 @@ pub fn hulls_enclose()
 #[tactic(auto, using(crate::proofs::StepsBetween::steps_between))]
 pub fn steps_lie_between()
     ensures { StepsLieBetween }
+{}
+
+/// Two models are alike exactly where they share each package.
+pub fn shared_packages_are_alike()
+    ensures { SharedPackagesAreAlike }
+{}
+
+/// Two models have at most one first difference.
+pub fn one_difference()
+    ensures { DifferenceIsOne }
 {}

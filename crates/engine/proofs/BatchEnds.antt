@@ -1,16 +1,13 @@
 -- The ends of a batch, by its reading and its jobs.
-use Rattle.engine.proofs.Common.{[], Job, Text, ends_of_jobs, JobEnd, Wanted, AreDecks, AreTasks, Batch, IsJobEnd, IsRunText, defined, model_line}
-use Rattle.engine.proofs.Common.{IsValidJob, Run, Check, Write, Make, MayRead, files_of, files_if, refused_line, IsTask, Task, folder_name}
-use Rattle.engine.proofs.Common.{WordsMay, Refusal, Err, IfOk, List, None, Ok, Result, Some, ap, refl, subst, sym, ℕ, ◌++◌, ◌∙◌, ◌∷◌, ◌≡◌, Option, append-nil}
-use Rattle.engine.proofs.Common.{All-weaker, All-head, All-tail, AllZip, All, slice_get, option_to_list, Order, but_batch, wanted}
-use Rattle.std.proofs.lemmas.Result.{IfOk-at_ok, IfOk-weaker}
+use Rattle.engine.proofs.Common.{[], Job, Text, ends_of_jobs, JobEnd, Wanted, AreDecks, AreTasks, Batch, IsJobEnd, IsRunText, defined, model_line, IsValidJob}
+use Rattle.engine.proofs.Common.{Run, Check, Write, Make, MayRead, files_of, files_if, refused_line, IsTask, Task, folder_name, WordsMay, Refusal, Err, IfOk}
+use Rattle.engine.proofs.Common.{List, None, Ok, Result, Some, ap, refl, subst, sym, ℕ, ◌++◌, ◌∙◌, ◌∷◌, ◌≡◌, Option, append-nil, All-weaker, All-head, All-tail}
+use Rattle.engine.proofs.Common.{AllZip, All, slice_get, option_to_list, Order, but_batch, wanted, IfOk-at_ok, IfOk-weaker, WordsFault, IsOrder}
 use Rattle.std.specs.Prelude.{IfSome, length}
 use Rattle.batch_book.specs.{AreJobEnds}
 use Rattle.command_line.specs.declared.order.BatchOrder.{BatchOrder}
 use Rattle.command_line.specs.declared.order.Order.TheVariants as order
-use Rattle.command_line.specs.declared.order.WordsFault.{WordsFault}
 use Rattle.command_line.specs.declared.order.WordsFault.TheVariants as fault
-use Rattle.engine.specs.Cases.{IsOrder}
 use Rattle.outside.specs.declared.inputs.InputFault.TheVariants as input
 use Rattle.run_puts.specs.declared.puts.Status.TheVariants as status
 

@@ -4,35 +4,33 @@ pub use Rattle.std.proofs.Common.{inl, inr, length, length-append, map, option_m
 pub use Rattle.std.proofs.Common.{◌<◌, ◌∙◌, ◌∷◌, ◌≡◌, ◌≢◌, ◌≤◌, ◌⊎◌}
 pub use Rattle.std.proofs.lemmas.List.{append-nil, append_assoc, length-map, map-append, take_more}
 pub use Rattle.std.proofs.lemmas.List.Elements.{All-append, All-cons, All-head, All-nil, All-push, All-tail, All-weaker}
-pub use Rattle.std.proofs.lemmas.Result.{err_from_is_err_and}
+pub use Rattle.std.proofs.lemmas.Result.{IfOk-at_ok, IfOk-weaker, err_from_is_err_and}
 pub use Rattle.std.specs.List.{AllZip, concat, filter}
 pub use Rattle.std.specs.Prelude.{All, IfErr, false, is_some, option_to_list, slice_get}
 pub use Rattle.std.specs.declared.alloc.Global.{Global}
 pub use Rattle.std.specs.declared.vec.Vec.{Vec}
-pub use Rattle.batch_puts.proofs.Batches.{batch_run, batch_settles, batches_agree, ends_of_jobs}
-pub use Rattle.batch_puts.specs.{IsBatch, first_not_ok, or_else, texts}
-pub use Rattle.batch_puts.specs.declared.job_end.JobEnd.{JobEnd}
 pub use Rattle.check_run.specs.{IsReadable, IsVerdict, ListingEncloses, RunIsCertified, RunIsReadAgain, VerdictIsOne, as_listed}
 pub use Rattle.check_run.specs.declared.verdict.ListingVerdict.{ListingVerdict}
 pub use Rattle.check_run.specs.declared.verdict.ListingVerdict.TheVariants.{Certified, Fails}
 pub use Rattle.command_line.specs.{Asked, AskedBatch, AskedCheck, Batch, Check, Make, Run, Wanted, Write, asked_of, batch_of, check_of, text_if, usage_line}
 pub use Rattle.command_line.specs.{wanted, wanted_of}
 pub use Rattle.command_line.specs.declared.order.Order.{Order}
-pub use Rattle.deck_alike.specs.declared.difference.Difference.{Difference}
+pub use Rattle.command_line.specs.declared.order.WordsFault.{WordsFault}
 pub use Rattle.deck_problems.proofs.OneProblem.{one_valid}
 pub use Rattle.deck_problems.specs.{AreDecks, IsSecond, one_deck}
 pub use Rattle.deck_problems.specs.declared.decks.Decks.{Decks}
-pub use Rattle.deck_span.specs.{AreAlike}
+pub use Rattle.deck_span.specs.{AreAlike, DifferenceIsOne}
+pub use Rattle.deck_span.specs.declared.difference.Difference.{Difference}
 pub use Rattle.engine.specs.{Answers, AnswersBeside, AreDecksAs, AreDecksOf, AreItsSteps, ArePairOf, ArePutInTurn, AreTasks, AreViews, AreWatched, Case}
 pub use Rattle.engine.specs.{Checking, ChecksWritten, Comes, Comparing, CutOf, Decided, Defines, Due, GoesThrough, GoesWell, HasEnded, HasNoList, HeadlineOf}
-pub use Rattle.engine.specs.{IsCheck, IsDeck, IsDecksRefusal, IsDue, IsJobEnd, IsJobListing, IsListed, IsListingOf, IsMade, IsNamedFault, IsNoSecond, IsPlain}
-pub use Rattle.engine.specs.{IsPlainJob, IsReadingEnd, IsRunOf, IsRunResult, IsRunText, IsStopNumber, IsStopped, IsUnlikeFault, IsValid, IsValidJob, IsView}
-pub use Rattle.engine.specs.{IsWatched, JobDefines, Jobs, Listing, Making, MayRead, NoWords, OneDeck, OneOf, OneSpan, OneSummary, OneVerdict, ReadsFolder}
-pub use Rattle.engine.specs.{ReadsNothing, Refuses, Second, Shows, SidePuts, SpanVerdict, StorageHolds, ViewPutsOf, Writing, WrittenIsCertified, broken_off}
-pub use Rattle.engine.specs.{but_batch, case_decks, case_named, case_of, case_read, certified_line, decks_task, defined, files_if, files_named, files_of}
-pub use Rattle.engine.specs.{job_of, job_task, jobs_read, lines_of, listing_read, made_fault, made_model, made_task, model_line, named, names_read, not_alike}
-pub use Rattle.engine.specs.{of_both, of_first, of_second, second_by, span_task_of, steps_read, summed_text, task_of, unread, verdict_line, verdict_status}
-pub use Rattle.engine.specs.{views_in, zones_read}
+pub use Rattle.engine.specs.{IsCheck, IsDeck, IsDecksRefusal, IsDue, IsJobEnd, IsJobListing, IsListed, IsListingOf, IsMade, IsNamedFault, IsNoSecond, IsOrder}
+pub use Rattle.engine.specs.{IsPlain, IsPlainJob, IsReadingEnd, IsRunOf, IsRunResult, IsRunText, IsStopNumber, IsStopped, IsUnlikeFault, IsValid, IsValidJob}
+pub use Rattle.engine.specs.{IsView, IsWatched, JobDefines, Jobs, Listing, Making, MayRead, NoWords, OneDeck, OneOf, OneSpan, OneSummary, OneVerdict}
+pub use Rattle.engine.specs.{ReadsFolder, ReadsNothing, Refuses, Second, Shows, SidePuts, SpanVerdict, StorageHolds, ViewPutsOf, Writing, WrittenIsCertified}
+pub use Rattle.engine.specs.{broken_off, but_batch, case_decks, case_named, case_of, case_read, certified_line, decks_task, defined, files_if, files_of, job_of}
+pub use Rattle.engine.specs.{job_task, jobs_read, lines_of, listing_read, made_fault, made_model, made_task, model_line, named, names_read, not_alike, of_both}
+pub use Rattle.engine.specs.{of_first, of_second, second_by, span_task_of, steps_read, summed_text, task_of, unread, verdict_line, verdict_status, views_in}
+pub use Rattle.engine.specs.{zones_read}
 unfoldable pub use Rattle.engine.specs.{second_in}
 pub use Rattle.engine.specs.Batched.{Batched}
 pub use Rattle.engine.specs.OneListing.{OneListing}
@@ -52,10 +50,10 @@ pub use Rattle.listing_run.specs.declared.solving.Step.{Step}
 pub use Rattle.listing_run.specs.declared.steps.Task.{Task}
 pub use Rattle.listing_run.specs.declared.text.ListingEnd.{ListingEnd}
 pub use Rattle.listing_summary.specs.{IsSummarized, summary_of, summary_text}
-pub use Rattle.model_forms.proofs.ModelForms.{deck_reads, unit_is_short}
 pub use Rattle.model_maker.specs.{made_files, made_name}
 pub use Rattle.model_reader.specs.{model_of, names_in}
 unfoldable pub use Rattle.model_reader.specs.{reads}
+pub use Rattle.model_text.proofs.ModelForms.{deck_reads, unit_is_short}
 pub use Rattle.model_text.specs.{deck_text}
 pub use Rattle.model_types.specs.{IsModel, cell_count, most_bytes, place, times}
 pub use Rattle.model_types.specs.declared.limits.Limits.{Limits}
@@ -68,10 +66,12 @@ pub use Rattle.outside.specs.declared.inputs.InputFault.{InputFault}
 pub use Rattle.outside.specs.declared.inputs.Refusal.{Refusal}
 pub use Rattle.outside.specs.declared.traits.SinkError.{SinkError}
 pub use Rattle.record_lines.specs.{Has, Stops, StopsText, ◌>>=◌}
+pub use Rattle.run_puts.proofs.Batches.{batch_run, batch_settles, batches_agree, ends_of_jobs}
 pub use Rattle.run_puts.proofs.Makes.{all_written, early_rose}
 pub use Rattle.run_puts.proofs.Pieces.{IsLate, lacks_at_first, late_not_read, lone, tail_late, weaker}
-pub use Rattle.run_puts.specs.{Agree, Begins, IsEnd, IsLast, IsRun, IsUnfinished, IsWanting, NeverCut, PutsMore, Text, all_due, code_of, cut, early, end_line}
-pub use Rattle.run_puts.specs.{failed, memory_put, nothing, read_fault_line, status_after, wanting, whole}
+pub use Rattle.run_puts.specs.{Agree, Begins, IsBatch, IsEnd, IsLast, IsRun, IsUnfinished, IsWanting, NeverCut, PutsMore, Text, all_due, code_of, cut, early}
+pub use Rattle.run_puts.specs.{end_line, failed, first_not_ok, memory_put, nothing, or_else, read_fault_line, status_after, texts, wanting, whole}
+pub use Rattle.run_puts.specs.declared.job_end.JobEnd.{JobEnd}
 pub use Rattle.run_puts.specs.declared.puts.Status.{Status}
 pub use Rattle.settle_driver.specs.{AddsPhases, EnclosesPair}
 pub use Rattle.step_chain.specs.{LeavesRange, edges_by, two}

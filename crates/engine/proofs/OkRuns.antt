@@ -6,8 +6,7 @@ use Rattle.engine.proofs.Common.{VerdictIsOne, Asked, Case, Run, Make, Check, Wr
 use Rattle.engine.proofs.Common.{task_of, zones_read, OneDeck, Defines, made_task, summed_text, OneSummary, IfOk, IsStopped, IsValid, Plain, Limits}
 use Rattle.engine.proofs.Common.{ListingIsOne, ListingExcludesRefusal, RefusalIsOne, Comparing, two, true, Second, not_alike, most_bytes, with_limit}
 use Rattle.engine.proofs.Common.{case_decks, span_task_of, IsDeck, deck_text, deck_reads, summary_of, summary_text, HeadlineOf, OneOf, Wanted, AskedBatch}
-use Rattle.engine.proofs.Common.{Batch, second_in, reads, Decks, decks_task, Batched, case_read, OneListing, false}
-use Rattle.deck_alike.specs.{DifferenceIsOne}
+use Rattle.engine.proofs.Common.{Batch, second_in, reads, Decks, decks_task, Batched, case_read, OneListing, false, DifferenceIsOne}
 use Rattle.std.specs.Io.KnownBytes.{Appends}
 use Rattle.engine.proofs.Certifying.{certified_and_one}
 use Rattle.engine.proofs.Dues.{Delivers}

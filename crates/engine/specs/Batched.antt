@@ -8,15 +8,14 @@ use Rattle.model_types.specs.declared.model.FlowModel.{FlowModel}
 use Rattle.model_types.specs.{start_head, IsModel}
 use Rattle.model_reader.specs.{reads}
 use Rattle.flow_equations.specs.{Solves}
-use Rattle.run_puts.specs.{Text, end_line}
+use Rattle.run_puts.specs.{Text, end_line, first_not_ok, texts}
 use Rattle.run_puts.specs.declared.puts.Status.{Status}
 use Rattle.run_puts.specs.declared.puts.Status.TheVariants as status
 use Rattle.listing_run.specs.declared.solving.Step.{Step}
 use Rattle.listing_run.specs.declared.text.ListingEnd.TheVariants.{Whole}
 use Rattle.listing_run.specs.{AllSteps, listing, BoundAll}
 use Rattle.exact_histories.specs.{HasHistory, AreSame}
-use Rattle.batch_puts.specs.declared.job_end.JobEnd.{JobEnd}
-use Rattle.batch_puts.specs.{first_not_ok, texts}
+use Rattle.run_puts.specs.declared.job_end.JobEnd.{JobEnd}
 use Rattle.command_line.specs.{AskedBatch}
 use Rattle.engine.specs.Cases.{job_of, job_task, names_read}
 use Rattle.engine.specs.Defined.{IsJobEnd, model_line}

@@ -4,12 +4,11 @@ use Rattle.std.specs.List.{concat}
 use Rattle.outside.specs.declared.inputs.Refusal.{Refusal}
 use Rattle.command_line.specs.{usage_line}
 use Rattle.listing_io.specs.{refused_line}
-use Rattle.run_puts.specs.{Text, read_fault_line}
+use Rattle.run_puts.specs.{Text, read_fault_line, IsBatch}
 use Rattle.run_puts.specs.declared.puts.Status.{Status}
 use Rattle.run_puts.specs.declared.puts.Status.TheVariants as status
 use Rattle.listing_run.specs.declared.steps.Task.{Task}
-use Rattle.batch_puts.specs.declared.job_end.JobEnd.{JobEnd}
-use Rattle.batch_puts.specs.{IsBatch}
+use Rattle.run_puts.specs.declared.job_end.JobEnd.{JobEnd}
 use Rattle.engine.specs.declared.job.Job.{Job}
 use Rattle.listing_run.specs.{IsListing, IsCutListing}
 use Rattle.engine.specs.Cases.{Case, NoWords, Refuses, Listing, Making, Checking, Jobs, Writing, Comparing}

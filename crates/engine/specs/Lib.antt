@@ -19,9 +19,9 @@ pub mod Batched
 pub mod BatchReads
 pub use Rattle.engine.specs.BatchReads.{AreTasks, HasNames, IsBatchRead, NeverRefused}
 pub use Rattle.engine.specs.Batched.{HasEnded, HasNoList, IsJobListing}
-pub use Rattle.engine.specs.Cases.{Case, Checking, Comparing, IsListingOf, IsOrder, Jobs, Listing, Making, NoWords, ReadsNothing, Refuses, WorkersChangeNoCase, Writing}
-pub use Rattle.engine.specs.Cases.{but_batch, case_decks, case_named, case_of, case_read, decks_task, job_of, job_task, jobs_read, listing_read, made_model}
-pub use Rattle.engine.specs.Cases.{named, names_read, span_task_of, steps_read, task_of, zones_read}
+pub use Rattle.engine.specs.Cases.{Case, Checking, Comparing, IsListingOf, IsOrder, Jobs, Listing, Making, NoWords, ReadsNothing, Refuses, WorkersChangeNoCase}
+pub use Rattle.engine.specs.Cases.{Writing, but_batch, case_decks, case_named, case_of, case_read, decks_task, job_of, job_task, jobs_read, listing_read}
+pub use Rattle.engine.specs.Cases.{made_model, named, names_read, span_task_of, steps_read, task_of, zones_read}
 pub use Rattle.engine.specs.Checked.{IsCheck, certified_line, verdict_line, verdict_status}
 pub use Rattle.engine.specs.Commands.{MayRead}
 pub use Rattle.engine.specs.Decks.{IsDeck, OneDeck}

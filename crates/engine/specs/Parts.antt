@@ -13,11 +13,10 @@ use Rattle.zone_pairs.specs.{pairs_in, AreZones}
 use Rattle.engine.specs.declared.zoned.ZonedListing.{ZonedListing}
 use Rattle.deck_problems.specs.{AreDecks}
 use Rattle.deck_problems.specs.declared.decks.Decks.{Decks}
-use Rattle.deck_span.specs.{AreAlike}
+use Rattle.deck_span.specs.{AreAlike, IsFirstDifference}
 use Rattle.engine.specs.declared.two_decks.Second.{Second as SecondBy}
 use Rattle.engine.specs.TwoDecks.{AreDecksRead, Second, not_alike, second_in}
-use Rattle.deck_alike.specs.declared.difference.Difference.{Difference}
-use Rattle.deck_alike.specs.{IsFirstDifference}
+use Rattle.deck_span.specs.declared.difference.Difference.{Difference}
 use Rattle.step_chain.specs.{two}
 use Rattle.run_puts.specs.{IsEnd, IsLast, IsWanting, Text, read_fault_line}
 use Rattle.run_puts.specs.declared.puts.Status.{Status}

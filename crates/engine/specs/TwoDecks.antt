@@ -13,9 +13,8 @@ use Rattle.model_types.specs.declared.limits.Limits.{Limits}
 use Rattle.model_types.specs.declared.model.FlowModel.{FlowModel}
 use Rattle.model_types.specs.{place}
 use Rattle.model_reader.specs.{model_of, names_in}
-use Rattle.deck_span.specs.{AreAlike}
-use Rattle.deck_alike.specs.declared.difference.Difference.{Difference}
-use Rattle.deck_alike.specs.{IsFirstDifference}
+use Rattle.deck_span.specs.{AreAlike, IsFirstDifference}
+use Rattle.deck_span.specs.declared.difference.Difference.{Difference}
 use Rattle.deck_problems.specs.declared.decks.Decks.{Decks}
 use Rattle.listing_io.specs.{refused_line}
 use Rattle.run_puts.specs.{Text}

@@ -2,8 +2,7 @@
 ghost use Rattle.std.specs.Prelude.{◌≡◌, ◌≤◌, List, length, map, IfSome, Some, ◌<◌, ◌^◌, slice_get};
 ghost use Rattle.outside.specs.{WordsMay, folder_name, FileSet, Rose};
 ghost use Rattle.engine.specs.Serving.{files_named};
-ghost use Rattle.run_puts.specs.{IsRun, NeverCut, PutsMore};
-ghost use Rattle.batch_puts.specs.{IsBatch};
+ghost use Rattle.run_puts.specs.{IsRun, NeverCut, PutsMore, IsBatch};
 ghost use Rattle.engine.specs.BatchReads.{AreTasks};
 ghost use Rattle.command_line.specs.{batch_of, wanted_of, Batch};
 ghost use Rattle.engine.specs.Cases.{case_of, ReadsNothing};
@@ -17,7 +16,7 @@ use crate::ending::end_reading;
 use crate::job::{Job, end_of_job};
 use crate::running::answer;
 use batch_book::{Jobs, run_batch};
-use batch_puts::{JobEnd, put_ends};
+use run_puts::{JobEnd, put_ends};
 use command_line::{BatchOrder, Order, read_order};
 use outside::{Folder, Gate, Sink};
 use run_puts::{Status, put_memory};

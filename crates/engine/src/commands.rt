@@ -7,7 +7,7 @@ ghost use Rattle.std.specs.Process.{exit_status};
 
 use crate::batching::answer_any;
 use check_run::laws::one_verdict;
-use deck_alike::laws::one_difference;
+use deck_span::laws::one_difference;
 use listing_run::laws::one_listing;
 use outside::{Folder, Gate, Sink};
 use run_puts::Status;

@@ -3,7 +3,7 @@ ghost use Rattle.std.specs.Prelude.{◌≡◌, Err, IfOk, Ok};
 ghost use Rattle.listing_run.specs.{IsTask, pairs_of};
 ghost use Rattle.engine.specs.{IsJobEnd, IsRunText, model_line};
 
-use batch_puts::JobEnd;
+use run_puts::JobEnd;
 use certified_pair::QuickPairs;
 use listing_io::write_refused;
 use listing_run::{Task, push_listing};

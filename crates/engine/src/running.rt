@@ -1,7 +1,7 @@
 ghost use Rattle.std.specs.Prelude.{◌≡◌, map, IfOk, IfSome, Ok, Option, Some, true};
 ghost use Rattle.outside.specs.{WordsMay, folder_name, FileSet, Rose};
-ghost use Rattle.engine.specs.{files_named, files_of, but_batch, case_of, decks_task, IsOrder, ReadsNothing, views_in, IsRunResult, MayRead, AnswersBeside, AreDecksAs, IsWatched};
-ghost use Rattle.engine.specs.{ViewPutsOf};
+ghost use Rattle.engine.specs.{files_named, files_of, but_batch, case_of, decks_task, IsOrder, ReadsNothing, views_in, IsRunResult, MayRead, AnswersBeside};
+ghost use Rattle.engine.specs.{AreDecksAs, IsWatched, ViewPutsOf};
 ghost use Rattle.command_line.specs.{asked_of, text_if, wanted, wanted_of, Run, Wanted};
 ghost use Rattle.run_puts.specs.{IsRun, PutsMore};
 ghost use Rattle.listing_run.specs.{IsListingBeside, IsCutListing};
@@ -17,7 +17,7 @@ use crate::two_decks::read_decks;
 use crate::writing::write;
 use check_run::laws::one_verdict;
 use command_line::{Order, RunOrder, WordsFault, read_order};
-use deck_alike::laws::one_difference;
+use deck_span::laws::one_difference;
 use deck_problems::Decks;
 use listing_run::Task;
 use listing_run::laws::one_listing;

@@ -7,7 +7,7 @@ ghost use Rattle.command_line.specs.{text_if};
 ghost use Rattle.engine.specs.{AreDecksAs, AreDecksOf, IsNoSecond, IsUnlikeFault, named, second_by, second_in};
 
 use crate::reading::{bad_name, read_named};
-use deck_alike::{Difference, first_difference};
+use deck_span::{Difference, first_difference};
 use deck_problems::Decks;
 use model_reader::{read_model, read_name_file};
 use model_types::{CellId, FlowModel, Grid, Limits, place_of};

@@ -6,8 +6,8 @@ use Rattle.model_reader.proofs.Common.{Area, counted, All, Bool, List, None, Ok,
 use Rattle.model_reader.proofs.Common.{zero, ℕ, ℤ, ◌+◌, ◌∙◌, ◌≡◌, ◌≤◌, if◌then◌else◌, IsDiscretized, IsGridWithin, IsOfBeds, HasFlow, is_transient, steps, []}
 use Rattle.model_reader.proofs.Common.{cond, map, not, ◌∷◌, ◌||◌, length-map, with_basics}
 use Rattle.array_text.specs.{IsShort}
-use Rattle.cell_checks.specs.declared.passing.Check.{Check}
-use Rattle.cell_checks.specs.declared.passing.Check.TheVariants.{Properties as PropertyCheck}
+use Rattle.number_limits.specs.declared.passing.Check.{Check}
+use Rattle.number_limits.specs.declared.passing.Check.TheVariants.{Properties as PropertyCheck}
 use Rattle.std.proofs.lemmas.List.Sums.{sum-map}
 use Rattle.std.specs.List.{list_any}
 use Rattle.outside.specs.declared.codes.Code.{Code}

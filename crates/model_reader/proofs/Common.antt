@@ -7,9 +7,6 @@ pub use Rattle.std.proofs.lemmas.List.Elements.{All-cons, All-nil, All-weaker}
 pub use Rattle.std.proofs.lemmas.Result.{err_from_is_err_and}
 pub use Rattle.std.specs.Prelude.{IfOk, if◌then◌else◌}
 pub use Rattle.bas_package.specs.{HasBasics, bas_of, with_basics}
-pub use Rattle.cell_checks.specs.{at_cell, cell_step, is_checked_bed}
-unfoldable pub use Rattle.cell_checks.specs.{checked, fault_at}
-pub use Rattle.cell_checks.specs.declared.passing.Check.TheVariants.{Properties, StartHead, Thickness}
 pub use Rattle.decimal_input.specs.{IsDec, number}
 pub use Rattle.decimal_input.specs.declared.dec.Dec.{Dec}
 pub use Rattle.dis_package.proofs.DisForms.{IsStarted, dis_is}
@@ -36,6 +33,9 @@ pub use Rattle.name_file.proofs.Forward.{file_named, names_still}
 pub use Rattle.name_file.specs.{NamesMay, file_of}
 pub use Rattle.name_file.specs.Pairs.{Pairs}
 pub use Rattle.name_file.specs.declared.package.Package.TheVariants.{Bas, Chd, Dis, Drn, Evt, Ghb, Lpf, Rch, Riv, Wel}
+pub use Rattle.number_limits.specs.{at_cell, cell_step, is_checked_bed, is_positive, is_same_number, is_thick}
+unfoldable pub use Rattle.number_limits.specs.{checked, fault_at}
+pub use Rattle.number_limits.specs.declared.passing.Check.TheVariants.{Properties, StartHead, Thickness}
 pub use Rattle.outside.specs.{FileSet, InputCounts, ReadsOn, file_at, input_fault}
 pub use Rattle.outside.specs.declared.inputs.InputFault.{InputFault}
 pub use Rattle.outside.specs.declared.inputs.Refusal.{Refusal}

@@ -4,11 +4,10 @@ use Rattle.model_reader.proofs.Common.{length, refl, sym, ap, arith, FlowModel, 
 use Rattle.model_reader.proofs.Common.{IsPeriod, Properties, StartHead, Thickness, is_transient, HasFlow, is_checked_bed, dec_at, is_active, has_bed, top_at}
 use Rattle.model_reader.proofs.Common.{bottom_at, lowest, negsuc, Result, Ok, Err, IfOk, FileSet, InputFault, Has, Pairs, model_of, All-nil, All-cons}
 use Rattle.model_reader.proofs.Common.{All-weaker, Dec, number, IsLayerArray, is_int, Grid, Limits, Period, Wells, Rivers, Drains, Generals, IsReals, is_option}
-use Rattle.model_reader.proofs.Common.{Area, HasArrays, evaporation_arrays, entry_list, given_list}
+use Rattle.model_reader.proofs.Common.{Area, HasArrays, evaporation_arrays, entry_list, given_list, is_thick, is_positive, is_same_number}
 use Rattle.std.proofs.lemmas.Bool.{and_parts, or_parts, not-true, lt-leb, lt-ltb, leb-true}
-use Rattle.cell_checks.proofs.PassedCells.{each_passed}
+use Rattle.number_limits.proofs.PassedCells.{each_passed}
 use Rattle.std.proofs.lemmas.Int.{ints}
-use Rattle.number_limits.specs.{is_thick, is_positive, is_same_number}
 use Rattle.number_limits.proofs.Canonical.{dec_at_is}
 use Rattle.number_limits.proofs.HeadLemmas.{head_of}
 use Rattle.number_limits.proofs.FloorLemmas.{thick_sound}

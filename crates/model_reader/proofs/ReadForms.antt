@@ -3,7 +3,7 @@ use Rattle.model_reader.proofs.Common.{All, List, Ok, subst, sym, ℕ, ◌≡◌
 use Rattle.model_reader.proofs.Common.{Thickness, IsStarted, dis_is, HasFlow, SameBut, bas_in, basics_tested, dis_in, lpf_in, model_of, names_in, needed, reads}
 use Rattle.model_reader.proofs.Common.{IsTimed, Limits, FlowModel, Pairs, Bas, Dis, Lpf, FileSet, file_at}
 use Rattle.bas_package.proofs.BasForms.{bas_is}
-use Rattle.cell_checks.specs.declared.passing.Check.TheVariants.{Properties as PropertyCheck}
+use Rattle.number_limits.specs.declared.passing.Check.TheVariants.{Properties as PropertyCheck}
 use Rattle.lpf_package.proofs.LpfForms.{lpf_is}
 use Rattle.model_reader.proofs.CheckForms.{IsFlow, IsSound, flow_is, sound_again}
 use Rattle.model_reader.proofs.PeriodForms.{IsKnown, IsOption}

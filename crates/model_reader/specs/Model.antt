@@ -11,8 +11,8 @@ use Rattle.model_types.specs.declared.model.FlowModel.{FlowModel}
 use Rattle.dis_package.specs.{dis_of}
 use Rattle.bas_package.specs.{bas_of}
 use Rattle.lpf_package.specs.{lpf_of}
-use Rattle.cell_checks.specs.{checked}
-use Rattle.cell_checks.specs.declared.passing.Check.TheVariants.{Thickness, StartHead, Properties}
+use Rattle.number_limits.specs.{checked}
+use Rattle.number_limits.specs.declared.passing.Check.TheVariants.{Thickness, StartHead, Properties}
 use Rattle.name_file.specs.declared.package.Package.{Package}
 use Rattle.list_package.specs.{given_heads, package_of}
 use Rattle.stress_packages.specs.{wells, rivers, drains, generals, rch_of}

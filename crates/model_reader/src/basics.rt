@@ -4,12 +4,12 @@ ghost use Rattle.outside.specs.{FileSet, ReadsOn, IsGoodName, folder_name, TextM
 ghost use Rattle.record_lines.specs.{Has, HasText};
 ghost use Rattle.decimal_input.specs.{IsDec};
 ghost use Rattle.model_types.specs.{IsGrid};
-ghost use Rattle.cell_checks.specs.{checked};
+ghost use Rattle.number_limits.specs.{checked};
 ghost use Rattle.dis_package.specs.{IsBegun};
 ghost use Rattle.model_reader.specs.{dis_in, basics_tested, bas_in, lpf_in};
 
 use bas_package::read_bas;
-use cell_checks::{Check, check_cells};
+use number_limits::{Check, check_cells};
 use dis_package::read_dis;
 use lpf_package::read_lpf;
 use model_types::{FlowModel, Limits};

@@ -1,9 +1,9 @@
 -- Flags, arrays of one layer, and arrays of layers are read as written.
 use Rattle.model_text.proofs.Common.{◌≡◌, ℕ, zero, suc, ◌+◌, ◌^◌, ◌<◌, ◌≤◌, Bool, true, false, ◌&&◌, nat_lt, nat_le, if◌then◌else◌, List, [], ◌∷◌, length, drop}
-use Rattle.model_text.proofs.Common.{All, Ok, refl, arith, ℤ, pos, negsuc, codes, FileSet, is_comment, counted, Grid, HasSize, is_int, array_or, flag_at}
-use Rattle.model_text.proofs.Common.{flag_if, is_option, option_at, IsWhole, IsShort, integer_word, Line, IsLine, integer_array, integer_is_word, word_by_test}
-use Rattle.model_text.proofs.Common.{IsLayers, is_word, number_at, integer, layer_size, int_at, arrays, digits_spell, is_layer, layer_step, layers_tested}
-use Rattle.model_text.proofs.Common.{layers_at, Takes, takes_none, takes_where, last_takes, and_parts, leb-true}
+use Rattle.model_text.proofs.Common.{All, Ok, refl, arith, ℤ, pos, negsuc, codes, FileSet, is_comment, counted, is_word, Grid, HasSize, is_int, layer_size}
+use Rattle.model_text.proofs.Common.{int_at, array_or, flag_at, flag_if, is_option, option_at, IsWhole, is_layer, layer_step, layers_tested, layers_at, IsShort}
+use Rattle.model_text.proofs.Common.{integer_word, Line, IsLine, integer_array, Takes, integer_is_word, word_by_test, IsLayers, number_at, integer, arrays}
+use Rattle.model_text.proofs.Common.{digits_spell, takes_none, takes_where, last_takes, and_parts, leb-true}
 use Rattle.model_text.proofs.FrameTexts.{integer_item, no_keyword}
 use Rattle.model_text.proofs.DisTexts.{decimal_is_item}
 

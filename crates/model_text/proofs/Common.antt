@@ -1,7 +1,7 @@
 -- Names that several proofs of this crate cite, of the crates below and of its own definitions, passed on from one place. Declares nothing.
 pub use Rattle.std.proofs.Common.{All, Bool, List, None, Ok, Option, Result, Some, [], ap, append_assoc, arith, cond, drop, false, filter, fold, get_or}
-pub use Rattle.std.proofs.Common.{if◌then◌else◌, inl, inr, is_some, length, map, max, nat_le, nat_lt, negsuc, not, pos, refl, replicate, set, subst, suc}
-pub use Rattle.std.proofs.Common.{sum_by, sym, take, true, zero, ℕ, ℤ, ◌&&◌, ◌*◌, ◌++◌, ◌+◌, ◌-◌, ◌<◌, ◌==◌, ◌^◌, ◌||◌, ◌∙◌, ◌∷◌, ◌≡◌, ◌≤◌, ◌⊎◌}
+pub use Rattle.std.proofs.Common.{if◌then◌else◌, inl, inr, is_some, length, map, max, nat_abs, nat_le, nat_lt, negsuc, not, pos, refl, replicate, set, subst}
+pub use Rattle.std.proofs.Common.{suc, sum_by, sym, take, true, zero, ℕ, ℤ, ◌%◌, ◌&&◌, ◌*◌, ◌++◌, ◌+◌, ◌-◌, ◌<◌, ◌==◌, ◌^◌, ◌||◌, ◌∙◌, ◌∷◌, ◌≡◌, ◌≤◌, ◌⊎◌}
 pub use Rattle.std.proofs.lemmas.Bool.{and_parts, leb-true, not-true, or_parts}
 pub use Rattle.std.proofs.lemmas.Bool.Decides.{nat_tests}
 pub use Rattle.std.proofs.lemmas.List.{append-nil, drop-drop, drop-take, drop_all, get_or-replicate, get_or-set_other, length-drop, length-map}
@@ -23,12 +23,13 @@ pub use Rattle.array_text.proofs.LineTexts.{counted_take, last_takes, line_takes
 pub use Rattle.array_text.proofs.LineTexts.{then_takes}
 pub use Rattle.array_text.proofs.NumberTexts.{integer_reads, number_reads, one, short_exponent}
 pub use Rattle.array_text.proofs.WordTexts.{all_pass, count_is_word, integer_is_word, line_by_test, number_is_word, word_by_test}
-pub use Rattle.array_text.specs.{IsLine, IsShort, IsWord, IsWordByte, Line, Takes, integer_array, number_word, text}
-unfoldable pub use Rattle.array_text.specs.{integer_word, line_text, number_after, numbered_lines, real_array, row_line, unread}
+pub use Rattle.array_text.specs.{IsLine, IsShort, IsWord, IsWordByte, Line, Takes}
+unfoldable pub use Rattle.array_text.specs.{integer_array, integer_word, line_text, number_after, number_word, numbered_lines, real_array, row_line, row_lines}
+unfoldable pub use Rattle.array_text.specs.{text, unread}
 pub use Rattle.bas_package.specs.{with_basics}
 unfoldable pub use Rattle.bas_package.specs.{bas_of, basics_of, head_item}
 pub use Rattle.decimal_input.specs.{IsDec, Ratio, is_digit}
-unfoldable pub use Rattle.decimal_input.specs.{ratio}
+unfoldable pub use Rattle.decimal_input.specs.{ratio, scaled, units_of}
 pub use Rattle.decimal_input.specs.declared.dec.Dec.{Dec}
 pub use Rattle.dis_package.specs.{begun, is_growth, is_time, kind_of, known, without_stresses}
 unfoldable pub use Rattle.dis_package.specs.{beds_of, bottom_at, bottoms_of, count_at, dis_of, frame_of, grid_of, head_of, size_at, time_of, widths}
@@ -41,17 +42,17 @@ unfoldable pub use Rattle.lpf_package.specs.{contents_of, layer_at, layers_of, l
 pub use Rattle.model_reader.specs.{needed, stress_in, stresses, where_named}
 unfoldable pub use Rattle.model_reader.specs.{bas_in, basics_tested, dis_in, lpf_in, model_of, names_in, reads, with_stresses}
 pub use Rattle.model_text.specs.{AreNames, HasFlow, HasLists, HasPackage, IsBasic, IsDiscretized, IsEntry, IsFileName, IsGridWithin, IsLayers, IsListOf}
-pub use Rattle.model_text.specs.{IsOfBeds, IsWritable, LacksPackage, ListPackagesReadAsWritten, ListsReadAsWritten, deck_name, deck_names, each_layer}
-pub use Rattle.model_text.specs.{file_type, file_unit, has, heads_of, is_listed, layer_values, lines_of, name_file, numbers_of, package_file, packages}
-pub use Rattle.model_text.specs.{steady_word, storage_option, with_areas, with_lists}
+pub use Rattle.model_text.specs.{IsOfBeds, IsReadAgain, IsWritable, LacksPackage, ListPackagesReadAsWritten, ListsReadAsWritten, ModelsReadAreReadAsWritten}
+pub use Rattle.model_text.specs.{ThreeCells, deck, deck_name, deck_names, each_layer, file_type, file_unit, has, heads_of, is_listed, layer_values, lines_of}
+pub use Rattle.model_text.specs.{name_file, numbers_of, package_file, packages, steady_word, storage_option, with_areas, with_lists}
 unfoldable pub use Rattle.model_text.specs.{bas_item_1, bas_item_2, bas_item_3, bas_item_4, bas_lines, dis_item_1, dis_item_2, dis_item_3, dis_item_4}
 unfoldable pub use Rattle.model_text.specs.{dis_item_5, dis_item_6, dis_item_7, dis_lines, evt_item_2, evt_items, evt_lines, list_item_2, list_item_5}
 unfoldable pub use Rattle.model_text.specs.{list_item_6, list_lines, lpf_arrays, lpf_item_1, lpf_item_4, lpf_item_5, lpf_lines, lpf_zeros, name_item}
 unfoldable pub use Rattle.model_text.specs.{period_list, rch_item_2, rch_items, rch_lines, written}
 pub use Rattle.model_types.proofs.Numbering.{column_below, layer_below, place_gives, row_below}
 pub use Rattle.model_types.proofs.WideLimits.{entries_few, in_row_few, layers_few}
-pub use Rattle.model_types.specs.{HasSize, IsGrid, IsGrowing, IsPositive, IsTimed, cell_count, cell_of, column_of, dec_at, int_at, is_int, is_nonzero, layer_of}
-pub use Rattle.model_types.specs.{layer_size, most_cells, most_entries, most_in_row, most_layers, no_number, number_one, place, row_of}
+pub use Rattle.model_types.specs.{HasSize, IsGrid, IsGrowing, IsPeriod, IsPositive, IsTimed, cell_count, cell_of, column_of, dec_at, int_at, is_int, is_nonzero}
+pub use Rattle.model_types.specs.{layer_of, layer_size, most_bytes, most_cells, most_entries, most_in_row, most_layers, no_number, number_one, place, row_of}
 pub use Rattle.model_types.specs.declared.grid.CellId.{CellId}
 pub use Rattle.model_types.specs.declared.grid.Grid.{Grid}
 pub use Rattle.model_types.specs.declared.limits.Limits.{Limits}
@@ -65,7 +66,8 @@ pub use Rattle.name_file.specs.declared.package.Package.{Package}
 pub use Rattle.name_file.specs.declared.package.Package.TheVariants.{Bas, Chd, Dis, Drn, Evt, Ghb, Lpf, Rch, Riv, Wel}
 pub use Rattle.number_limits.proofs.SignLemmas.{positive_is}
 pub use Rattle.number_limits.specs.{is_positive, within}
-unfoldable pub use Rattle.number_limits.specs.{is_at_least, is_at_most}
+unfoldable pub use Rattle.number_limits.specs.{checked, fault_at, is_at_least, is_at_most, is_thick}
+pub use Rattle.number_limits.specs.declared.passing.Check.TheVariants.{StartHead, Thickness}
 pub use Rattle.outside.specs.{File, FileSet, bytes_under, file_at, folder_name, with_limit, words}
 unfoldable pub use Rattle.outside.specs.{is_good_name}
 pub use Rattle.outside.specs.declared.inputs.Refusal.{Refusal}

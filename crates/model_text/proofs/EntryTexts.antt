@@ -2,9 +2,9 @@
 use Rattle.model_text.proofs.Common.{◌≡◌, ℕ, ◌+◌, ◌^◌, ◌<◌, Bool, true, false, List, [], ◌∷◌, length, map, get_or, set, All, None, Ok, refl, sym, subst, arith}
 use Rattle.model_text.proofs.Common.{decimal, All-append, All-map, All-weaker, All-head, All-tail, All-from_recursion, Dec, repeated, Grid, CellId, cell_count}
 use Rattle.model_text.proofs.Common.{layer_of, row_of, column_of, place, HasSize, row_below, column_below, layer_below, entry_of, entry_at, is_left_out}
-use Rattle.model_text.proofs.Common.{no_marks, new_list, Kind, first_fault, IsWord, number_word, Line, IsLine, count_is_word, list_item_6, IsEntry, IsDec}
-use Rattle.model_text.proofs.Common.{number_at, number, zero, suc, cond, replicate, ◌∙◌, AllPairs, get_or-set_other, Takes, takes_none, then_takes, last_takes}
-use Rattle.model_text.proofs.Common.{line_takes, Differ}
+use Rattle.model_text.proofs.Common.{no_marks, new_list, Kind, first_fault, Differ, IsWord, number_word, Line, IsLine, Takes, count_is_word, list_item_6}
+use Rattle.model_text.proofs.Common.{IsEntry, IsDec, number_at, number, zero, suc, cond, replicate, ◌∙◌, AllPairs, get_or-set_other, takes_none, then_takes}
+use Rattle.model_text.proofs.Common.{last_takes, line_takes}
 use Rattle.model_text.proofs.FrameTexts.{decimal_item, number_item, is_entry, cell_reads}
 use Rattle.model_text.proofs.TimeTexts.{canonical_word}
 

@@ -1,8 +1,8 @@
 -- The files of a deck are found by their names.
 use Rattle.model_text.proofs.Common.{◌≡◌, ℕ, ◌≤◌, ◌==◌, Bool, true, false, nat_le, List, [], ◌∷◌, length, map, filter, All, Option, Some, Ok, refl, sym, ap}
-use Rattle.model_text.proofs.Common.{◌∙◌, arith, list_any, All-head, All-tail, nat_tests, File, bytes_under, file_at, folder_name, is_same_package, Package}
-use Rattle.model_text.proofs.Common.{FlowModel, text, packages, name_item, IsFileName, AreNames, has, lines_of, package_file, name_file, written, with_limit}
-use Rattle.model_text.proofs.Common.{is_itself, not, cond, None, list_all, not-true, Dis, word_by_test, deck_name, deck_names, all_pass}
+use Rattle.model_text.proofs.Common.{◌∙◌, arith, list_any, list_all, All-head, All-tail, nat_tests, File, bytes_under, file_at, folder_name, with_limit}
+use Rattle.model_text.proofs.Common.{is_same_package, Package, FlowModel, text, packages, name_item, IsFileName, AreNames, has, lines_of, package_file}
+use Rattle.model_text.proofs.Common.{name_file, written, deck_name, deck_names, is_itself, not, cond, None, not-true, Dis, word_by_test, all_pass}
 use Rattle.model_text.proofs.PackageTexts.{item_found}
 use Rattle.std.specs.Str.{bytes_eq}
 use Rattle.std.proofs.lemmas.Slice.Eq.{bytes_eq-Decides}

@@ -1,13 +1,13 @@
 -- DIS items 1 and 2 are read as written.
 use Rattle.model_text.proofs.Common.{◌≡◌, ℕ, suc, ◌+◌, ◌-◌, ◌*◌, ◌<◌, ◌≤◌, true, List, [], ◌∷◌, ◌++◌, length, take, map, nat_le, All, Ok, refl, sym, ap, ◌∙◌}
 use Rattle.model_text.proofs.Common.{arith, ℤ, pos, codes, decimal, map-append, length-take-le, take_more, take_all, All-nil, All-cons, All-append, All-take}
-use Rattle.model_text.proofs.Common.{All-weaker, nat_tests, Left, next_number, repeated, beginning, integer, value_at, value_alone, Grid, FlowModel, HasSize}
-use Rattle.model_text.proofs.Common.{IsGrid, int_at, zero_at, size_at, frame_of, IsShort, IsWord, integer_word, Line, unread, row_line, IsWrittenAs, on_line}
-use Rattle.model_text.proofs.Common.{value_reads, values_read, last_word, line_begins, alone_begins, same_start, row_is_words, integer_written, dis_item_1}
-use Rattle.model_text.proofs.Common.{dis_item_2, IsDiscretized, IsGridWithin, Limits, most_layers, most_in_row, most_cells, layers_few, in_row_few, beds_of}
-use Rattle.model_text.proofs.Common.{◌^◌, nat_lt, Some, Dec, IsDec, number, canonical, no_number, within, count_at, number_word, number_reads, integer_reads}
-use Rattle.model_text.proofs.Common.{number_at, ◌==◌, false, drop, All-head, is_word, CellId, cell_count, layer_of, row_of, column_of, row_below, column_below}
-use Rattle.model_text.proofs.Common.{layer_below, place_gives, cell_at, is_left_out, digits_spell, is_digit}
+use Rattle.model_text.proofs.Common.{All-weaker, nat_tests, Left, next_number, repeated, beginning, is_word, integer, value_at, value_alone, zero_at, number}
+use Rattle.model_text.proofs.Common.{canonical, number_at, Grid, FlowModel, HasSize, IsGrid, int_at, most_layers, most_in_row, most_cells, no_number}
+use Rattle.model_text.proofs.Common.{cell_count, layer_of, row_of, column_of, size_at, frame_of, beds_of, count_at, IsShort, IsWord, integer_word, Line, unread}
+use Rattle.model_text.proofs.Common.{row_line, number_word, IsWrittenAs, on_line, value_reads, values_read, last_word, line_begins, alone_begins, same_start}
+use Rattle.model_text.proofs.Common.{row_is_words, integer_written, dis_item_1, dis_item_2, IsDiscretized, IsGridWithin, Limits, layers_few, in_row_few, ◌^◌}
+use Rattle.model_text.proofs.Common.{nat_lt, Some, Dec, IsDec, is_digit, within, number_reads, integer_reads, ◌==◌, false, drop, All-head, CellId, row_below}
+use Rattle.model_text.proofs.Common.{column_below, layer_below, place_gives, cell_at, is_left_out, digits_spell}
 use Rattle.std.specs.Char.{to_ascii_lowercase}
 
 -- Counts in lines.

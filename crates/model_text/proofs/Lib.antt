@@ -1,4 +1,6 @@
 mod Common
+pub mod ModelForms
+pub mod WorkedForms
 pub mod FrameTexts
 pub mod GridTexts
 pub mod TimeTexts

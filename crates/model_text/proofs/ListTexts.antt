@@ -1,13 +1,13 @@
 -- The file of a list package is read as written.
 use Rattle.model_text.proofs.Common.{◌≡◌, ℕ, suc, ◌^◌, ◌<◌, ◌≤◌, max, Bool, true, false, nat_le, fold, List, [], ◌∷◌, length, map, drop, All, Option, Some}
-use Rattle.model_text.proofs.Common.{None, is_some, Ok, refl, arith, codes, decimal, AllZip, flat_map, All-cons, nat_tests, Dec, is_word, Grid, cell_count}
-use Rattle.model_text.proofs.Common.{HasSize, Kind, Line, IsLine, text, digits_spell, count_is_word, word_by_test, list_item_2, list_item_5, period_list}
-use Rattle.model_text.proofs.Common.{list_lines, IsListOf, with_lists, Limits, Period, most_entries, entries_few, header_of, item_line, list_at, lists_of}
-use Rattle.model_text.proofs.Common.{CellId, numbers_of, heads_of, dec_at, cell_of, given_heads, wells, rivers, drains, generals, ListPackagesReadAsWritten}
-use Rattle.model_text.proofs.Common.{number_at, integer, with_list, ◌>>=◌, words, Takes, last_takes, line_takes}
+use Rattle.model_text.proofs.Common.{None, is_some, Ok, refl, arith, codes, decimal, AllZip, flat_map, All-cons, nat_tests, Dec, is_word, ◌>>=◌, Grid}
+use Rattle.model_text.proofs.Common.{cell_count, HasSize, most_entries, dec_at, cell_of, Kind, header_of, item_line, list_at, lists_of, given_heads, with_list}
+use Rattle.model_text.proofs.Common.{Line, IsLine, text, Takes, digits_spell, count_is_word, word_by_test, list_item_2, list_item_5, period_list, list_lines}
+use Rattle.model_text.proofs.Common.{IsListOf, with_lists, numbers_of, heads_of, ListPackagesReadAsWritten, Limits, Period, entries_few, CellId, wells, rivers}
+use Rattle.model_text.proofs.Common.{drains, generals, number_at, integer, words, last_takes, line_takes}
+use Rattle.list_package.specs.{period_at, periods_of}
 use Rattle.list_package.specs.declared.header.Count.TheVariants.{Entries}
 use Rattle.model_text.proofs.FrameTexts.{decimal_item, no_keyword}
-use Rattle.list_package.specs.{period_at, periods_of}
 use Rattle.model_text.proofs.DisTexts.{item_takes, whole_file, each_takes, line_is_item, decimal_is_item}
 use Rattle.model_text.proofs.EntryTexts.{all_free, WritesNumbers, list_takes}
 

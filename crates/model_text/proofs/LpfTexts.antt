@@ -1,15 +1,15 @@
 -- The file of LPF is read as written.
 use Rattle.model_text.proofs.Common.{◌≡◌, ℕ, ◌+◌, ◌*◌, ◌<◌, Bool, true, false, not, ◌||◌, List, [], ◌∷◌, length, map, take, Ok, refl, sym, ap, ◌∙◌, arith}
-use Rattle.model_text.proofs.Common.{codes, take_all, FileSet, is_comment, FlowModel, Period, layer_size, int_at, is_nonzero, without_stresses, is_transient}
-use Rattle.model_text.proofs.Common.{with_properties, contents_of, lpf_of, layer_at, layers_of, line_text, text, each_layer, storage_option, lpf_item_1}
-use Rattle.model_text.proofs.Common.{lpf_arrays, lpf_lines, IsDiscretized, HasFlow, if◌then◌else◌, replicate, get_or-replicate, nil_from_length, Dec, dec_at}
-use Rattle.model_text.proofs.Common.{no_number, storage_layer, properties_of, nth_layer, layer_values, Takes, takes_none, drop_all, takes_where, then_takes}
-use Rattle.model_text.proofs.Common.{last_takes, counted_take}
+use Rattle.model_text.proofs.Common.{codes, take_all, FileSet, is_comment, FlowModel, Period, layer_size, int_at, is_nonzero, dec_at, no_number}
+use Rattle.model_text.proofs.Common.{without_stresses, is_transient, with_properties, contents_of, lpf_of, layer_at, layers_of, storage_layer, properties_of}
+use Rattle.model_text.proofs.Common.{nth_layer, line_text, text, Takes, each_layer, storage_option, lpf_item_1, lpf_arrays, lpf_lines, IsDiscretized, HasFlow}
+use Rattle.model_text.proofs.Common.{layer_values, if◌then◌else◌, replicate, get_or-replicate, nil_from_length, Dec, takes_none, takes_where, then_takes}
+use Rattle.model_text.proofs.Common.{drop_all, last_takes, counted_take}
+use Rattle.model_text.specs.{real_layer}
 use Rattle.model_text.proofs.GridTexts.{one_more_layer, all_layers, layer_takes, layer_or_takes}
 use Rattle.model_text.proofs.DisTexts.{line_is_item, file_takes}
 use Rattle.model_text.proofs.SettingTexts.{settings_take, option_takes, minus_one}
 use Rattle.lpf_package.specs.declared.layer.Properties.{Properties}
-use Rattle.model_text.specs.{real_layer}
 
 -- LPF items 10 to 15 of a layer are read as written.
 module _ (files : FileSet) (file : List ℕ) (m : FlowModel) (d : IsDiscretized m) (f : HasFlow m) where

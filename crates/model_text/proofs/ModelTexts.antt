@@ -1,13 +1,12 @@
 -- A model is read as written.
-use Rattle.model_text.proofs.Common.{with_limit, ◌≡◌, ℕ, ◌≤◌, pos, Bool, true, false, if◌then◌else◌, List, [], ◌∷◌, length, map, All, Some, None, Ok, refl, ap}
-use Rattle.model_text.proofs.Common.{list_any, FileSet, file_at, Pairs, is_same_package, file_of, Package, Dis, Bas, Lpf, Wel, Riv, Drn, Ghb, Rch, Chd, Evt}
-use Rattle.model_text.proofs.Common.{FlowModel, Period, HasSize, stress_in, stresses, with_stresses, text, numbers_of, heads_of, packages, AreNames, has}
-use Rattle.model_text.proofs.Common.{lines_of, written, IsWritable, Limits, recharge_arrays, evaporation_arrays, rch_lines, evt_lines, rch_of, evt_of}
-use Rattle.model_text.proofs.Common.{length-map, cell_of, begun, without_stresses, with_basics, wells, rivers, drains, generals, given_heads, names_in, needed}
-use Rattle.model_text.proofs.Common.{dis_in, basics_tested, bas_in, lpf_in, model_of, reads}
+use Rattle.model_text.proofs.Common.{with_limit, FileSet, file_at, ◌≡◌, ℕ, ◌≤◌, pos, Bool, true, false, if◌then◌else◌, List, [], ◌∷◌, length, map, All, Some}
+use Rattle.model_text.proofs.Common.{None, Ok, refl, ap, list_any, Pairs, is_same_package, file_of, Package, Dis, Bas, Lpf, Wel, Riv, Drn, Ghb, Rch, Chd, Evt}
+use Rattle.model_text.proofs.Common.{FlowModel, Period, HasSize, cell_of, stress_in, stresses, with_stresses, names_in, needed, dis_in, basics_tested, bas_in}
+use Rattle.model_text.proofs.Common.{lpf_in, model_of, reads, text, numbers_of, heads_of, packages, AreNames, has, lines_of, written, IsWritable, rch_lines}
+use Rattle.model_text.proofs.Common.{evt_lines, Limits, recharge_arrays, rch_of, wells, rivers, drains, generals, evaporation_arrays, evt_of, length-map, begun}
+use Rattle.model_text.proofs.Common.{without_stresses, with_basics, given_heads, checked, fault_at, Thickness, StartHead}
 use Rattle.model_text.proofs.DisTexts.{dis_reads}
-use Rattle.cell_checks.specs.{checked, fault_at}
-use Rattle.cell_checks.specs.declared.passing.Check.TheVariants.{Thickness, StartHead, Properties}
+use Rattle.number_limits.specs.declared.passing.Check.TheVariants.{Properties}
 use Rattle.model_reader.proofs.CheckForms.{checks_kept}
 use Rattle.model_text.proofs.BasTexts.{bas_reads}
 use Rattle.model_text.proofs.LpfTexts.{lpf_reads}

@@ -1,9 +1,9 @@
 -- The name file is read as written.
 use Rattle.model_text.proofs.Common.{◌≡◌, ℕ, ◌≤◌, Bool, true, false, nat_le, ◌&&◌, List, [], ◌∷◌, ◌++◌, append_assoc, length, map, filter, All, Some, None, Ok}
 use Rattle.model_text.proofs.Common.{refl, arith, list_any, append-nil, All-nil, All-cons, All-head, All-tail, All-from_recursion, nat_tests, is_good_name}
-use Rattle.model_text.proofs.Common.{next_number, Pairs, is_same_package, file_of, has_package, file_in, after_package, after_line, after_lines, names_of}
-use Rattle.model_text.proofs.Common.{Package, Dis, Bas, Lpf, IsWord, IsWordByte, Line, IsLine, line_text, text, numbered_lines, unread, packages, file_type}
-use Rattle.model_text.proofs.Common.{file_unit, name_item, IsFileName, AreNames, is_same, is_itself, word_at, name_at, line_words, text_left, All-weaker}
+use Rattle.model_text.proofs.Common.{next_number, word_at, name_at, Pairs, is_same_package, file_of, has_package, file_in, after_package, after_line}
+use Rattle.model_text.proofs.Common.{after_lines, names_of, Package, Dis, Bas, Lpf, IsWord, IsWordByte, Line, IsLine, line_text, text, numbered_lines, unread}
+use Rattle.model_text.proofs.Common.{packages, file_type, file_unit, name_item, IsFileName, AreNames, is_same, is_itself, line_words, text_left, All-weaker}
 use Rattle.model_text.proofs.Common.{list_all-from_AllPass}
 use Rattle.name_file.specs.{whole}
 use Rattle.model_text.proofs.DisTexts.{line_is_item}

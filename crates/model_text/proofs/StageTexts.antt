@@ -1,11 +1,11 @@
 -- A model's packages of stresses are read one after the other, each where the model has it.
 use Rattle.model_text.proofs.Common.{◌≡◌, ◌⊎◌, inl, inr, ℕ, zero, suc, ℤ, pos, negsuc, Bool, true, false, not, nat_lt, if◌then◌else◌, List, [], ◌∷◌, length}
 use Rattle.model_text.proofs.Common.{map, All, Option, Some, None, Ok, refl, ap, ◌∙◌, arith, AllZip, or_parts, nat_tests, nil_from_length, All-head, All-tail}
-use Rattle.model_text.proofs.Common.{FileSet, file_at, FlowModel, Period, HasSize, where_named, text, list_lines, is_listed, HasLists, Result, Refusal, Line}
-use Rattle.model_text.proofs.Common.{HasPackage, LacksPackage, no_area, Limits, Dec, cell_count, is_int, Kind, is_option, ArrayKind, with_area, IsListOf}
-use Rattle.model_text.proofs.Common.{with_lists, ListsReadAsWritten, with_areas, Area}
-use Rattle.list_package.specs.{with_list as put, package_of}
+use Rattle.model_text.proofs.Common.{FileSet, file_at, FlowModel, Period, HasSize, cell_count, is_int, where_named, text, Line, list_lines, is_listed, HasLists}
+use Rattle.model_text.proofs.Common.{HasPackage, LacksPackage, IsListOf, with_lists, ListsReadAsWritten, with_areas, Result, Refusal, no_area, is_option}
+use Rattle.model_text.proofs.Common.{ArrayKind, with_area, Limits, Dec, Kind, Area}
 use Rattle.model_reader.specs.{file_in}
+use Rattle.list_package.specs.{with_list as put, package_of}
 
 -- the model with these options, and with each period at this stage
 abbrev pub staged : FlowModel → ℤ → ℤ → (Period → Period) → FlowModel

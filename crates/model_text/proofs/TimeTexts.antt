@@ -1,11 +1,11 @@
 -- DIS item 7 is read as written.
 use Rattle.model_text.proofs.Common.{◌≡◌, ℕ, ◌+◌, ◌*◌, ◌≤◌, ◌⊎◌, inl, inr, Bool, true, false, ◌||◌, List, [], ◌∷◌, length, map, nat_le, sum_by, fold, All, Ok}
-use Rattle.model_text.proofs.Common.{refl, arith, codes, decimal, All-head, All-tail, nat_tests, Dec, IsDec, Refusal, repeated, Period, without_stresses}
-use Rattle.model_text.proofs.Common.{IsWord, number_word, IsLine, short_exponent, word_by_test, number_is_word, count_is_word, steady_word, dis_item_7}
-use Rattle.model_text.proofs.Common.{is_at_most, is_at_least, kind_of, known, is_growth, is_time, time_of, Takes, takes_none, All-from_recursion, line_takes}
-use Rattle.model_text.proofs.Common.{then_takes, last_takes, IsTimed, IsGrowing, number_one, Ratio, ratio, sum_by_from, positive_is}
-use Rattle.decimal_input.specs.Ratios.{den, AtMost}
+use Rattle.model_text.proofs.Common.{refl, arith, codes, decimal, All-head, All-tail, nat_tests, Dec, IsDec, Ratio, ratio, Refusal, repeated, Period}
+use Rattle.model_text.proofs.Common.{without_stresses, kind_of, known, is_growth, is_time, time_of, IsWord, number_word, IsLine, Takes, short_exponent}
+use Rattle.model_text.proofs.Common.{word_by_test, number_is_word, count_is_word, steady_word, dis_item_7, is_at_most, is_at_least, takes_none, line_takes}
+use Rattle.model_text.proofs.Common.{All-from_recursion, then_takes, last_takes, IsTimed, IsGrowing, number_one, sum_by_from, positive_is}
 use Rattle.dis_package.specs.{period_at, periods_of}
+use Rattle.decimal_input.specs.Ratios.{den, AtMost}
 use Rattle.dis_package.specs.declared.periods.Time.{Time}
 use Rattle.model_text.proofs.FrameTexts.{number_item, count_reads}
 

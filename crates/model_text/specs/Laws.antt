@@ -1,15 +1,15 @@
 -- Statements of laws: a model is read as written.
 use Rattle.std.specs.Prelude.{◌≡◌, ℕ, ◌≤◌, List, All, length, Ok, map, ◌⊎◌, pos, [], ◌<◌, true, None, ◌∷◌}
 use Rattle.name_file.specs.declared.package.Package.{Package}
-use Rattle.outside.specs.{with_limit, FileSet}
+use Rattle.outside.specs.{with_limit, FileSet, File}
 use Rattle.model_types.specs.declared.limits.Limits.{Limits}
 use Rattle.model_types.specs.declared.model.FlowModel.{FlowModel}
 use Rattle.model_reader.specs.{reads}
-use Rattle.model_text.specs.Written.{AreNames, written, deck_name, deck_names}
-use Rattle.model_types.specs.{HasSize, cell_count, cell_of, most_entries}
+use Rattle.model_text.specs.Written.{AreNames, written, deck_name, deck_names, IsReadAgain}
+use Rattle.model_types.specs.{HasSize, cell_count, cell_of, most_entries, most_bytes}
 use Rattle.stress_packages.specs.{rch_of, recharge_arrays, wells, rivers, drains, generals}
 use Rattle.evt_package.specs.{evaporation_arrays, evt_of}
-use Rattle.array_text.specs.{text}
+use Rattle.array_text.specs.{text, IsShort}
 use Rattle.model_text.specs.Lists.{rch_lines, evt_lines, numbers_of, heads_of, list_lines}
 use Rattle.model_text.specs.Readable.{HasPackage, LacksPackage, with_areas, IsBasic}
 use Rattle.dis_package.specs.{IsDiscretized, IsGridWithin, begun, dis_of, without_stresses}
@@ -21,10 +21,12 @@ use Rattle.model_types.specs.declared.period.Period.{Period}
 use Rattle.list_package.specs.{given_heads, Kind, IsListOf, lists_of, with_list}
 use Rattle.bas_package.specs.{with_basics, bas_of}
 use Rattle.model_text.specs.Discretization.{dis_lines, bas_lines, lpf_lines}
-use Rattle.cell_checks.specs.{checked}
-use Rattle.cell_checks.specs.declared.passing.Check.{Check}
+use Rattle.number_limits.specs.{checked}
+use Rattle.number_limits.specs.declared.passing.Check.{Check}
 use Rattle.decimal_input.specs.{IsDec}
 use Rattle.model_types.specs.declared.grid.CellId.{CellId}
+use Rattle.model_types.specs.declared.limits.Limits.TheVariants.{Plain}
+use Rattle.flow_equations.specs.{three_cells}
 
 -- What is asked of a model, so that files can say it.
 -- the periods with these lists
@@ -103,3 +105,26 @@ LpfReadsAsWritten = (files : FileSet) (file : List ℕ) (m basic : FlowModel) �
     map without_stresses basic.periods ≡ map without_stresses m.periods →
     lpf_of files file (text (lpf_lines m)) basic
     ≡ Ok (with_properties basic m.coefficient m.layvka (record { hk = m.hk; hani = m.hani; vka = m.vka; ss = m.ss; vkcb = m.vkcb }))
+
+-- A model that is read is writable by the same limits. Each other integer of a file is a word of at most 18 digits; an IBOUND is a word times a multiplier.
+abbrev pub ModelsReadAreWritable : Type 0
+ModelsReadAreWritable = (limits : Limits) (files : FileSet) (name : List ℕ) (m : FlowModel) → reads limits files name ≡ Ok m → All IsShort m.ibound → IsWritable limits m
+
+-- So is read as itself what is written of a model that was read, under names of files that may be, where no file is too long.
+abbrev pub ModelsReadAreReadAsWritten : Type 0
+ModelsReadAreReadAsWritten = (limits : Limits) (files : FileSet) (name : List ℕ) (m : FlowModel) → reads limits files name ≡ Ok m → All IsShort m.ibound →
+    (names : Package → List ℕ) (anew : List ℕ) → AreNames names anew → (most : ℕ) → All (λ f. length f.bytes ≤ most) (written m names anew) →
+    reads limits (with_limit most (written m names anew)) anew ≡ Ok m
+
+-- So of the deck that `heads write` puts, under the names that it gives.
+abbrev pub DecksAreReadAgain : Type 0
+DecksAreReadAgain = (limits : Limits) (files : FileSet) (name : List ℕ) (m : FlowModel) → reads limits files name ≡ Ok m → IsReadAgain limits m
+
+-- A worked model: three cells in a row, with constant heads at both ends.
+abbrev pub deck : List File
+deck = written three_cells deck_names deck_name
+
+-- the model is writable, and its deck is read as it
+pub record ThreeCells : Type 0 where
+  pub writable : IsWritable Plain three_cells
+  pub read : reads Plain (with_limit (most_bytes Plain) deck) deck_name ≡ Ok three_cells

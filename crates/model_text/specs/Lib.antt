@@ -1,6 +1,6 @@
+pub mod Laws
 pub mod Discretization
 pub mod Readable
-pub mod Laws
 pub mod Lists
 pub mod Written
 pub use Rattle.dis_package.specs.{IsDiscretized, IsGridWithin, IsOfBeds}
@@ -10,8 +10,9 @@ pub use Rattle.model_text.specs.Discretization.{each_layer, integer_layer, layer
 unfoldable pub use Rattle.model_text.specs.Discretization.{bas_item_1, bas_item_2, bas_item_3, bas_item_4, bas_lines, dis_item_1, dis_item_2, dis_item_3}
 unfoldable pub use Rattle.model_text.specs.Discretization.{dis_item_4, dis_item_5, dis_item_6, dis_item_7, dis_lines, lpf_arrays, lpf_item_1, lpf_item_4}
 unfoldable pub use Rattle.model_text.specs.Discretization.{lpf_item_5, lpf_lines, lpf_zeros}
-pub use Rattle.model_text.specs.Laws.{BasReadsAsWritten, DeckNamesAreNames, DisReadsAsWritten, EvtReadsAsWritten, HasLists, IsWritable}
-pub use Rattle.model_text.specs.Laws.{ListPackagesReadAsWritten, ListsReadAsWritten, LpfReadsAsWritten, ModelsReadAsWritten, RchReadsAsWritten, with_lists}
+pub use Rattle.model_text.specs.Laws.{BasReadsAsWritten, DeckNamesAreNames, DecksAreReadAgain, DisReadsAsWritten, EvtReadsAsWritten, HasLists, IsWritable}
+pub use Rattle.model_text.specs.Laws.{ListPackagesReadAsWritten, ListsReadAsWritten, LpfReadsAsWritten, ModelsReadAreReadAsWritten, ModelsReadAreWritable}
+pub use Rattle.model_text.specs.Laws.{ModelsReadAsWritten, RchReadsAsWritten, ThreeCells, deck, with_lists}
 pub use Rattle.model_text.specs.Lists.{heads_of, numbers_of}
 unfoldable pub use Rattle.model_text.specs.Lists.{evt_item_2, evt_items, evt_lines, list_item_2, list_item_5, list_item_6, list_lines, period_list, rch_item_2}
 unfoldable pub use Rattle.model_text.specs.Lists.{rch_items, rch_lines}

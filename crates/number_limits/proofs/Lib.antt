@@ -1,4 +1,6 @@
 mod Common
+pub mod CellCanonical
+pub mod PassedCells
 pub mod Canonical
 pub mod SignLemmas
 pub mod MagnitudeLemmas

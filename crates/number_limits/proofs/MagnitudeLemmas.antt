@@ -1,6 +1,6 @@
 -- Magnitudes by their floors and ceilings.
-use Rattle.number_limits.proofs.Common.{◌≡◌, ◌⊎◌, inl, inr, ℕ, ◌+◌, ◌*◌, ◌-◌, ◌^◌, ◌≤◌, ◌<◌, true, false, nat_le, sym, ◌∙◌, arith, leb-true, Ratio, ratio, den}
-use Rattle.number_limits.proofs.Common.{AtMost, IsCeiling, IsFloor, Passes, Reaches, is_at_most, is_at_least}
+use Rattle.number_limits.proofs.Common.{◌≡◌, ◌⊎◌, inl, inr, ℕ, ◌+◌, ◌*◌, ◌-◌, ◌^◌, ◌≤◌, ◌<◌, true, false, nat_le, sym, ◌∙◌, arith, leb-true, Ratio, ratio}
+use Rattle.number_limits.proofs.Common.{IsCeiling, IsFloor, Passes, Reaches, den, AtMost, is_at_most, is_at_least}
 use Rattle.std.proofs.lemmas.Bool.Decides.{leb_tells}
 use Rattle.std.proofs.Math.Nat.{mul-le-mul_right}
 

@@ -1,7 +1,7 @@
 -- What the tests of signs tell.
-use Rattle.number_limits.proofs.Common.{◌≡◌, Bool, true, false, not, ◌&&◌, nat_lt, ◌==◌, List, All, IsTrue, ◌↔◌, refl, sym, ℤ, pos, negsuc, arith, and_parts}
-use Rattle.number_limits.proofs.Common.{not-true, ltb-true, eqb-true, Dec, IsDec, IsPositive, is_positive, is_one, is_same_number, number_one}
-use Rattle.std.specs.Prelude.{unsigned_abs}
+use Rattle.number_limits.proofs.Common.{◌≡◌, Bool, true, false, ◌&&◌, nat_lt, ◌==◌, List, All, IsTrue, ◌↔◌, refl, sym, ℤ, pos, negsuc, arith, and_parts}
+use Rattle.number_limits.proofs.Common.{not-true, ltb-true, eqb-true, Dec, IsDec, IsPositive, number_one, is_positive, is_one, is_same_number, unsigned_abs}
+use Rattle.std.proofs.Common.{not}
 use Rattle.std.specs.Cmp.{signed_Decides, booleans_Decides}
 use Rattle.std.specs.List.{list_all}
 use Rattle.std.specs.Ordering.{int_eq}

@@ -2,7 +2,7 @@
 pub use Rattle.std.proofs.Common.{All, Contains, List, None, Option, Some, [], ap, arith, drop, get_or, length, map, map-id, max, min, refl, subst, suc, sym}
 pub use Rattle.std.proofs.Common.{take, zero, ℕ, ℤ, ◌++◌, ◌+◌, ◌<◌, ◌^◌, ◌∙◌, ◌∷◌, ◌≡◌, ◌≤◌}
 pub use Rattle.std.proofs.lemmas.Int.{clamps, ints}
-pub use Rattle.std.proofs.lemmas.List.{drop_more, get_or-map, get_or_default, length-map, map-append, take_more}
+pub use Rattle.std.proofs.lemmas.List.{get_or-map, get_or_default, length-map, map-append, take_more}
 pub use Rattle.std.specs.Int.{int_max, int_min}
 pub use Rattle.problem_hull.specs.{AreAlike, IsHull, IsHullOf, IsHullPair, IsTooLarge, IsUnlike, cell_hull, cell_shape, drain_hull, drain_shape, evap_hull}
 pub use Rattle.problem_hull.specs.{evap_shape, first_refusal, fixed_hull, fixed_shape, flow_hull, flow_shape, link_hull, link_shape, refusal_at, river_hull}

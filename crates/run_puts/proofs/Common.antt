@@ -1,8 +1,11 @@
 -- Names that several proofs of this crate cite, of the crates below and of its own definitions, passed on from one place. Declares nothing.
-pub use Rattle.std.proofs.Common.{Err, List, Ok, Option, Result, [], ap, inl, inr, map, refl, subst, sym, ℕ, ◌++◌, ◌∙◌, ◌∷◌, ◌≡◌, ◌⊎◌}
-pub use Rattle.std.proofs.lemmas.List.{append-nil, append_assoc, map-append}
+pub use Rattle.std.proofs.Common.{Err, IfSome, List, None, Ok, Option, Result, Some, [], ap, arith, drop, drop-cons, get_or, inl, inr, length, map, refl, subst}
+pub use Rattle.std.proofs.Common.{suc, sym, take, take-append-drop, take_all, ℕ, ◌++◌, ◌+◌, ◌<◌, ◌∙◌, ◌∷◌, ◌≡◌, ◌≤◌, ◌⊎◌}
+pub use Rattle.std.proofs.lemmas.List.{append-nil, append_assoc, get_or-map, length-map, map-append, take_more}
+pub use Rattle.std.specs.List.{AllZip, concat}
 pub use Rattle.outside.specs.{Put, PutMakes, PutsMake, Rose, Seen, refused, taken}
 pub use Rattle.outside.specs.declared.traits.SinkError.{SinkError}
-pub use Rattle.run_puts.specs.{Begins, IsEnd, IsLast, IsPut, IsRun, IsTail, IsWanting, Text, all_due, cut, early, failed, memory_put, nothing, sink_wanting}
-pub use Rattle.run_puts.specs.{status_after, wanting, whole}
+pub use Rattle.run_puts.specs.{Agree, Begins, IsBatch, IsEnd, IsEnded, IsLast, IsPut, IsRun, IsTail, IsUnfinished, IsWanting, NeverCut, Text, all_due, cut}
+pub use Rattle.run_puts.specs.{early, end_line, failed, first_not_ok, memory_put, nothing, or_else, sink_wanting, status_after, texts, wanting, whole}
+pub use Rattle.run_puts.specs.declared.job_end.JobEnd.{JobEnd}
 pub use Rattle.run_puts.specs.declared.puts.Status.{Status}

@@ -1,4 +1,5 @@
 mod Common
+pub mod Batches
 mod Grouped
 pub mod Makes
 pub mod Pieces

@@ -1,8 +1,7 @@
 -- What the puts of a run make of the sink.
 use Rattle.run_puts.proofs.Common.{◌≡◌, ℕ, List, [], ◌∷◌, ◌++◌, map, Ok, Err, Result, subst, sym, refl, ◌∙◌, append-nil, Put, Seen, PutMakes, PutsMake, taken}
-use Rattle.run_puts.proofs.Common.{SinkError, Text, IsTail, failed, wanting, sink_wanting, status_after, Status, Rose}
+use Rattle.run_puts.proofs.Common.{Rose, SinkError, Text, IsTail, failed, wanting, sink_wanting, status_after, Status, concat}
 use Rattle.std.proofs.KnownBytes.{Appends-nil, Appends-trans}
-use Rattle.std.specs.List.{concat}
 use Rattle.std.specs.Io.KnownBytes.{Appends}
 use Rattle.outside.specs.declared.traits.SinkError.TheVariants as error
 use Rattle.run_puts.specs.declared.puts.Status.TheVariants as status

@@ -1,7 +1,7 @@
 -- A run from one piece to the next, and its ends.
 use Rattle.run_puts.proofs.Common.{◌≡◌, List, [], ◌∷◌, ◌++◌, map, Ok, Err, Result, Option, subst, sym, ap, refl, ◌∙◌, inl, inr, ◌⊎◌, append_assoc, append-nil}
 use Rattle.run_puts.proofs.Common.{map-append, Put, taken, SinkError, Text, IsTail, failed, wanting, sink_wanting, memory_put, status_after, IsRun, whole}
-use Rattle.run_puts.proofs.Common.{early, Begins, nothing, all_due, cut, Status, IsPut, IsLast, IsWanting, IsEnd}
+use Rattle.run_puts.proofs.Common.{early, Begins, nothing, all_due, cut, IsPut, IsLast, IsWanting, IsEnd, Status}
 use Rattle.outside.specs.declared.traits.SinkError.TheVariants as error
 use Rattle.run_puts.specs.declared.puts.Status.TheVariants as status
 

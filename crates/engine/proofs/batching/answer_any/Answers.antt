@@ -1,8 +1,7 @@
-use Rattle.engine.proofs.Common.{◌∙◌, map, Err, Ok, Result, Some, ap, refl, subst, sym, ReadsNothing, batch_of, Batch, wanted, wanted_of, Order}
+use Rattle.engine.proofs.Common.{◌∙◌, map, Err, Ok, Result, Some, ap, refl, subst, sym, ReadsNothing, batch_of, Batch, wanted, wanted_of, Order, WordsFault}
 use Rattle.engine.proofs.Ends.{puts_more}
 use Rattle.engine.proofs.Beside.{without_views}
 use Rattle.engine.proofs.BatchEnds.{may_do, not_a_batch, order_may}
-use Rattle.command_line.specs.declared.order.WordsFault.{WordsFault}
 use Rattle.command_line.specs.declared.order.WordsFault.TheVariants as fault
 use Rattle.engine.proofs.batching.answer_any.Goals as goal
 

@@ -1,6 +1,5 @@
-use Rattle.std.proofs.Common.{[], map}
+use Rattle.engine.proofs.Common.{[], map, wanted_of}
 use Rattle.engine.proofs.BatchEnds.{is_order, order_may}
-use Rattle.engine.proofs.Common.{wanted_of}
 use Rattle.engine.proofs.Facts.{result_of}
 use Rattle.engine.proofs.running.run_one.Given as given
 use Rattle.engine.proofs.running.run_one.Goals as goal

@@ -1,3 +1,0 @@
-mod Common
-pub mod Canonical
-pub mod PassedCells

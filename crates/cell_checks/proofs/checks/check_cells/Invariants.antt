@@ -1,6 +1,0 @@
-use Rattle.cell_checks.proofs.Common.{◌≡◌, ◌-◌, cell_step}
-use Rattle.record_lines.specs.{counted}
-use Rattle.cell_checks.proofs.checks.check_cells.Given as goal
-
-abbrev pub invariant-loop-cell : goal.invariant-loop-cell
-invariant-loop-cell l = counted (cell_step l.model l.file l.check) l.cell (l.cells - l.cell) tt ≡ counted (cell_step l.model l.file l.check) 0 l.cells tt

@@ -1,6 +1,0 @@
-use Rattle.deck_alike.specs.{reading_order}
-use Rattle.deck_alike.proofs.AlikeParts.{alike_shares_each, shared_alike}
-use Rattle.deck_alike.proofs.laws.shared_packages_are_alike.Goals as goal
-
-pub returns : goal.returns
-returns c = λ a b. (shared_alike a b, alike_shares_each a b reading_order)

@@ -1,5 +1,0 @@
-use Rattle.deck_alike.proofs.Common.{take, AllZip, AreRatesAlike}
-use Rattle.deck_alike.proofs.lists.first_idle_apart.Given as goal
-
-abbrev pub invariant-loop-i : goal.invariant-loop-i
-invariant-loop-i l = AllZip AreRatesAlike (take l.i l.xs) (take l.i l.ys)

@@ -1,7 +1,0 @@
-use Rattle.std.specs.List.{each_same}
-use Rattle.deck_alike.proofs.Finding.{zip_same}
-use Rattle.deck_alike.proofs.NumberOrders.{turned_to}
-use Rattle.deck_alike.proofs.once.are_integers_same.Goals as goal
-
-pub returns : goal.returns
-returns c = turned_to c.is_same.result _ _ (each_same c.args.xs.now c.args.ys.now) (zip_same c.args.xs.now c.args.ys.now) c.is_same.ensures

@@ -1,5 +1,0 @@
-use Rattle.deck_alike.proofs.Common.{take, AllZip, SharesIn}
-use Rattle.deck_alike.proofs.periods.periods_apart.Given as goal
-
-abbrev pub invariant-loop-i : goal.invariant-loop-i
-invariant-loop-i l = AllZip (SharesIn l.kind) (take l.i l.ps) (take l.i l.qs)

@@ -1,2 +1,0 @@
-pub mod Laws
-pub use Rattle.model_forms.specs.Laws.{DecksAreReadAgain, ModelsReadAreReadAsWritten, ModelsReadAreWritable, ThreeCells, deck}
