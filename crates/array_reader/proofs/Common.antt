@@ -4,8 +4,8 @@ pub use Rattle.std.proofs.Common.{nat_lt, neg_ℤ, negsuc, pos, pow-suc, refl, s
 pub use Rattle.std.proofs.Common.{◌↔◌, ◌∙◌, ◌≡◌, ◌≤ℤ◌, ◌≤◌}
 pub use Rattle.std.proofs.lemmas.Result.{err_from_is_err_and}
 pub use Rattle.std.specs.Prelude.{IfSome}
-pub use Rattle.array_reader.specs.{ControlMay, at_line, format_at, in_file, is_exponent, keyword, layer_array, number_at, of_keyword, or_bad, spelt_number}
-pub use Rattle.array_reader.specs.{tested, with_multiplier}
+pub use Rattle.array_reader.specs.{ControlMay, at_line, format_at, in_file, is_exponent, keyword, layer_array, number_at, number_or_fault, of_keyword, or_bad}
+pub use Rattle.array_reader.specs.{spelt_number, with_multiplier}
 unfoldable pub use Rattle.array_reader.specs.{canonical, control_at, free_list, free_rows, integer, layers, number, product, significant, value_alone, value_at}
 unfoldable pub use Rattle.array_reader.specs.{zero_at, zero_list, zero_step, zeros}
 pub use Rattle.decimal_input.specs.declared.dec.NumFault.{NumFault}
@@ -15,7 +15,7 @@ pub use Rattle.outside.specs.declared.inputs.TextFault.TheVariants.{Memory, Refu
 pub use Rattle.record_lines.proofs.Forward.{leaves, line_words, name_held, value_held, word_held}
 pub use Rattle.record_lines.proofs.Loops.{ends_all, ends_text, is_done, list_ends, list_goes_on, list_stops, lists_done, step_goes_on, steps_done, steps_end}
 pub use Rattle.record_lines.proofs.Loops.{with_front}
-pub use Rattle.record_lines.specs.{GivesOnly, Left, LineMay, LinesMay, Numbered, StopsText, Taking, appended, beginning, counted, is_word, line_at, repeated}
-pub use Rattle.record_lines.specs.{source, taken, ◌>>=◌}
+pub use Rattle.record_lines.specs.{GivesOnly, Left, LineMay, LinesMay, Numbered, StopsText, Taking, appended_readings, beginning, each_number, is_word, line_at}
+pub use Rattle.record_lines.specs.{repeated_reading, source, word_taken, ◌>>=◌}
 unfoldable pub use Rattle.record_lines.specs.{name_at, next_value}
 pub use Rattle.record_lines.specs.declared.free.FreeFault.{FreeFault}

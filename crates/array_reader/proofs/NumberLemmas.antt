@@ -1,13 +1,13 @@
 -- The functions of specs/Numbers are what words and products name.
 use Rattle.array_reader.proofs.Common.{◌≡◌, ℕ, zero, suc, ◌<◌, ◌≤◌, ◌+◌, ◌*◌, ◌/◌, ◌%◌, ◌^◌, ◌==◌, Bool, true, false, if◌then◌else◌, List, length, nat_le}
 use Rattle.array_reader.proofs.Common.{nat_lt, Option, Some, None, Result, Ok, Err, ap, ℤ, pos, negsuc, neg_ℤ, ◌+ℤ◌, ◌≤ℤ◌, ◌<ℤ◌, ◌↔◌, inl, inr, refl, sym, ◌∙◌}
-use Rattle.array_reader.proofs.Common.{arith, pow-suc, add-one, NumFault, significant, zeros, is_exponent, tested, canonical, spelt_number, number, product}
-use Rattle.array_reader.proofs.Common.{integer, or_bad, IsGoodName, is_good_name, IsRefusal, name_at, StopsText, TextFault, Refused, Memory}
+use Rattle.array_reader.proofs.Common.{arith, pow-suc, add-one, NumFault, significant, zeros, is_exponent, number_or_fault, canonical, spelt_number, number}
+use Rattle.array_reader.proofs.Common.{product, integer, or_bad, IsGoodName, is_good_name, IsRefusal, name_at, StopsText, TextFault, Refused, Memory}
 use Rattle.outside.specs.declared.codes.Code.TheVariants.{BadName}
 use Rattle.std.proofs.lemmas.Int.{ints}
 use Rattle.std.proofs.lemmas.Bool.Decides.{nat_tests}
 use Rattle.decimal_input.specs.declared.dec.Dec.{Dec}
-use Rattle.decimal_input.specs.{Spelling, IsInteger, spelt, integer_of, IsTrimmed, IsTested, IsCanonical, Names, differ}
+use Rattle.decimal_input.specs.{Spelling, IsInteger, spelling_of, integer_of, IsTrimmed, IsTested, IsCanonical, Names, differ}
 use Rattle.decimal_input.proofs.Named.{IsNumber}
 use Rattle.decimal_input.proofs.Spelled.{names_read, long_names, reads_integer, integer_read}
 use Rattle.decimal_input.proofs.Unique.{names_one, canonical_one}
@@ -43,7 +43,7 @@ in_range : (e : ℤ) → neg_ℤ (pos 40) ≤ℤ e → e ≤ℤ pos 40 → is_ex
 in_range (pos n) low high = let within : n ≤ 40 = omega (arith, ints) in grind (arith, nat_tests)
 in_range (negsuc n) low high = let within : n < 40 = omega (arith, ints) in grind (arith, nat_tests)
 
-tests : (neg : Bool) (d : ℕ) (e : ℤ) → IsTested neg d e (tested neg d e)
+tests : (neg : Bool) (d : ℕ) (e : ℤ) → IsTested neg d e (number_or_fault neg d e)
 tests neg d e = grind (arith, nat_lt, nat_tests, too_low, too_high, in_range)
 
 canonical_some : (neg : Bool) (c : ℕ) (e : ℤ) → 0 < c → IsCanonical neg c e (canonical neg c e)
@@ -66,7 +66,7 @@ unfolding number
 names_number w = cases (nat_le (length w) 64) refl
   where
     cases : (b : Bool) → nat_le (length w) 64 ≡ b → Names w (number w)
-    cases true e = rw e (names_read w (spelt_number (spelt w)) (grind (arith, nat_tests)) (is_number (spelt w)))
+    cases true e = rw e (names_read w (spelt_number (spelling_of w)) (grind (arith, nat_tests)) (is_number (spelling_of w)))
     cases false e = rw e (long_names w (grind (arith, nat_tests)))
 
 -- what a word names is its number

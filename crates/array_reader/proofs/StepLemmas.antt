@@ -1,5 +1,5 @@
 -- The value of a free list's last word, and of its repeats.
-use Rattle.array_reader.proofs.Common.{◌≡◌, ℕ, ◌-◌, List, Result, Ok, Err, refl, ap, NumFault, Left, ◌>>=◌, Taking, source, taken, next_value, FreeFault}
+use Rattle.array_reader.proofs.Common.{◌≡◌, ℕ, ◌-◌, List, Result, Ok, Err, refl, ap, NumFault, Left, ◌>>=◌, Taking, source, word_taken, next_value, FreeFault}
 use Rattle.array_reader.proofs.Common.{at_line, in_file, value_at, value_alone}
 use Rattle.outside.specs.declared.inputs.Refusal.{Refusal}
 
@@ -28,7 +28,7 @@ value_word {X = X} read file s after x line e = by_source (source s.0 s.1) e
         rw (← word, h, value) refl
     by_word t left (Err fault) h e = cc
 
-    by_source : (r : Result (Taking × Left) FreeFault) → with_value read file (in_file file (taken r)) ≡ Ok ((x, line), after) → read after.0.word ≡ Ok x
+    by_source : (r : Result (Taking × Left) FreeFault) → with_value read file (in_file file (word_taken r)) ≡ Ok ((x, line), after) → read after.0.word ≡ Ok x
     by_source (Ok (t, left)) e = by_word (record t { repeat = t.repeat - 1 }) left (read t.word) refl e
     by_source (Err fault) e = cc
 

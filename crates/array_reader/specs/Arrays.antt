@@ -3,9 +3,9 @@ use Rattle.std.specs.Prelude.{ℕ, ℤ, ◌*◌, List, Result, Ok, replicate, Er
 use Rattle.decimal_input.specs.declared.dec.Dec.{Dec}
 use Rattle.outside.specs.{FileSet, file_at, words, refusal}
 use Rattle.outside.specs.declared.inputs.Refusal.{Refusal}
-use Rattle.record_lines.specs.{line_at, Left, left_from, ◌>>=◌, appended, repeated, counted, Taking, beginning, next_value}
+use Rattle.record_lines.specs.{line_at, Left, left_from, ◌>>=◌, appended_readings, repeated_reading, each_number, Taking, beginning, next_value}
 use Rattle.array_reader.specs.Control.{Control, constant, internal, named, control_at, at_line}
-use Rattle.array_reader.specs.Numbers.{Kind, multiplied, real, whole, integer}
+use Rattle.array_reader.specs.Numbers.{Kind, multiplied_value, real, whole, integer}
 use Rattle.decimal_input.specs.declared.dec.NumFault.{NumFault}
 use Rattle.outside.specs.declared.codes.Code.TheVariants.{EndOfFile, BadNumber, OutOfProfile}
 use Rattle.record_lines.specs.declared.free.FreeFault.{FreeFault}
@@ -38,19 +38,19 @@ left_of read = read >>= λ x. Ok (x.0, x.1.1)
 
 -- a free list of this many values, from a new line
 unfoldable pub free_list : {X : Type 0} → (List ℕ → Result X NumFault) → List ℕ → ℕ → Left → Result (List X × Left) Refusal
-free_list read file count left = left_of (repeated count (value_alone read file) (beginning, left))
+free_list read file count left = left_of (repeated_reading count (value_alone read file) (beginning, left))
 
 -- one free list for each row
 unfoldable pub free_rows : {X : Type 0} → (List ℕ → Result X NumFault) → List ℕ → ℕ → ℕ → Left → Result (List X × Left) Refusal
-free_rows read file rows cols left = appended rows (free_list read file cols) left
+free_rows read file rows cols left = appended_readings rows (free_list read file cols) left
 
 -- rows * cols values by their control record, row by row; the values of a named file begin at its first line
 abbrev pub values_of : {X : Type 0} → Kind X → FileSet → List ℕ → ℕ → ℕ → Left → Control X → Result (List X × Left) Refusal
 values_of kind files file rows cols left (constant value) = Ok (replicate (rows * cols) value, left)
-values_of kind files file rows cols left (internal by) = free_rows (multiplied kind by) file rows cols left
+values_of kind files file rows cols left (internal by) = free_rows (multiplied_value kind by) file rows cols left
 values_of kind files file rows cols left (named name by) = do
   bytes ← file_at files name
-  values ← free_rows (multiplied kind by) name rows cols (left_from 1 bytes)
+  values ← free_rows (multiplied_value kind by) name rows cols (left_from 1 bytes)
   Ok (values.0, left)
 
 -- an array with its control record, and that record's line
@@ -82,7 +82,7 @@ integer_layer files file rows cols left = layer_array whole files file rows cols
 
 -- this many layers, one array for each, as one list
 unfoldable pub layers : {X : Type 0} → Kind X → FileSet → List ℕ → ℕ → ℕ → ℕ → Left → Result (List X × Left) Refusal
-layers kind files file count rows cols left = appended count (layer_array kind files file rows cols) left
+layers kind files file count rows cols left = appended_readings count (layer_array kind files file rows cols) left
 
 -- Items that several package files have.
 -- the next value of a free list, an integer that must be 0: any other is refused on its own line
@@ -96,7 +96,7 @@ zero_step file i s = zero_at file s >>= λ z. Ok z.1
 
 -- a free list of this many of them
 unfoldable pub zero_list : List ℕ → ℕ → Left → Result (Unit {0} × Left) Refusal
-zero_list file count left = counted (zero_step file) 0 count (beginning, left) >>= λ s. Ok (tt, s.1)
+zero_list file count left = each_number (zero_step file) 0 count (beginning, left) >>= λ s. Ok (tt, s.1)
 
 -- a layer of numbers where the file has it, else the same number in each of its cells
 unfoldable pub layer_or : FileSet → List ℕ → ℕ → ℕ → Bool → Dec → Left → Result (List Dec × Left) Refusal

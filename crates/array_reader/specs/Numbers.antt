@@ -5,7 +5,7 @@ use Rattle.std.specs.Prelude.{pos, negsuc, ◌+ℤ◌, ◌*ℤ◌, false, ◌≡
 use Rattle.decimal_input.specs.declared.dec.Dec.{Dec}
 use Rattle.decimal_input.specs.declared.dec.NumFault.{NumFault}
 use Rattle.decimal_input.specs.declared.dec.NumFault.TheVariants.{BadNumber, TooManyDigits}
-use Rattle.decimal_input.specs.{Spelling, IsInteger, spelt, integer_of, differ, IsCanonical, Names}
+use Rattle.decimal_input.specs.{Spelling, IsInteger, spelling_of, integer_of, differ, IsCanonical, Names}
 use Rattle.record_lines.specs.{◌>>=◌}
 
 -- c without its trailing zeros, of which at most n are removed
@@ -24,15 +24,15 @@ is_exponent (pos n) = nat_le n 40
 is_exponent (negsuc n) = nat_lt n 40
 
 -- the last two tests: 18 digits, then the exponent
-abbrev pub tested : Bool → ℕ → ℤ → Result Dec NumFault
-tested neg d e =
+abbrev pub number_or_fault : Bool → ℕ → ℤ → Result Dec NumFault
+number_or_fault neg d e =
     if nat_lt d 1000000000000000000
     then (if is_exponent e then Ok (record { neg = neg; digits = d; exp = e }) else Err BadNumber)
     else Err TooManyDigits
 
 -- c * 10 ^ e with its sign; zero is zero whatever its sign and exponent
 unfoldable pub canonical : Bool → ℕ → ℤ → Result Dec NumFault
-canonical neg c e = if c == 0 then Ok (record { neg = false; digits = 0; exp = pos 0 }) else tested neg (significant c c) (e +ℤ pos (zeros c c))
+canonical neg c e = if c == 0 then Ok (record { neg = false; digits = 0; exp = pos 0 }) else number_or_fault neg (significant c c) (e +ℤ pos (zeros c c))
 
 abbrev pub spelt_number : Option Spelling → Result Dec NumFault
 spelt_number None = Err BadNumber
@@ -40,7 +40,7 @@ spelt_number (Some n) = canonical n.neg n.coefficient n.exp
 
 -- the number of a word of at most 64 bytes
 unfoldable pub number : List ℕ → Result Dec NumFault
-number word = if nat_le (length word) 64 then spelt_number (spelt word) else Err BadNumber
+number word = if nat_le (length word) 64 then spelt_number (spelling_of word) else Err BadNumber
 
 unfoldable pub product : Dec → Dec → Result Dec NumFault
 product a b = canonical (differ a.neg b.neg) (a.digits * b.digits) (a.exp +ℤ b.exp)
@@ -68,8 +68,8 @@ pub record Kind (V : Type 0) : Type 0 where
   pub scaling : V → V → Result V NumFault
 
 -- a multiplier of zero isn't applied
-unfoldable pub scaled : Dec → Dec → Result Dec NumFault
-scaled by value = if by.digits == 0 then Ok value else product value by
+unfoldable pub scaled_value : Dec → Dec → Result Dec NumFault
+scaled_value by value = if by.digits == 0 then Ok value else product value by
 
 abbrev pub is_zero : ℤ → Bool
 is_zero (pos n) = n == 0
@@ -79,20 +79,20 @@ unfoldable pub integer_scaled : ℤ → ℤ → Result ℤ NumFault
 integer_scaled by value = if is_zero by then Ok value else integer_product value by
 
 abbrev pub real : Kind Dec
-real = record { reading = number; scaling = scaled }
+real = record { reading = number; scaling = scaled_value }
 
 abbrev pub whole : Kind ℤ
 whole = record { reading = integer; scaling = integer_scaled }
 
 -- a word's value, times its multiplier where the array has one
-unfoldable pub multiplied : {V : Type 0} → Kind V → V → List ℕ → Result V NumFault
-multiplied kind by word = do
+unfoldable pub multiplied_value : {V : Type 0} → Kind V → V → List ℕ → Result V NumFault
+multiplied_value kind by word = do
   value ← kind.reading word
   kind.scaling by value
 
 abbrev pub with_multiplier : {V : Type 0} → Kind V → Option V → List ℕ → Result V NumFault
 with_multiplier kind None = kind.reading
-with_multiplier kind (Some by) = multiplied kind by
+with_multiplier kind (Some by) = multiplied_value kind by
 
 -- Statements of laws.
 -- a word is read as the integer that it is by the grammar

@@ -1,6 +1,6 @@
 ghost use Rattle.std.specs.Prelude.{◌≡◌, Ok, ◌++◌, replicate, IfOk, IfSome};
 ghost use Rattle.outside.specs.{IsRefusal};
-ghost use Rattle.record_lines.specs.{GivesText, repeated};
+ghost use Rattle.record_lines.specs.{GivesText, repeated_reading};
 ghost use Rattle.array_reader.specs.{with_multiplier, free_refusal, value_alone, value_at, free_list, free_rows};
 
 use crate::items::number_refused;
@@ -77,7 +77,7 @@ pub fn values<'a, V: Value>(
 ) -> Result<Vec<V>, TextFault>
     requires by { IfSome by V.Good }
     ensures { GivesText (λ v. v.items) result (free.new, lines.new)
-        (repeated count (value_alone (with_multiplier V.kind by) file.now) (free.old, lines.old)) }
+        (repeated_reading count (value_alone (with_multiplier V.kind by) file.now) (free.old, lines.old)) }
 {
     let mut values = Vec::with_capacity(alloc, count as usize)?;
     let mut last = None;

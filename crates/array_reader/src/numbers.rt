@@ -1,7 +1,7 @@
 // Numbers of words and their products, by the functions that define them.
 ghost use Rattle.std.specs.Prelude.{◌≡◌, IfOk, IfSome};
 ghost use Rattle.decimal_input.specs.{IsDec, integer_of};
-ghost use Rattle.array_reader.specs.Numbers.{Kind, product, real, whole, with_multiplier, multiplied};
+ghost use Rattle.array_reader.specs.Numbers.{Kind, product, real, whole, with_multiplier, multiplied_value};
 
 use decimal_input::dec::{Dec, NumFault};
 use decimal_input::product::times;
@@ -50,7 +50,7 @@ impl Value for Dec {
         read_dec(word)
     }
 
-    #[tactic(auto, unfolding(crate::specs::Numbers::scaled))]
+    #[tactic(auto, unfolding(crate::specs::Numbers::scaled_value))]
     fn scale(self, by: Dec) -> Result<Dec, NumFault> {
         if by.digits == 0 {
             Ok(self)
@@ -86,7 +86,7 @@ impl Value for i64 {
 }
 
 /// The value of a word, times the multiplier where there is one.
-#[tactic(auto, unfolding(crate::specs::Numbers::multiplied))]
+#[tactic(auto, unfolding(crate::specs::Numbers::multiplied_value))]
 pub fn value_of<V: Value>(word: &[u8], by: Option<V>) -> Result<V, NumFault>
     requires by { IfSome by V.Good }
     ensures { result ≡ with_multiplier V.kind by word.now }

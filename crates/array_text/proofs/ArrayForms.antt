@@ -1,10 +1,10 @@
 -- An array that is read has a value for each place.
 use Rattle.array_text.proofs.Common.{◌≡◌, ℕ, ◌*◌, ℤ, List, [], ◌∷◌, length, All, Result, Ok, Err, refl, arith, length-replicate, All-replicate, NumFault, IsDec}
-use Rattle.array_text.proofs.Common.{Left, left_from, Kind, real, whole, multiplied, free_rows, ArraysHaveForm, GivesOnly, FileSet, words, line_at, word_at}
-use Rattle.array_text.proofs.Common.{name_at, at_line, number_at, constant, internal, named, keyword, format_at, of_keyword, control_at, values_of, array_at}
-use Rattle.array_text.proofs.Common.{without_line, reals, layer_array, real_layer, integer_layer, layers, number, integer, value_at, value_alone, free_list}
-use Rattle.array_text.proofs.Common.{IsShort, ListsHaveForm, Taking, beginning, file_at, refusal, done, refused, goes_on, then_, weaker, appended_are}
-use Rattle.array_text.proofs.Common.{repeated_are}
+use Rattle.array_text.proofs.Common.{Left, left_from, Kind, real, whole, multiplied_value, free_rows, ArraysHaveForm, GivesOnly, FileSet, words, line_at}
+use Rattle.array_text.proofs.Common.{word_at, name_at, at_line, number_at, constant, internal, named, keyword, format_at, of_keyword, control_at, values_of}
+use Rattle.array_text.proofs.Common.{array_at, without_line, reals, layer_array, real_layer, integer_layer, layers, number, integer, value_at, value_alone}
+use Rattle.array_text.proofs.Common.{free_list, IsShort, ListsHaveForm, Taking, beginning, file_at, refusal, done, refused, goes_on, then_, weaker}
+use Rattle.array_text.proofs.Common.{appended_are, repeated_are}
 use Rattle.array_reader.specs.Control.{Control}
 use Rattle.outside.specs.declared.codes.Code.TheVariants.{BadControl}
 use Rattle.array_reader.specs.declared.keyword.Keyword.{Keyword}
@@ -61,12 +61,12 @@ module _ {X : Type 0} (read : List ℕ → Result X NumFault) (P : X → Type 0)
   unfolding control_at
   control_is ws = goes_on (word_at (refusal BadControl file line) ws) _ (λ word e. by_keyword (keyword word.0) word.1)
 
-module _ {X : Type 0} (kind : Kind X) (P : X → Type 0) (form : (w : List ℕ) → GivesOnly P (kind.reading w)) (scaled : (by : X) (w : List ℕ) → GivesOnly P (multiplied kind by w)) (files : FileSet) (file : List ℕ) where
+module _ {X : Type 0} (kind : Kind X) (P : X → Type 0) (form : (w : List ℕ) → GivesOnly P (kind.reading w)) (scaled : (by : X) (w : List ℕ) → GivesOnly P (multiplied_value kind by w)) (files : FileSet) (file : List ℕ) where
   values_are : (rows cols : ℕ) (left : Left) (c : Control X) → Stands P c → GivesOnly (λ x. (length x.0 ≡ rows * cols) × All P x.0) (values_of kind files file rows cols left c)
   values_are rows cols left (constant value) stands = done (length-replicate (rows * cols) value, All-replicate P (rows * cols) value stands)
-  values_are rows cols left (internal by) stands = rows_are (multiplied kind by) P (scaled by) file rows cols left
+  values_are rows cols left (internal by) stands = rows_are (multiplied_value kind by) P (scaled by) file rows cols left
   values_are rows cols left (named name by) stands =
-      goes_on (file_at files name) _ (λ bytes e. then_ _ (rows_are (multiplied kind by) P (scaled by) name rows cols (left_from 1 bytes)) (λ values are. done are))
+      goes_on (file_at files name) _ (λ bytes e. then_ _ (rows_are (multiplied_value kind by) P (scaled by) name rows cols (left_from 1 bytes)) (λ values are. done are))
 
   pub array_is : (rows cols : ℕ) (left : Left) → GivesOnly (λ x. (length x.0.0 ≡ rows * cols) × All P x.0.0) (array_at kind files file rows cols left)
   unfolding array_at

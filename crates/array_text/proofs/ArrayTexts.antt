@@ -1,12 +1,12 @@
 -- Arrays of numbers and of integers are read as written.
 use Rattle.array_text.proofs.Common.{◌≡◌, ◌^◌, ◌<◌, true, List, length, All, Ok, refl, arith, ℤ, pos, negsuc, ◌*ℤ◌, unsigned_abs, ints, All-weaker, nat_tests}
-use Rattle.array_text.proofs.Common.{Dec, IsDec, number, significant, zeros, canonical, integer, is_short, integer_product, scaled, integer_scaled, real, whole}
-use Rattle.array_text.proofs.Common.{multiplied, reals, layer_array, real_layer, integer_layer, number_word, integer_word, IsShort, real_array, integer_array}
-use Rattle.array_text.proofs.Common.{FreeListsReadAsWritten, ArraysReadAsWritten, ℕ, zero, suc, ◌*◌, ◌≤◌, [], ◌∷◌, ◌++◌, take, drop, Result, length-take-le}
-use Rattle.array_text.proofs.Common.{length-drop, take-append-drop, nil_from_length, All-cons, All-take, All-drop, NumFault, next_number, appended, word_at}
-use Rattle.array_text.proofs.Common.{Kind, free_list, free_rows, array_at, without_line, Line, IsLine, number_after, unread, Reads, Takes, Left, ◌>>=◌}
-use Rattle.array_text.proofs.Common.{control_record, row_line, row_lines, array_lines, FileSet, number_at, keyword, format_at, internal, control_at, codes}
-use Rattle.array_text.proofs.Common.{Refusal}
+use Rattle.array_text.proofs.Common.{Dec, IsDec, number, significant, zeros, canonical, integer, is_short, integer_product, scaled_value, integer_scaled, real}
+use Rattle.array_text.proofs.Common.{whole, multiplied_value, reals, layer_array, real_layer, integer_layer, number_word, integer_word, IsShort, real_array}
+use Rattle.array_text.proofs.Common.{integer_array, FreeListsReadAsWritten, ArraysReadAsWritten, ℕ, zero, suc, ◌*◌, ◌≤◌, [], ◌∷◌, ◌++◌, take, drop, Result}
+use Rattle.array_text.proofs.Common.{length-take-le, length-drop, take-append-drop, nil_from_length, All-cons, All-take, All-drop, NumFault, next_number}
+use Rattle.array_text.proofs.Common.{appended_readings, word_at, Kind, free_list, free_rows, array_at, without_line, Line, IsLine, number_after, left_of_lines}
+use Rattle.array_text.proofs.Common.{Reads, Takes, Left, ◌>>=◌, control_record, row_line, row_lines, array_lines, FileSet, number_at, keyword, format_at}
+use Rattle.array_text.proofs.Common.{internal, control_at, codes, Refusal}
 use Rattle.array_text.proofs.NumberTexts.{short_exponent, number_reads, integer_reads, one, times_one}
 use Rattle.array_text.proofs.WordTexts.{number_is_word, integer_is_word, line_by_test}
 use Rattle.array_text.proofs.FreeTexts.{IsWrittenAs, free_list_reads}
@@ -18,8 +18,8 @@ row_reads : {X : Type 0} (read : List ℕ → Result X NumFault) (word : X → L
 row_reads read word file cols xs e some h = let few : 1 ≤ length xs = omega arith in rw e at (free_list_reads read word file xs few h)
 
 rows_read : {X : Type 0} (read : List ℕ → Result X NumFault) (word : X → List ℕ) (file : List ℕ) (rows cols : ℕ) (xs : List X) → 1 ≤ cols → length xs ≡ rows * cols → All (λ x. IsWrittenAs read word x) xs
-    → Reads (appended rows (free_list read file cols)) (row_lines word rows cols xs) xs
-unfolding appended row_lines
+    → Reads (appended_readings rows (free_list read file cols)) (row_lines word rows cols xs) xs
+unfolding appended_readings row_lines
 rows_read read word file zero cols xs some e h = let none : xs ≡ [] = nil_from_length xs (omega arith) in rw none takes_none
 rows_read read word file (suc rows) cols xs some e h =
     let enough : cols ≤ length xs = omega arith in
@@ -37,24 +37,24 @@ control_reads read file n by e = rw e refl
 
 -- an array is read as its values, with the line of its control record
 pub array_reads : {X : Type 0} (kind : Kind X) (word : X → List ℕ) (by : X) (files : FileSet) (file : List ℕ) (rows cols : ℕ) (xs : List X) → kind.reading (codes "1") ≡ Ok by
-    → 1 ≤ cols → length xs ≡ rows * cols → All (λ x. IsWrittenAs (multiplied kind by) word x) xs → (n : ℕ) (others : List Line)
-    → array_at kind files file rows cols (unread n (array_lines word rows cols xs ++ others)) ≡ Ok ((xs, n), unread (number_after n (array_lines word rows cols xs)) others)
+    → 1 ≤ cols → length xs ≡ rows * cols → All (λ x. IsWrittenAs (multiplied_value kind by) word x) xs → (n : ℕ) (others : List Line)
+    → array_at kind files file rows cols (left_of_lines n (array_lines word rows cols xs ++ others)) ≡ Ok ((xs, n), left_of_lines (number_after n (array_lines word rows cols xs)) others)
 unfolding array_at free_rows number_after
 array_reads kind word by files file rows cols xs one some e h n others =
-    let rows_are = (rows_read (multiplied kind by) word file rows cols xs some e h).reads (next_number n) others in
+    let rows_are = (rows_read (multiplied_value kind by) word file rows cols xs some e h).reads (next_number n) others in
     rw (next_line file n control_record (row_lines word rows cols xs ++ others), line_words control_record control_is_line.words, control_reads kind.reading file n by one, rows_are) refl
 
 -- an array, and what is made of it whatever the line of its control record
 pub array_takes : {X Z : Type 0} {out : Left → Z} (f : (List X × ℕ) × Left → Result Z Refusal) (kind : Kind X) (word : X → List ℕ) (by : X) (files : FileSet) (file : List ℕ) (rows cols : ℕ) (xs : List X)
-    → kind.reading (codes "1") ≡ Ok by → 1 ≤ cols → length xs ≡ rows * cols → All (λ x. IsWrittenAs (multiplied kind by) word x) xs → ((n : ℕ) (left : Left) → f ((xs, n), left) ≡ Ok (out left))
+    → kind.reading (codes "1") ≡ Ok by → 1 ≤ cols → length xs ≡ rows * cols → All (λ x. IsWrittenAs (multiplied_value kind by) word x) xs → ((n : ℕ) (left : Left) → f ((xs, n), left) ≡ Ok (out left))
     → Takes (λ left. array_at kind files file rows cols left >>= f) (array_lines word rows cols xs) out
 array_takes f kind word by files file rows cols xs one some e h ends = record {
-  are = All-cons (λ line. IsLine line) control_record (row_lines word rows cols xs) control_is_line (rows_read (multiplied kind by) word file rows cols xs some e h).are;
-  reads = λ n rest. rw (array_reads kind word by files file rows cols xs one some e h n rest) (ends n (unread (number_after n (array_lines word rows cols xs)) rest));
+  are = All-cons (λ line. IsLine line) control_record (row_lines word rows cols xs) control_is_line (rows_read (multiplied_value kind by) word file rows cols xs some e h).are;
+  reads = λ n rest. rw (array_reads kind word by files file rows cols xs one some e h n rest) (ends n (left_of_lines (number_after n (array_lines word rows cols xs)) rest));
 }
 
 pub layer_reads : {X : Type 0} (kind : Kind X) (word : X → List ℕ) (by : X) (files : FileSet) (file : List ℕ) (rows cols : ℕ) (xs : List X) → kind.reading (codes "1") ≡ Ok by
-    → 1 ≤ cols → length xs ≡ rows * cols → All (λ x. IsWrittenAs (multiplied kind by) word x) xs
+    → 1 ≤ cols → length xs ≡ rows * cols → All (λ x. IsWrittenAs (multiplied_value kind by) word x) xs
     → Reads (λ left. without_line (array_at kind files file rows cols left)) (array_lines word rows cols xs) xs
 layer_reads kind word by files file rows cols xs one some e h = array_takes _ kind word by files file rows cols xs one some e h (λ n left. refl)
 
@@ -72,8 +72,8 @@ pub whole_one : integer (codes "1") ≡ Ok (pos 1)
 unfolding integer
 whole_one = refl
 
-number_by_one : (d : Dec) → IsDec d → multiplied real one (number_word d) ≡ Ok d
-unfolding multiplied scaled
+number_by_one : (d : Dec) → IsDec d → multiplied_value real one (number_word d) ≡ Ok d
+unfolding multiplied_value scaled_value
 number_by_one d h = rw (number_reads d h) (times_one d h)
 
 short : (z : ℤ) → unsigned_abs z < 10 ^ 18 → is_short z ≡ true
@@ -84,15 +84,15 @@ integer_once : (z : ℤ) → IsShort z → integer_product z (pos 1) ≡ Ok z
 unfolding integer_product
 integer_once z h = let same : z *ℤ pos 1 ≡ z = omega (arith, ints) in rw (same, short z h.few) refl
 
-integer_by_one : (z : ℤ) → IsShort z → multiplied whole (pos 1) (integer_word z) ≡ Ok z
-unfolding multiplied integer_scaled
+integer_by_one : (z : ℤ) → IsShort z → multiplied_value whole (pos 1) (integer_word z) ≡ Ok z
+unfolding multiplied_value integer_scaled
 integer_by_one z h = rw (integer_reads z h) (integer_once z h)
 
-pub reals_written : (xs : List Dec) → All IsDec xs → All (λ d. IsWrittenAs (multiplied real one) number_word d) xs
-reals_written xs h = All-weaker (λ d. IsDec d) (λ d. IsWrittenAs (multiplied real one) number_word d) (λ d k. record { is_word = (number_written d k).is_word; reads = number_by_one d k }) xs h
+pub reals_written : (xs : List Dec) → All IsDec xs → All (λ d. IsWrittenAs (multiplied_value real one) number_word d) xs
+reals_written xs h = All-weaker (λ d. IsDec d) (λ d. IsWrittenAs (multiplied_value real one) number_word d) (λ d k. record { is_word = (number_written d k).is_word; reads = number_by_one d k }) xs h
 
-pub wholes_written : (xs : List ℤ) → All IsShort xs → All (λ z. IsWrittenAs (multiplied whole (pos 1)) integer_word z) xs
-wholes_written xs h = All-weaker (λ z. IsShort z) (λ z. IsWrittenAs (multiplied whole (pos 1)) integer_word z) (λ z k. record { is_word = integer_is_word z k; reads = integer_by_one z k }) xs h
+pub wholes_written : (xs : List ℤ) → All IsShort xs → All (λ z. IsWrittenAs (multiplied_value whole (pos 1)) integer_word z) xs
+wholes_written xs h = All-weaker (λ z. IsShort z) (λ z. IsWrittenAs (multiplied_value whole (pos 1)) integer_word z) (λ z k. record { is_word = integer_is_word z k; reads = integer_by_one z k }) xs h
 
 pub free_lists : FreeListsReadAsWritten
 free_lists = record {

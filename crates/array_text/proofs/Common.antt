@@ -16,15 +16,15 @@ pub use Rattle.array_reader.proofs.NumberLemmas.{canonical_is, integers_are, is_
 pub use Rattle.array_reader.specs.{Kind, at_line, constant, internal, is_exponent, is_short, named, of_keyword, real, spelt_number, values_of, whole}
 pub use Rattle.array_reader.specs.{without_line}
 unfoldable pub use Rattle.array_reader.specs.{array_at, canonical, control_at, format_at, free_list, free_rows, integer, integer_layer, integer_product}
-unfoldable pub use Rattle.array_reader.specs.{integer_scaled, keyword, layer_array, layer_or, layers, multiplied, number, number_at, product, real_layer, reals}
-unfoldable pub use Rattle.array_reader.specs.{scaled, significant, value_alone, value_at, zeros}
+unfoldable pub use Rattle.array_reader.specs.{integer_scaled, keyword, layer_array, layer_or, layers, multiplied_value, number, number_at, product, real_layer}
+unfoldable pub use Rattle.array_reader.specs.{reals, scaled_value, significant, value_alone, value_at, zeros}
 pub use Rattle.array_text.specs.{ArraysHaveForm, ArraysReadAsWritten, FreeListsReadAsWritten, IsLine, IsShort, IsWord, IsWordByte, Line, LinesReadAsWritten}
 pub use Rattle.array_text.specs.{ListsHaveForm, Reads, Takes, WordsHaveForm, WordsReadAsWritten, array_lines, control_record, sign}
-unfoldable pub use Rattle.array_text.specs.{integer_array, integer_word, line_text, number_after, number_word, numbered_lines, real_array, row_line, row_lines}
-unfoldable pub use Rattle.array_text.specs.{text, unread}
+unfoldable pub use Rattle.array_text.specs.{integer_array, integer_word, left_of_lines, line_text, number_after, number_word, numbered_lines, real_array}
+unfoldable pub use Rattle.array_text.specs.{row_line, row_lines, text}
 pub use Rattle.decimal_input.proofs.Spelled.{names_read, number_append, reads_spelt}
 pub use Rattle.decimal_input.specs.{AreDigits, IsCanonical, IsDec, IsExponent, IsInteger, IsSign, IsTested, Spelling, Spells, differ, is_digit, number_from}
-pub use Rattle.decimal_input.specs.{spelt, with_sign}
+pub use Rattle.decimal_input.specs.{spelling_of, with_sign}
 pub use Rattle.decimal_input.specs.declared.dec.Dec.{Dec}
 pub use Rattle.decimal_input.specs.declared.dec.NumFault.{NumFault}
 pub use Rattle.outside.specs.{FileSet, file_at, is_separator, refusal}
@@ -32,4 +32,4 @@ unfoldable pub use Rattle.outside.specs.{lines, words}
 pub use Rattle.outside.specs.declared.inputs.Refusal.{Refusal}
 pub use Rattle.record_lines.proofs.Readings.{appended_are, done, goes_on, refused, repeated_are, then_, weaker}
 pub use Rattle.record_lines.specs.{GivesOnly, Left, Numbered, Taking, beginning, left_from, name_at, next_number, next_word, ◌>>=◌}
-unfoldable pub use Rattle.record_lines.specs.{appended, has_word, line_at, next_value, repeated, spread, word_at}
+unfoldable pub use Rattle.record_lines.specs.{appended_readings, has_word, line_at, next_value, repeated_reading, spread, word_at}

@@ -1,8 +1,8 @@
 -- A line of values is read as a free list of them, and lines of values as rows of them.
 use Rattle.array_text.proofs.Common.{◌≡◌, ℕ, suc, ◌≤◌, ◌==◌, false, List, [], ◌∷◌, ◌++◌, length, map, nat_lt, All, Some, Result, Ok, refl, ◌∙◌, arith}
 use Rattle.array_text.proofs.Common.{position_or_len, append-nil, All-head, All-tail, All-map, All-weaker, nat_tests, NumFault, words, Left, next_number}
-use Rattle.array_text.proofs.Common.{repeated, value_at, value_alone, free_list, IsWordByte, IsWord, Line, line_text, numbered_lines, number_after, unread}
-use Rattle.array_text.proofs.Common.{IsLine, length-map, Reads, row_line, Taking, beginning, spread, next_word, next_value}
+use Rattle.array_text.proofs.Common.{repeated_reading, value_at, value_alone, free_list, IsWordByte, IsWord, Line, line_text, numbered_lines, number_after}
+use Rattle.array_text.proofs.Common.{left_of_lines, IsLine, length-map, Reads, row_line, Taking, beginning, spread, next_word, next_value}
 use Rattle.record_lines.proofs.WordLemmas.{word_found, goes_on}
 use Rattle.array_text.proofs.WordTexts.{no_star}
 use Rattle.array_text.proofs.LineTexts.{line_words, one_line}
@@ -48,8 +48,8 @@ last_word word last [] = last
 last_word word last (x ∷ xs) = last_word word (word x) xs
 
 pub values_read : {X : Type 0} (read : List ℕ → Result X NumFault) (word : X → List ℕ) (file : List ℕ) (n : ℕ) (last : List ℕ) (xs : List X) (more : Line) (left : Left) → All (λ x. IsWrittenAs read word x) xs
-    → repeated (length xs) (value_alone read file) (on_line n last (map word xs ++ more), left) ≡ Ok (xs, (on_line n (last_word word last xs) more, left))
-unfolding repeated
+    → repeated_reading (length xs) (value_alone read file) (on_line n last (map word xs ++ more), left) ≡ Ok (xs, (on_line n (last_word word last xs) more, left))
+unfolding repeated_reading
 values_read read word file n last [] more left h = refl
 values_read read word file n last (x ∷ xs) more left h =
     let one : IsWrittenAs read word x = All-head (λ y. IsWrittenAs read word y) x xs h in
@@ -58,23 +58,23 @@ values_read read word file n last (x ∷ xs) more left h =
       values_read read word file n (word x) xs more left (All-tail (λ y. IsWrittenAs read word y) x xs h),
     ) refl
 
-line_follows : (n : ℕ) (line : Line) (others : List Line) → next_word 0 [] (unread n (line ∷ others)).lines (unread n (line ∷ others)).end
-    ≡ next_word n (words (line_text line)) (unread (next_number n) others).lines (unread (next_number n) others).end
-unfolding unread numbered_lines number_after
-line_follows n line others = goes_on 0 [] (unread n (line ∷ others)) (unread (next_number n) others) (record { number = n; bytes = line_text line }) refl refl
+line_follows : (n : ℕ) (line : Line) (others : List Line) → next_word 0 [] (left_of_lines n (line ∷ others)).lines (left_of_lines n (line ∷ others)).end
+    ≡ next_word n (words (line_text line)) (left_of_lines (next_number n) others).lines (left_of_lines (next_number n) others).end
+unfolding left_of_lines numbered_lines number_after
+line_follows n line others = goes_on 0 [] (left_of_lines n (line ∷ others)) (left_of_lines (next_number n) others) (record { number = n; bytes = line_text line }) refl refl
 
 -- a list begins on the next line
-pub line_begins : (n : ℕ) (line : Line) (others : List Line) → All (λ x. IsWord x) line → next_value beginning (unread n (line ∷ others)) ≡ next_value (on_line n [] line) (unread (next_number n) others)
+pub line_begins : (n : ℕ) (line : Line) (others : List Line) → All (λ x. IsWord x) line → next_value beginning (left_of_lines n (line ∷ others)) ≡ next_value (on_line n [] line) (left_of_lines (next_number n) others)
 unfolding next_value
 line_begins n line others h = rw (line_follows n line others, line_words line h) refl
 
 pub alone_begins : {X : Type 0} (read : List ℕ → Result X NumFault) (file : List ℕ) (n : ℕ) (line : Line) (others : List Line) → All (λ x. IsWord x) line
-    → value_alone read file (beginning, unread n (line ∷ others)) ≡ value_alone read file (on_line n [] line, unread (next_number n) others)
+    → value_alone read file (beginning, left_of_lines n (line ∷ others)) ≡ value_alone read file (on_line n [] line, left_of_lines (next_number n) others)
 unfolding value_alone value_at
 alone_begins read file n line others h = rw (line_begins n line others h) refl
 
-pub same_start : {X S E : Type 0} (count : ℕ) (read : S → Result (X × S) E) (s t : S) → read s ≡ read t → repeated (suc count) read s ≡ repeated (suc count) read t
-unfolding repeated
+pub same_start : {X S E : Type 0} (count : ℕ) (read : S → Result (X × S) E) (s t : S) → read s ≡ read t → repeated_reading (suc count) read s ≡ repeated_reading (suc count) read t
+unfolding repeated_reading
 same_start count read s t e = rw e refl
 
 pub row_is_words : {X : Type 0} (read : List ℕ → Result X NumFault) (word : X → List ℕ) (xs : List X) → All (λ x. IsWrittenAs read word x) xs → All (λ w. IsWord w) (row_line word xs)
@@ -92,13 +92,13 @@ row_is_line read word xs some h = record { some = as_long; words = row_is_words 
     as_long = omega (arith, row_length word xs)
 
 values_at_start : {X : Type 0} (read : List ℕ → Result X NumFault) (word : X → List ℕ) (file : List ℕ) (n : ℕ) (xs : List X) (others : List Line) → 1 ≤ length xs → All (λ x. IsWrittenAs read word x) xs
-    → repeated (length xs) (value_alone read file) (beginning, unread n (row_line word xs ∷ others)) ≡ Ok (xs, (on_line n (last_word word [] xs) [], unread (next_number n) others))
+    → repeated_reading (length xs) (value_alone read file) (beginning, left_of_lines n (row_line word xs ∷ others)) ≡ Ok (xs, (on_line n (last_word word [] xs) [], left_of_lines (next_number n) others))
 unfolding row_line
 values_at_start read word file n [] others some h = absurd (omega arith)
 values_at_start read word file n (x ∷ xs) others some h =
     let start = alone_begins read file n (map word (x ∷ xs)) others (row_is_words read word (x ∷ xs) h) in
     let end : map word (x ∷ xs) ++ [] ≡ map word (x ∷ xs) = append-nil (map word (x ∷ xs)) in
-    same_start (length xs) (value_alone read file) _ _ start ∙ (rw end at (values_read read word file n [] (x ∷ xs) [] (unread (next_number n) others) h))
+    same_start (length xs) (value_alone read file) _ _ start ∙ (rw end at (values_read read word file n [] (x ∷ xs) [] (left_of_lines (next_number n) others) h))
 
 -- a line of values is read as a free list of them
 pub free_list_reads : {X : Type 0} (read : List ℕ → Result X NumFault) (word : X → List ℕ) (file : List ℕ) (xs : List X) → 1 ≤ length xs → All (λ x. IsWrittenAs read word x) xs

@@ -2,12 +2,12 @@
 use Rattle.array_text.proofs.Common.{◌≡◌, ℕ, ◌≤◌, ◌==◌, true, false, List, [], ◌∷◌, ◌++◌, length, nat_lt, All, Ok, refl, ap, ◌∙◌, arith, zero, suc, ◌+◌, ◌<◌}
 use Rattle.array_text.proofs.Common.{Bool, if◌then◌else◌, Result, append_assoc, join_with_byte, range_with_len, All-nil, All-cons, All-append, All-weaker}
 use Rattle.array_text.proofs.Common.{All-head, All-tail, nat_tests, is_separator, words, lines, has_word, left_from, next_number, line_at, Left, ◌>>=◌}
-use Rattle.array_text.proofs.Common.{Numbered, IsWordByte, IsWord, Line, IsLine, line_text, text, numbered_lines, number_after, unread, Takes, flat_map}
+use Rattle.array_text.proofs.Common.{Numbered, IsWordByte, IsWord, Line, IsLine, line_text, text, numbered_lines, number_after, left_of_lines, Takes, flat_map}
 use Rattle.array_text.proofs.Common.{Refusal, LinesReadAsWritten, append-nil}
 use Rattle.std.proofs.lemmas.List.Splits.{slice_split_none, slice_split_at}
 use Rattle.record_lines.proofs.LeftLemmas.{left_word, left_nothing}
 use Rattle.array_text.proofs.WordTexts.{no_separator, no_feed}
-unfoldable use Rattle.record_lines.specs.{counted}
+unfoldable use Rattle.record_lines.specs.{each_number}
 
 is_some : (w : List ℕ) → IsWord w → nat_lt 0 (length w) ≡ true
 is_some w h = let some : 1 ≤ length w = h.some in grind (arith, nat_tests)
@@ -63,8 +63,8 @@ line_cut [] after h = refl
 line_cut (b ∷ a) after h =
     rw (All-head (λ x. (x == 10) ≡ false) b a h, line_cut a after (All-tail (λ x. (x == 10) ≡ false) b a h)) refl
 
-pub text_left : (n : ℕ) (ls : List Line) → All (λ line. IsLine line) ls → left_from n (text ls) ≡ unread n ls
-unfolding text unread numbered_lines number_after
+pub text_left : (n : ℕ) (ls : List Line) → All (λ line. IsLine line) ls → left_from n (text ls) ≡ left_of_lines n ls
+unfolding text left_of_lines numbered_lines number_after
 text_left n [] h = left_nothing n [] refl
 text_left n (line ∷ others) h =
     let one : IsLine line = All-head (λ x. IsLine x) line others h in
@@ -76,8 +76,8 @@ pub lines_read : LinesReadAsWritten
 lines_read = record { words = λ line h. line_words line h.words; texts = text_left }
 
 -- the next line of a text is read
-pub next_line : (file : List ℕ) (n : ℕ) (line : Line) (others : List Line) → line_at file (unread n (line ∷ others)) ≡ Ok (record { number = n; bytes = line_text line }, unread (next_number n) others)
-unfolding line_at unread numbered_lines number_after
+pub next_line : (file : List ℕ) (n : ℕ) (line : Line) (others : List Line) → line_at file (left_of_lines n (line ∷ others)) ≡ Ok (record { number = n; bytes = line_text line }, left_of_lines (next_number n) others)
+unfolding line_at left_of_lines numbered_lines number_after
 next_line file n line others = refl
 
 -- A reading takes lines: from what its parts take.
@@ -105,7 +105,7 @@ module _ {Z : Type 0} {out : Left → Z} where
   -- the last reading
   pub last_takes : {Y : Type 0} {read : Left → Result Y Refusal} {lines : List Line} {mid : Left → Y} (f : Y → Result Z Refusal) → Takes read lines mid → ((left : Left) → f (mid left) ≡ Ok (out left))
       → Takes (λ left. read left >>= f) lines out
-  last_takes {lines = lines} f g h = record { are = g.are; reads = λ n rest. rw (g.reads n rest) (h (unread (number_after n lines) rest)) }
+  last_takes {lines = lines} f g h = record { are = g.are; reads = λ n rest. rw (g.reads n rest) (h (left_of_lines (number_after n lines) rest)) }
 
 -- the same lines and readings, where the file has them
 pub takes_where : {Z : Type 0} {read other : Left → Result Z Refusal} {lines : List Line} {out : Left → Z} (b : Bool) → (b ≡ true → Takes read lines out) → (b ≡ false → Takes other [] out)
@@ -125,10 +125,10 @@ line_takes {line = line} {back = back} f file h k = record {
 -- Steps that each take the lines of their number take all of these lines.
 module _ {S : Type 0} (step : ℕ → S → Result S Refusal) (lines : ℕ → List Line) (state : ℕ → Left → S) (total : ℕ)
     (each : (k : ℕ) → k < total → Takes (λ left. step k (state k left)) (lines k) (state (k + 1))) where
-  steps_take : (count k : ℕ) → k + count ≡ total → Takes (λ left. counted step k count (state k left)) (flat_map lines (range_with_len k count)) (state total)
-  unfolding counted
+  steps_take : (count k : ℕ) → k + count ≡ total → Takes (λ left. each_number step k count (state k left)) (flat_map lines (range_with_len k count)) (state total)
+  unfolding each_number
   steps_take zero k e = let same : k ≡ total = omega arith in rw same takes_none
   steps_take (suc count) k e = then_takes _ (each k (omega arith)) (steps_take count (k + 1) (omega arith))
 
-  pub counted_take : Takes (λ left. counted step 0 total (state 0 left)) (flat_map lines (range_with_len 0 total)) (state total)
+  pub counted_take : Takes (λ left. each_number step 0 total (state 0 left)) (flat_map lines (range_with_len 0 total)) (state total)
   counted_take = steps_take total 0 (omega arith)

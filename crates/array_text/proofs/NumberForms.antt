@@ -1,9 +1,10 @@
 -- A number that is read is in canonical form, and an integer has at most 18 digits.
 use Rattle.array_text.proofs.Common.{◌≡◌, ◌⊎◌, inl, inr, ℕ, zero, suc, ◌+◌, ◌-◌, ◌*◌, ◌%◌, ◌^◌, ◌<◌, ◌≤◌, ◌==◌, Bool, true, false, nat_lt, nat_le}
 use Rattle.array_text.proofs.Common.{if◌then◌else◌, List, [], ◌∷◌, length, Option, Some, None, Result, Ok, Err, refl, sym, subst, arith, ℤ, pos, negsuc, neg_ℤ}
-use Rattle.array_text.proofs.Common.{◌+ℤ◌, ◌≤ℤ◌, ◌<ℤ◌, unsigned_abs, NumFault, IsDec, is_exponent, canonical, spelt_number, number, product, integer, scaled}
-use Rattle.array_text.proofs.Common.{GivesOnly, real, multiplied, IsShort, ints, nat_tests, Dec, Spelling, AreDigits, IsInteger, number_from, IsTested}
-use Rattle.array_text.proofs.Common.{IsCanonical, differ, canonical_is, integers_are, with_sign, spelt, WordsHaveForm, done, refused, then_}
+use Rattle.array_text.proofs.Common.{◌+ℤ◌, ◌≤ℤ◌, ◌<ℤ◌, unsigned_abs, NumFault, IsDec, is_exponent, canonical, spelt_number, number, product, integer}
+use Rattle.array_text.proofs.Common.{scaled_value, GivesOnly, real, multiplied_value, IsShort, ints, nat_tests, Dec, Spelling, AreDigits, IsInteger}
+use Rattle.array_text.proofs.Common.{number_from, IsTested, IsCanonical, differ, canonical_is, integers_are, with_sign, spelling_of, WordsHaveForm, done}
+use Rattle.array_text.proofs.Common.{refused, then_}
 use Rattle.decimal_input.specs.declared.dec.NumFault.TheVariants.{BadNumber}
 use Rattle.decimal_input.proofs.Powers.{zero_number, longer, within}
 use Rattle.decimal_input.proofs.Named.{digit_small}
@@ -53,20 +54,20 @@ number_is w = by_length (nat_le (length w) 64)
     by_spelling None = refused
     by_spelling (Some n) = made_canonical n.neg n.coefficient n.exp
 
-    by_length : (b : Bool) → GivesOnly IsDec (if b then spelt_number (spelt w) else number_fault)
-    by_length true = by_spelling (spelt w)
+    by_length : (b : Bool) → GivesOnly IsDec (if b then spelt_number (spelling_of w) else number_fault)
+    by_length true = by_spelling (spelling_of w)
     by_length false = refused
 
-scaled_is : (by value : Dec) → IsDec value → GivesOnly IsDec (scaled by value)
-unfolding scaled product
+scaled_is : (by value : Dec) → IsDec value → GivesOnly IsDec (scaled_value by value)
+unfolding scaled_value product
 scaled_is by value good = by_case (by.digits == 0)
   where
     by_case : (b : Bool) → GivesOnly IsDec (if b then Ok value else product value by)
     by_case true = done good
     by_case false = made_canonical (differ value.neg by.neg) (value.digits * by.digits) (value.exp +ℤ by.exp)
 
-pub multiplied_is : (by : Dec) (w : List ℕ) → GivesOnly IsDec (multiplied real by w)
-unfolding multiplied
+pub multiplied_is : (by : Dec) (w : List ℕ) → GivesOnly IsDec (multiplied_value real by w)
+unfolding multiplied_value
 multiplied_is by w = then_ _ (number_is w) (λ d dec. scaled_is by d dec)
 
 -- the digits of a number are below a power of ten

@@ -5,7 +5,7 @@ use Rattle.decimal_input.specs.{IsDec}
 use Rattle.outside.specs.{FileSet, words}
 use Rattle.record_lines.specs.{left_from, GivesOnly, Left}
 use Rattle.array_reader.specs.{number, integer, real, whole, free_list, reals, real_layer, integer_layer, layers}
-use Rattle.array_text.specs.Lines.{IsShort, number_word, integer_word, Line, IsLine, line_text, text, unread, Reads, row_line, real_array, integer_array}
+use Rattle.array_text.specs.Lines.{IsShort, number_word, integer_word, Line, IsLine, line_text, text, left_of_lines, Reads, row_line, real_array, integer_array}
 use Rattle.outside.specs.declared.inputs.Refusal.{Refusal}
 
 -- a number in canonical form, and an integer of at most 18 digits
@@ -16,7 +16,7 @@ pub record WordsReadAsWritten : Type 0 where
 -- a line as its words, and a text, from any number of its first line on, as its lines
 pub record LinesReadAsWritten : Type 0 where
   pub words : (line : Line) → IsLine line → words (line_text line) ≡ line
-  pub texts : (n : ℕ) (lines : List Line) → All IsLine lines → left_from n (text lines) ≡ unread n lines
+  pub texts : (n : ℕ) (lines : List Line) → All IsLine lines → left_from n (text lines) ≡ left_of_lines n lines
 
 -- at least one value, all on one line
 pub record FreeListsReadAsWritten : Type 0 where

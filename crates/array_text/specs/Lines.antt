@@ -65,13 +65,13 @@ number_after n [] = n
 number_after n (line ∷ others) = number_after (next_number n) others
 
 -- what is left of a text where these lines are still to be read, and n is the number of the first
-unfoldable pub unread : ℕ → List Line → Left
-unread n lines = record { lines = numbered_lines n lines; end = number_after n lines }
+unfoldable pub left_of_lines : ℕ → List Line → Left
+left_of_lines n lines = record { lines = numbered_lines n lines; end = number_after n lines }
 
 -- A reading takes these lines, wherever they stand, and gives something with what it leaves: what follows them. Each of them is a line.
 pub record Takes {Z : Type 0} (read : Left → Result Z Refusal) (lines : List Line) (out : Left → Z) : Type 0 where
   pub are : All IsLine lines
-  pub reads : (n : ℕ) (rest : List Line) → read (unread n (lines ++ rest)) ≡ Ok (out (unread (number_after n lines) rest))
+  pub reads : (n : ℕ) (rest : List Line) → read (left_of_lines n (lines ++ rest)) ≡ Ok (out (left_of_lines (number_after n lines) rest))
 
 -- it gives x
 abbrev pub Reads : {X : Type 0} → (Left → Result (X × Left) Refusal) → List Line → X → Type 0

@@ -2,7 +2,7 @@
 use Rattle.barrier_vector.proofs.Common.{◌≡◌, ℕ, ◌+◌, ◌<◌, ◌≤◌, inl, inr, refl, sym, ◌∙◌, ap, subst, arith, List, length, min, Option, None, Some, slice_index}
 use Rattle.barrier_vector.proofs.Common.{ℤ, pos, ◌-ℤ◌, ◌≤ℤ◌, ◌<ℤ◌, ints, clamps, Entries, entries_at, IsProblem, IsHead, base_on, IsComponent, sum_inside}
 use Rattle.barrier_vector.proofs.Common.{deep_low, Low, lack, capped_flow, LeastRoot, IsInnerPath, IsLongest, IsUnanchored, mark_at, path_limit, ListRoot}
-use Rattle.barrier_vector.proofs.Common.{IsSearched, AreLabels, labelled, sum_at, longest_at, greatest_inside, Total, AreSelfDrops, AreComponents, Bool, true}
+use Rattle.barrier_vector.proofs.Common.{IsSearched, AreLabels, has_label, sum_at, longest_at, greatest_inside, Total, AreSelfDrops, AreComponents, Bool, true}
 use Rattle.barrier_vector.proofs.Common.{false, cond, is_label, cut_on, IsBoundOrNone}
 use Rattle.barrier_vector.proofs.CarriedRoots.{reaches_within, turn_way, join_ways}
 use Rattle.barrier_vector.proofs.Levels.{marked_or_not, marked_within}
@@ -58,7 +58,7 @@ capped_sum : (b : ℤ) (x y s t : ℕ) → IsHead b → x ≡ min s path_limit �
 capped_sum b x y s t h p q = omega (arith, ints, clamps, h.below, h.above, p, q)
 
 module _ (p : List Entries) (ok : IsProblem p) (labels : List (Option ℕ)) (inner : List ℕ) (totals : List Total) (y : AreComponents p labels inner totals) where
-  component_of : (c m : ℕ) → mark_at labels c ≡ Some m → IsComponent p c (labelled labels m)
+  component_of : (c m : ℕ) → mark_at labels c ≡ Some m → IsComponent p c (has_label labels m)
   component_of c m e = record {
     reached = λ k t.
         let (j, way) = y.labelling.reached c m e in
@@ -73,10 +73,10 @@ module _ (p : List Entries) (ok : IsProblem p) (labels : List (Option ℕ)) (inn
       let (t, top) = longest_path p ok c h in
       let k_in = reaches_within p ok top.links c top.cell h top.reached in
       let on = label_true (mark_at labels top.cell) m (along p labels (length p) y.labelling top.links c top.cell m e top.reached) in
-      let at_least = greatest_covers (length p) (labelled labels m) (slice_index inner) top.cell k_in on in
+      let at_least = greatest_covers (length p) (has_label labels m) (slice_index inner) top.cell k_in on in
       let (s, s_path, s_cut) = y.inner_paths top.cell k_in in
       let same = inner_one p ok top.cell s t s_path top.is_path in
-      let (l, l_in, l_on, is) = greatest_of (length p) (labelled labels m) (slice_index inner) top.cell k_in on in
+      let (l, l_in, l_on, is) = greatest_of (length p) (has_label labels m) (slice_index inner) top.cell k_in on in
       let (r, r_path, r_cut) = y.inner_paths l l_in in
       let (j, way) = (component_of c m e).reached l l_on in
       let le = top.longest j l r way r_path in
@@ -86,13 +86,13 @@ module _ (p : List Entries) (ok : IsProblem p) (labels : List (Option ℕ)) (inn
   floor_carried base base_is c m v h none e carries is =
       let (s, path, cut) = y.inner_paths c h in
       let (t, top, top_cut) = longest_is c m h e in
-      (base_on Low p -ℤ pos (s + t), inr (none, record { inside = labelled labels m; component = component_of c m e; carries = subst (λ (z : ℤ). pos 0 <ℤ z) (y.component_sums m) carries }, s, path, t, top, refl), is ∙ ap (λ (z : ℤ). cut_on Low (z -ℤ pos (slice_index inner c + longest_at totals m))) base_is ∙ capped_sum (base_on Low p) (slice_index inner c) (longest_at totals m) s t (base_head Low p ok) cut top_cut)
+      (base_on Low p -ℤ pos (s + t), inr (none, record { inside = has_label labels m; component = component_of c m e; carries = subst (λ (z : ℤ). pos 0 <ℤ z) (y.component_sums m) carries }, s, path, t, top, refl), is ∙ ap (λ (z : ℤ). cut_on Low (z -ℤ pos (slice_index inner c + longest_at totals m))) base_is ∙ capped_sum (base_on Low p) (slice_index inner c) (longest_at totals m) s t (base_head Low p ok) cut top_cut)
 
   pub floor_none : (c m : ℕ) → c < length p → IsUnanchored Low p c → mark_at labels c ≡ Some m → sum_at totals m ≤ℤ pos 0 → IsBoundOrNone Low p c None
-  floor_none c m h none e empty = (none, λ carried. let same = one_sum p ok c carried.inside (labelled labels m) carried.component (component_of c m e) ∙ sym (y.component_sums m) in let k = carried.carries in omega (arith, ints, same, k, empty))
+  floor_none c m h none e empty = (none, λ carried. let same = one_sum p ok c carried.inside (has_label labels m) carried.component (component_of c m e) ∙ sym (y.component_sums m) in let k = carried.carries in omega (arith, ints, same, k, empty))
 
 -- the components, from what the code made
-pub components_made : (p : List Entries) → IsProblem p → (labels least levels : List (Option ℕ)) (inner : List ℕ) (totals : List Total) → AreLabels p labels (length p) → AreSelfDrops labels (length labels) least → IsSearched p (capped_flow (lack p)) least levels inner → length totals ≡ length p → ((m : ℕ) → sum_at totals m ≡ sum_inside (length p) (labelled labels m) (λ k. deep_low (entries_at p k))) → ((m : ℕ) → longest_at totals m ≡ greatest_inside (length p) (labelled labels m) (slice_index inner)) → AreComponents p labels inner totals
+pub components_made : (p : List Entries) → IsProblem p → (labels least levels : List (Option ℕ)) (inner : List ℕ) (totals : List Total) → AreLabels p labels (length p) → AreSelfDrops labels (length labels) least → IsSearched p (capped_flow (lack p)) least levels inner → length totals ≡ length p → ((m : ℕ) → sum_at totals m ≡ sum_inside (length p) (has_label labels m) (λ k. deep_low (entries_at p k))) → ((m : ℕ) → longest_at totals m ≡ greatest_inside (length p) (has_label labels m) (slice_index inner)) → AreComponents p labels inner totals
 components_made p ok labels least levels inner totals l drops found whole sums tops = record {
   labelling = l;
   inner_paths = inner_paths_of p ok labels least levels inner l drops found;

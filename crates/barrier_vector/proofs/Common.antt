@@ -20,13 +20,13 @@ pub use Rattle.barrier_vector.specs.{AnchorRoot, AreAnchorDrops, AreAnchorPaths,
 pub use Rattle.barrier_vector.specs.{AreSelfDrops, BarrierExcludesRefusal, BarrierIsCut, BarrierIsOne, CeilingsEnclose, ClampedFits, ContinuesTo}
 pub use Rattle.barrier_vector.specs.{CutBarrierExcludesRefusal, CutBarrierIsOne, CutRefusalIsOne, EnclosesUncut, Fills, FloorsEnclose, FloorsHold, FrontLeads}
 pub use Rattle.barrier_vector.specs.{HasEach, HasNoBound, HasStorage, IsAnchorPath, IsAnchoredBound, IsAnchoredOrNone, IsBoundOn, IsBoundOrNone, IsCarriedFloor}
-pub use Rattle.barrier_vector.specs.{IsCeiling, IsCutBarrierOf, IsCutBoundOn, IsCutFault, IsCutFaultOn, IsFaultOn, IsFirst, IsFloor, IsInnerPath, IsLeastWith}
-pub use Rattle.barrier_vector.specs.{IsLevel, IsLongest, IsMissing, IsNearest, IsNotForLackOfAnchors, IsOutOfRange, IsOutline, IsParent, IsPath, IsRefused}
-pub use Rattle.barrier_vector.specs.{IsRefusedOn, IsSearched, IsSolution, IsUnanchored, IsWholeSide, LeadsToRoot, LeastRoot, LeavesRange, LiesOut, LinkLeads}
-pub use Rattle.barrier_vector.specs.{ListRoot, Names, Nowhere, RefusalIsOne, Refuses, RefusesOn, Spreads, SumsTo, anchor_drop, anchor_on, base_on, bound_at}
-pub use Rattle.barrier_vector.specs.{capped_flow, ceil_over, cell_mark, clamp, cut_on, drain_mark, fixed_mark, flow_sum, greatest, greatest_inside, high_flow}
-pub use Rattle.barrier_vector.specs.{if_some, is_label, labelled, lack, longest_at, mark_at, moved_out, need, need_on, no_barrier_on, outer_of, outermost}
-pub use Rattle.barrier_vector.specs.{path_limit, range_on, river_mark, sum_at, unmarked}
+pub use Rattle.barrier_vector.specs.{IsCellCeiling, IsCellFloor, IsCutBarrierOf, IsCutBoundOn, IsCutFault, IsCutFaultOn, IsFaultOn, IsFirst, IsInnerPath}
+pub use Rattle.barrier_vector.specs.{IsLeastWith, IsLevel, IsLongest, IsMissing, IsNearest, IsNotForLackOfAnchors, IsOutOfRange, IsOutline, IsParent, IsPath}
+pub use Rattle.barrier_vector.specs.{IsRefused, IsRefusedOn, IsSearched, IsSolution, IsUnanchored, IsWholeSide, LeadsToRoot, LeastRoot, LeavesRange, LiesOut}
+pub use Rattle.barrier_vector.specs.{LinkLeads, ListRoot, Names, Nowhere, RefusalIsOne, Refuses, RefusesOn, Spreads, SumsTo, anchor_drop, anchor_on, base_on}
+pub use Rattle.barrier_vector.specs.{bound_at, capped_flow, ceil_over, cell_mark, clamp, count_unmarked, cut_on, drain_mark, fixed_mark, flow_sum, greatest}
+pub use Rattle.barrier_vector.specs.{greatest_inside, has_label, high_flow, if_some, is_label, lack, longest_at, mark_at, moved_out, need, need_on}
+pub use Rattle.barrier_vector.specs.{no_barrier_on, outer_of, outermost, path_limit, range_on, river_mark, sum_at}
 pub use Rattle.barrier_vector.specs.declared.BarrierFault.{BarrierFault}
 pub use Rattle.barrier_vector.specs.declared.BarrierFault.TheVariants.{Memory}
 pub use Rattle.barrier_vector.specs.declared.gathered.Total.{Total}
@@ -38,13 +38,13 @@ pub use Rattle.cell_balance.proofs.Sums.{sum-add, sum-same, sum_inside-zero, ter
 pub use Rattle.cell_balance.proofs.Zips.{All-zip, AllZip-at, AllZip-length, CellWithin, DrainWithin, FixedWithin, FlowWithin, IsDry, LinkWithin, RiverWithin}
 pub use Rattle.cell_balance.proofs.Zips.{WholeCell, WholeEntry, WholeLink, no_whole, whole_at, whole_balance, whole_deep, whole_drain, whole_evap, whole_fixed}
 pub use Rattle.cell_balance.proofs.Zips.{whole_link, whole_river}
-pub use Rattle.cell_balance.specs.{EnclosesStep, ExactCell, IsAnchored, IsCarried, IsComponent, IsHeldBelow, Leads, LiesBetween, Reaches, SolvesStep, deep_low}
+pub use Rattle.cell_balance.specs.{EnclosesStep, ExactCell, IsAnchored, IsCarried, IsComponent, IsHeldBelow, Leads, LeadsTo, LiesBetween, SolvesStep, deep_low}
 pub use Rattle.cell_balance.specs.{sum_below, sum_inside}
 pub use Rattle.decimal_input.proofs.FloorLaws.{mul_mono_right}
 pub use Rattle.step_problem.proofs.Leasts.{mul_mono, mul_neg, mul_nonneg}
-pub use Rattle.step_problem.specs.{CellFits, DrainFits, Edges, EvapFits, FixedFits, IsHead, IsProblem, IsWithin, LinkFits, RiverFits, bound_on, deep_river}
-pub use Rattle.step_problem.specs.{entries_at, evap_flow, flow_bound, full_rate, head_at, head_limit, least, link_at, no_entries, no_link, number_of}
-pub use Rattle.step_problem.specs.{river_flow, total}
+pub use Rattle.step_problem.specs.{CellFits, DrainFits, Edges, EvapFits, FixedFits, IsHead, IsMagnitudeAtMost, IsProblem, LinkFits, RiverFits, bound_on}
+pub use Rattle.step_problem.specs.{deep_river, entries_at, evap_flow, flow_bound, full_rate, head_at, head_limit, least, link_at, no_entries, no_link}
+pub use Rattle.step_problem.specs.{number_of, river_flow, total}
 pub use Rattle.step_problem.specs.Entries.{Entries}
 pub use Rattle.step_problem.specs.declared.entry.Fixed.{Fixed}
 pub use Rattle.step_problem.specs.declared.entry.Link.{Link}

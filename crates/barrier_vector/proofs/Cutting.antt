@@ -1,7 +1,7 @@
 -- What a cut barrier gives to its caller, and that a problem has one cut barrier or one refusal of it.
 use Rattle.barrier_vector.proofs.Common.{◌≡◌, ℕ, ◌<◌, ◌≤ℤ◌, inl, inr, sym, ◌∙◌, ap, subst, arith, List, length, ℤ, pos, neg_ℤ, ints, clamps, Side, Low, High}
-use Rattle.barrier_vector.proofs.Common.{NoBound, Entries, Edges, head_at, IsProblem, IsHead, head_limit, number_of, IsHeldBelow, IsSolution, IsFloor}
-use Rattle.barrier_vector.proofs.Common.{IsCeiling, HasNoBound, no_barrier_on, cut_on, AreCutBounds, IsCutBarrierOf, IsCutFaultOn, Refuses, EnclosesUncut}
+use Rattle.barrier_vector.proofs.Common.{NoBound, Entries, Edges, head_at, IsProblem, IsHead, head_limit, number_of, IsHeldBelow, IsSolution, IsCellFloor}
+use Rattle.barrier_vector.proofs.Common.{IsCellCeiling, HasNoBound, no_barrier_on, cut_on, AreCutBounds, IsCutBarrierOf, IsCutFaultOn, Refuses, EnclosesUncut}
 use Rattle.barrier_vector.proofs.Common.{IsCutFault, BarrierFault, Memory, CutBarrierIsOne, BarrierIsCut, CutBarrierExcludesRefusal, CutRefusalIsOne}
 use Rattle.barrier_vector.proofs.Common.{BarrierIsOne}
 use Rattle.step_problem.specs.declared.refusal.StepRefusal.{StepRefusal}
@@ -28,10 +28,10 @@ cut_encloses p b ok is s e d X encloses some solves =
     record {
       low = λ c i uncut.
           let (f, floor, cut) = is.floors.each c i in
-          floors_enclose p s e d X given c (head_at b.floor c) i (subst (IsFloor p c) (low_uncut (head_at b.floor c) f cut uncut) floor);
+          floors_enclose p s e d X given c (head_at b.floor c) i (subst (IsCellFloor p c) (low_uncut (head_at b.floor c) f cut uncut) floor);
       high = λ c i uncut.
           let (f, ceiling, cut) = is.ceilings.each c i in
-          ceilings_enclose p s e d X given c (head_at b.ceiling c) i (subst (IsCeiling p c) (high_uncut (head_at b.ceiling c) f cut uncut) ceiling);
+          ceilings_enclose p s e d X given c (head_at b.ceiling c) i (subst (IsCellCeiling p c) (high_uncut (head_at b.ceiling c) f cut uncut) ceiling);
     }
 
 pub cut_holds : (p : List Entries) (vs : List ℤ) → AreCutBounds Low p vs → IsHeldBelow p

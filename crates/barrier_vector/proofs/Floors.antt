@@ -1,10 +1,10 @@
 -- No solution lies below a floor, and none above a ceiling.
 use Rattle.barrier_vector.proofs.Common.{base_on, ◌≡◌, ℕ, ◌+◌, ◌*◌, ◌^◌, ◌<◌, ◌≤◌, inl, inr, refl, subst, arith, ℤ, pos, ◌+ℤ◌, ◌-ℤ◌, ◌*ℤ◌, ◌≤ℤ◌, ◌<ℤ◌, List}
 use Rattle.barrier_vector.proofs.Common.{length, Contains, zero, suc, ap, ◌⊎◌, AllZip, mul-le-mul_right, ints, Link, Side, Low, High, Entries, entries_at}
-use Rattle.barrier_vector.proofs.Common.{IsProblem, total, IsCarried, ExactCell, Reaches, Leads, IsHeldBelow, SolvesStep, LiesBetween, EnclosesStep, add_mul}
+use Rattle.barrier_vector.proofs.Common.{IsProblem, total, IsCarried, ExactCell, LeadsTo, Leads, IsHeldBelow, SolvesStep, LiesBetween, EnclosesStep, add_mul}
 use Rattle.barrier_vector.proofs.Common.{sub_mul, same_z, IsMutual, WholeCell, whole_at, whole_balance, whole_link, CellWithin, cell_within, Bounds, need}
 use Rattle.barrier_vector.proofs.Common.{need_on, anchor_on, LeastRoot, IsAnchorPath, IsInnerPath, IsLongest, IsAnchoredBound, IsBoundOn, FloorsEnclose}
-use Rattle.barrier_vector.proofs.Common.{CeilingsEnclose, IsSolution, ceil_over, SumsTo, IsFloor, FloorsHold, IsCeiling}
+use Rattle.barrier_vector.proofs.Common.{CeilingsEnclose, IsSolution, ceil_over, SumsTo, IsCellFloor, FloorsHold, IsCellCeiling}
 use Rattle.cell_balance.proofs.Encloses.{whole_head, whole_solution, bound_back}
 use Rattle.barrier_vector.proofs.CarriedRoots.{join_ways, leads_within, conducts, back, same_root}
 use Rattle.barrier_vector.proofs.Components.{inner_path}
@@ -22,7 +22,7 @@ module _ (p : List Entries) (ok : IsProblem p) (n q : ℕ) (Y : ℕ → ℤ) (to
     under k = omega (arith, ints, low)
 
     -- from the roots that links lead to, along a path
-    pub falls_along : (k c s : ℕ) → c < length p → SumsTo p q Root k c s → ((r d j : ℕ) → Root r d → Reaches p j c r → (t -ℤ pos (d * n)) ≤ℤ Y r) → (t -ℤ pos (s * n)) ≤ℤ Y c
+    pub falls_along : (k c s : ℕ) → c < length p → SumsTo p q Root k c s → ((r d j : ℕ) → Root r d → LeadsTo p j c r → (t -ℤ pos (d * n)) ≤ℤ Y r) → (t -ℤ pos (s * n)) ≤ℤ Y c
     falls_along zero c s i root at = at c s 0 root refl
     falls_along (suc k) c s i (x, parent, rest, sums, is) at =
         let far = falls_along k x.cell rest (leads_within p ok c x parent.has) sums (λ r d j root way. at r d (suc j) root (x, parent.has, way)) in
@@ -30,7 +30,7 @@ module _ (p : List Entries) (ok : IsProblem p) (n q : ℕ) (Y : ℕ → ℤ) (to
         (falls_over (t -ℤ pos (rest * n)) (under (rest * n)) (ceil_over q x.lo) c i x parent.has (ceil_enough q x.lo (conducts p ok c x parent.has)) far)
 
     -- from a cell back along its path to its root
-    pub falls_to_root : (k c s e : ℕ) → c < length p → SumsTo p q Root k c s → (t -ℤ pos (e * n)) ≤ℤ Y c → (r : ℕ) × (d : ℕ) × (j : ℕ) × Root r d × Reaches p j c r × ((t -ℤ pos ((e + s) * n)) ≤ℤ Y r)
+    pub falls_to_root : (k c s e : ℕ) → c < length p → SumsTo p q Root k c s → (t -ℤ pos (e * n)) ≤ℤ Y c → (r : ℕ) × (d : ℕ) × (j : ℕ) × Root r d × LeadsTo p j c r × ((t -ℤ pos ((e + s) * n)) ≤ℤ Y r)
     falls_to_root zero c s e i root h = (c, s, 0, root, refl, omega (arith, ints, h))
     falls_to_root (suc k) c s e i (x, parent, rest, sums, is) h =
         let next = falls_over (t -ℤ pos (e * n)) (under (e * n)) (ceil_over q x.lo) x.cell (leads_within p ok c x parent.has) (record { cell = c; lo = x.lo; hi = x.hi }) (back p ok c x parent.has) (ceil_enough q x.lo (conducts p ok c x parent.has)) h in
@@ -118,7 +118,7 @@ pub ceilings_enclose : CeilingsEnclose
 ceilings_enclose p = bounds_enclose High p
 
 -- A problem whose cells all have floors is held below.
-pub held_cell : (p : List Entries) (c : ℕ) (f : ℤ) → IsFloor p c f → ((j : ℕ) × Leads p j c) ⊎ IsCarried p c
+pub held_cell : (p : List Entries) (c : ℕ) (f : ℤ) → IsCellFloor p c f → ((j : ℕ) × Leads p j c) ⊎ IsCarried p c
 held_cell p c f (inl (s, path, is)) = let leads = path.is_level.leads in inl (path.level, (leads.root, leads.reaches, anchored_by p leads.root leads.is_root.1))
 held_cell p c f (inr y) = inr y.1
 
@@ -126,10 +126,10 @@ pub floors_hold : FloorsHold
 floors_hold p floors c i = let (f, floor) = floors c i in held_cell p c f floor
 
 -- What a barrier's floors and ceilings give to its caller.
-pub encloses_all : (p : List Entries) (low high : ℕ → ℤ) → IsProblem p → ((c : ℕ) → c < length p → IsFloor p c (low c)) → ((c : ℕ) → c < length p → IsCeiling p c (high c)) → (s : ℕ) (e : List ExactCell) (d : ℕ) (X : ℕ → ℤ) → EnclosesStep s p e → 0 < d → SolvesStep e d X → LiesBetween (length p) d X low high
+pub encloses_all : (p : List Entries) (low high : ℕ → ℤ) → IsProblem p → ((c : ℕ) → c < length p → IsCellFloor p c (low c)) → ((c : ℕ) → c < length p → IsCellCeiling p c (high c)) → (s : ℕ) (e : List ExactCell) (d : ℕ) (X : ℕ → ℤ) → EnclosesStep s p e → 0 < d → SolvesStep e d X → LiesBetween (length p) d X low high
 encloses_all p low high ok floors ceilings s e d X encloses some solves =
     let given : IsSolution p s e d X = record { problem = ok; encloses = encloses; some = some; solves = solves } in
     record { low = λ c i. floors_enclose p s e d X given c (low c) i (floors c i); high = λ c i. ceilings_enclose p s e d X given c (high c) i (ceilings c i) }
 
-pub held_all : (p : List Entries) (low : ℕ → ℤ) → ((c : ℕ) → c < length p → IsFloor p c (low c)) → IsHeldBelow p
+pub held_all : (p : List Entries) (low : ℕ → ℤ) → ((c : ℕ) → c < length p → IsCellFloor p c (low c)) → IsHeldBelow p
 held_all p low floors c i = held_cell p c (low c) (floors c i)

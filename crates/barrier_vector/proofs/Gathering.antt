@@ -2,8 +2,8 @@
 use Rattle.barrier_vector.proofs.Common.{◌≡◌, ℕ, zero, suc, ◌+◌, ◌*◌, ◌^◌, ◌<◌, ◌≤◌, ◌⊎◌, inl, inr, refl, sym, ◌∙◌, ap, subst, arith, max, List, Option, None}
 use Rattle.barrier_vector.proofs.Common.{Some, Bool, true, false, cond, slice_index, ℤ, pos, negsuc, unsigned_abs, ◌+ℤ◌, ◌*ℤ◌, ◌≤ℤ◌, ◌<ℤ◌, add-one}
 use Rattle.barrier_vector.proofs.Common.{div-add-mod', mod-lt, length, All, Contains, min, set, get_or-set_same, get_or-set_other, int_div_euclid}
-use Rattle.barrier_vector.proofs.Common.{int_rem_euclid, cases_eq, cases_lt, eq-eqb, ne_eqb, ints, IsWithin, sum_inside, mark_at, is_label, labelled, flow_sum}
-use Rattle.barrier_vector.proofs.Common.{sum_at, longest_at, greatest_inside, Total, ceil_over, path_limit, ContinuesTo, get_or_default, Entries}
+use Rattle.barrier_vector.proofs.Common.{int_rem_euclid, cases_eq, cases_lt, eq-eqb, ne_eqb, ints, IsMagnitudeAtMost, sum_inside, mark_at, is_label, has_label}
+use Rattle.barrier_vector.proofs.Common.{flow_sum, sum_at, longest_at, greatest_inside, Total, ceil_over, path_limit, ContinuesTo, get_or_default, Entries}
 
 -- the test of a label tells
 pub label_true : (o : Option ℕ) (m : ℕ) → o ≡ Some m → is_label o m ≡ true
@@ -41,23 +41,23 @@ greatest_within n t f b each = elim (greatest_reached n t f) [ inl none ↦ omeg
 
 -- one cell more, over what the code holds before and after
 module _ (labels : List (Option ℕ)) (old s0 s1 new : List Total) (i m : ℕ) (e0 : s0 ≡ old) (ef : new ≡ s1) where
-  pub sum_more : (f : ℕ → ℤ) (q : ℤ) → q ≡ f i → sum_at old m ≡ sum_inside i (labelled labels m) f → sum_at s1 m ≡ sum_at s0 m +ℤ cond (is_label (mark_at labels i) m) q (pos 0) → sum_at new m ≡ sum_inside (i + 1) (labelled labels m) f
+  pub sum_more : (f : ℕ → ℤ) (q : ℤ) → q ≡ f i → sum_at old m ≡ sum_inside i (has_label labels m) f → sum_at s1 m ≡ sum_at s0 m +ℤ cond (is_label (mark_at labels i) m) q (pos 0) → sum_at new m ≡ sum_inside (i + 1) (has_label labels m) f
   sum_more f q is h t = let t' = rw (e0, is) at t in rw (ef, add-one i) (t' ∙ ap (λ (z : ℤ). z +ℤ cond (is_label (mark_at labels i) m) (f i) (pos 0)) h)
 
-  pub longest_more : (f : ℕ → ℕ) → longest_at old m ≡ greatest_inside i (labelled labels m) f → longest_at s1 m ≡ max (longest_at s0 m) (cond (is_label (mark_at labels i) m) (f i) 0) → longest_at new m ≡ greatest_inside (i + 1) (labelled labels m) f
+  pub longest_more : (f : ℕ → ℕ) → longest_at old m ≡ greatest_inside i (has_label labels m) f → longest_at s1 m ≡ max (longest_at s0 m) (cond (is_label (mark_at labels i) m) (f i) 0) → longest_at new m ≡ greatest_inside (i + 1) (has_label labels m) f
   longest_more f h t = let t' = rw e0 at t in rw (ef, add-one i) (t' ∙ ap (λ (n : ℕ). max n (cond (is_label (mark_at labels i) m) (f i) 0)) h)
 
-  pub within_more : (b : Bool) (q : ℤ) → IsWithin q (2 ^ 125) → IsWithin (sum_at old m) (i * 2 ^ 125) → sum_at s1 m ≡ sum_at s0 m +ℤ cond b q (pos 0) → IsWithin (sum_at new m) ((i + 1) * 2 ^ 125)
+  pub within_more : (b : Bool) (q : ℤ) → IsMagnitudeAtMost q (2 ^ 125) → IsMagnitudeAtMost (sum_at old m) (i * 2 ^ 125) → sum_at s1 m ≡ sum_at s0 m +ℤ cond b q (pos 0) → IsMagnitudeAtMost (sum_at new m) ((i + 1) * 2 ^ 125)
   within_more b q w v t = let t' = rw e0 at t in rw (ef, t') (add b (sum_at old m) v)
     where
-      add : (b : Bool) (z : ℤ) → IsWithin z (i * 2 ^ 125) → IsWithin (z +ℤ cond b q (pos 0)) ((i + 1) * 2 ^ 125)
+      add : (b : Bool) (z : ℤ) → IsMagnitudeAtMost z (i * 2 ^ 125) → IsMagnitudeAtMost (z +ℤ cond b q (pos 0)) ((i + 1) * 2 ^ 125)
       add true z v = record { above = omega (arith, ints, w, v); below = omega (arith, ints, w, v) }
       add false z v = record { above = omega (arith, ints, v); below = omega (arith, ints, v) }
 
-  pub sum_within : i < 2 ^ 32 → IsWithin (sum_at old m) (i * 2 ^ 125) → IsWithin (sum_at s0 m) (2 ^ 157)
+  pub sum_within : i < 2 ^ 32 → IsMagnitudeAtMost (sum_at old m) (i * 2 ^ 125) → IsMagnitudeAtMost (sum_at s0 m) (2 ^ 157)
   sum_within small v = rw e0 (wider (sum_at old m) v)
     where
-      wider : (z : ℤ) → IsWithin z (i * 2 ^ 125) → IsWithin z (2 ^ 157)
+      wider : (z : ℤ) → IsMagnitudeAtMost z (i * 2 ^ 125) → IsMagnitudeAtMost z (2 ^ 157)
       wider z v = let le : i * 2 ^ 125 ≤ 2 ^ 157 = omega arith in record { above = omega (arith, ints, v, le); below = omega (arith, ints, v, le) }
 
 -- the two words of a sum

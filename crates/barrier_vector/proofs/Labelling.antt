@@ -1,7 +1,7 @@
 -- Labels of components: one component is filled from its least cell, and one after another.
 use Rattle.barrier_vector.proofs.Common.{◌≡◌, ℕ, zero, suc, ◌+◌, ◌<◌, ◌≤◌, ◌⊎◌, inl, inr, refl, sym, ◌∙◌, ap, subst, arith, List, [], length, Contains, Option}
 use Rattle.barrier_vector.proofs.Common.{None, Some, All, slice_index, get_or, cases_lt, Contains-get_or, Link, Entries, entries_at, link_at, IsProblem}
-use Rattle.barrier_vector.proofs.Common.{Reaches, mark_at, LinkLeads, FrontLeads, Spreads, AreLabels, Fills}
+use Rattle.barrier_vector.proofs.Common.{LeadsTo, mark_at, LinkLeads, FrontLeads, Spreads, AreLabels, Fills}
 use Rattle.barrier_vector.proofs.Spreading.{no_both}
 use Rattle.barrier_vector.proofs.Gathering.{place_of}
 use Rattle.barrier_vector.proofs.CarriedRoots.{turn_way, join_ways}
@@ -10,7 +10,7 @@ use Rattle.barrier_vector.proofs.Levels.{same_some, marked_or_not, marked_within
 -- The cells filled so far are reached from c; those that aren't in the frontier have no neighbour without a label.
 pub record Filling (p : List Entries) (c : ℕ) (start labels : List (Option ℕ)) (front : List ℕ) : Type 0 where
   pub whole : length labels ≡ length start
-  pub each : (k : ℕ) → (mark_at labels k ≡ mark_at start k) ⊎ ((mark_at start k ≡ None) × (mark_at labels k ≡ Some c) × (j : ℕ) × Reaches p j c k)
+  pub each : (k : ℕ) → (mark_at labels k ≡ mark_at start k) ⊎ ((mark_at start k ≡ None) × (mark_at labels k ≡ Some c) × (j : ℕ) × LeadsTo p j c k)
   pub begun : mark_at labels c ≡ Some c
   pub front_of : (k : ℕ) → Contains front k → (mark_at start k ≡ None) × (mark_at labels k ≡ Some c)
   pub onward : (k : ℕ) → mark_at start k ≡ None → mark_at labels k ≡ Some c → Contains front k ⊎ ((x : Link) → Contains (entries_at p k).links x → (m : ℕ) × (mark_at labels x.cell ≡ Some m))
@@ -32,19 +32,19 @@ module _ (p : List Entries) (ok : IsProblem p) (c : ℕ) (start : List (Option �
       next_of k has = elim (s.listed k has) [ inl wrong ↦ absurd (no_member k wrong) | inr both ↦ both ]
 
       -- a cell of the frontier is reached from c
-      front_reached : (k : ℕ) → Contains front k → (j : ℕ) × Reaches p j c k
+      front_reached : (k : ℕ) → Contains front k → (j : ℕ) × LeadsTo p j c k
       front_reached k has =
           let (none, some) = f.front_of k has in
           elim (f.each k) [ inl same ↦ absurd (no_both (mark_at labels k) c (same ∙ none) some) | inr (_, _, j, way) ↦ (j, way) ]
 
-      target_reached : (k : ℕ) → FrontLeads p front (length front) k → (j : ℕ) × Reaches p j c k
+      target_reached : (k : ℕ) → FrontLeads p front (length front) k → (j : ℕ) × LeadsTo p j c k
       target_reached k (i, h, (l, l_in, e)) =
           let (j, way) = front_reached (slice_index front i) (Contains-get_or front i 0 h) in
           let x = link_at (entries_at p (slice_index front i)).links l in
           let has : Contains (entries_at p (slice_index front i)).links x = Contains-get_or (entries_at p (slice_index front i)).links l _ l_in in
           (j + 1, join_ways p ok j 1 c (slice_index front i) k way (x, has, e))
 
-      each' : (k : ℕ) → (mark_at labels' k ≡ mark_at start k) ⊎ ((mark_at start k ≡ None) × (mark_at labels' k ≡ Some c) × (j : ℕ) × Reaches p j c k)
+      each' : (k : ℕ) → (mark_at labels' k ≡ mark_at start k) ⊎ ((mark_at start k ≡ None) × (mark_at labels' k ≡ Some c) × (j : ℕ) × LeadsTo p j c k)
       each' k =
           elim (s.each k) [
             | inl same ↦ elim (f.each k) [
@@ -74,7 +74,7 @@ module _ (p : List Entries) (ok : IsProblem p) (c : ℕ) (start : List (Option �
       fill_more = record { whole = s.same ∙ f.whole; each = each'; begun = stays c c f.begun; front_of = λ k has. let (n, m) = next_of k has in (was_none k n, m); onward = onward' }
 
 -- labels are the same along a way
-pub along : (p : List Entries) (labels : List (Option ℕ)) (i : ℕ) → AreLabels p labels i → (j a b m : ℕ) → mark_at labels a ≡ Some m → Reaches p j a b → mark_at labels b ≡ Some m
+pub along : (p : List Entries) (labels : List (Option ℕ)) (i : ℕ) → AreLabels p labels i → (j a b m : ℕ) → mark_at labels a ≡ Some m → LeadsTo p j a b → mark_at labels b ≡ Some m
 along p labels i l zero a b m e way = subst (λ (z : ℕ). mark_at labels z ≡ Some m) way e
 along p labels i l (suc j) a b m e (x, has, way) = along p labels i l j x.cell b m (l.spread a m x e has) way
 
@@ -92,11 +92,11 @@ module _ (p : List Entries) (ok : IsProblem p) (labels labels' : List (Option �
     still : (a m : ℕ) → mark_at labels a ≡ Some m → mark_at labels' a ≡ Some m
     still a m e = elim (f.each a) [ inl same ↦ same ∙ e | inr (n, _, _, _) ↦ absurd (no_both _ m n e) ]
 
-    before : (a m : ℕ) → mark_at labels' a ≡ Some m → (mark_at labels a ≡ Some m) ⊎ ((mark_at labels a ≡ None) × (m ≡ c) × (j : ℕ) × Reaches p j c a)
+    before : (a m : ℕ) → mark_at labels' a ≡ Some m → (mark_at labels a ≡ Some m) ⊎ ((mark_at labels a ≡ None) × (m ≡ c) × (j : ℕ) × LeadsTo p j c a)
     before a m e = elim (f.each a) [ inl same ↦ inl (sym same ∙ e) | inr (n, some, j, way) ↦ inr (n, same_some (mark_at labels' a) m c e some, j, way) ]
 
     -- no cell that c reaches had a label
-    untouched : (j k : ℕ) → Reaches p j c k → mark_at labels k ≡ None
+    untouched : (j k : ℕ) → LeadsTo p j c k → mark_at labels k ≡ None
     untouched j k way =
         elim (marked_or_not (mark_at labels k)) [
           | inl e ↦ e
@@ -115,12 +115,12 @@ module _ (p : List Entries) (ok : IsProblem p) (labels labels' : List (Option �
               ]
         ]
 
-    least' : (a m j k : ℕ) → mark_at labels' a ≡ Some m → Reaches p j m k → m ≤ k
+    least' : (a m j k : ℕ) → mark_at labels' a ≡ Some m → LeadsTo p j m k → m ≤ k
     least' a m j k e way =
         elim (before a m e) [
           | inl old ↦ l.least a m j k old way
           | inr (n, is, _, _) ↦
-              let from_c = subst (λ (z : ℕ). Reaches p j z k) is way in
+              let from_c = subst (λ (z : ℕ). LeadsTo p j z k) is way in
               elim (cases_lt k c) [
                 | inl less ↦ let (m', old) = l.all k less in absurd (no_both (mark_at labels k) m' (untouched j k from_c) old)
                 | inr more ↦ omega (arith, is, more)
@@ -131,7 +131,7 @@ module _ (p : List Entries) (ok : IsProblem p) (labels labels' : List (Option �
     labels_fill = record {
       whole = f.whole ∙ l.whole;
       spread = spread';
-      reached = λ a m e. elim (before a m e) [ inl old ↦ l.reached a m old | inr (_, is, j, way) ↦ (j, subst (λ (z : ℕ). Reaches p j z a) (sym is) way) ];
+      reached = λ a m e. elim (before a m e) [ inl old ↦ l.reached a m old | inr (_, is, j, way) ↦ (j, subst (λ (z : ℕ). LeadsTo p j z a) (sym is) way) ];
       least = least';
       all = λ a h.
           elim (cases_lt a c) [

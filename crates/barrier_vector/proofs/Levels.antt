@@ -1,9 +1,9 @@
 -- The search by levels: after k steps just the cells of a level up to k are marked, those of level k are the frontier, and each has its path.
 use Rattle.barrier_vector.proofs.Common.{◌≡◌, ℕ, zero, suc, ◌+◌, ◌<◌, ◌≤◌, ◌⊎◌, inl, inr, refl, sym, ◌∙◌, ap, subst, arith, List, [], ◌∷◌, length, Contains}
 use Rattle.barrier_vector.proofs.Common.{min, Option, None, Some, All, take, take_at, ◌++◌, slice_index, get_or, cases_lt, get_or_default, get_or_past}
-use Rattle.barrier_vector.proofs.Common.{Contains-get_or, Link, Entries, entries_at, link_at, no_link, IsProblem, Reaches, ceil_over, LeadsToRoot, IsLevel}
-use Rattle.barrier_vector.proofs.Common.{IsParent, SumsTo, mark_at, unmarked, LinkLeads, FrontLeads, Spreads, path_limit, ListRoot, IsNearest, ContinuesTo}
-use Rattle.barrier_vector.proofs.Common.{IsSearched, AreBegun}
+use Rattle.barrier_vector.proofs.Common.{Contains-get_or, Link, Entries, entries_at, link_at, no_link, IsProblem, LeadsTo, ceil_over, LeadsToRoot, IsLevel}
+use Rattle.barrier_vector.proofs.Common.{IsParent, SumsTo, mark_at, count_unmarked, LinkLeads, FrontLeads, Spreads, path_limit, ListRoot, IsNearest}
+use Rattle.barrier_vector.proofs.Common.{ContinuesTo, IsSearched, AreBegun}
 use Rattle.barrier_vector.proofs.Spreading.{no_both}
 use Rattle.barrier_vector.proofs.Gathering.{place_of}
 use Rattle.barrier_vector.proofs.CarriedRoots.{back}
@@ -15,7 +15,7 @@ pub record IsUpTo (p : List Entries) (q : ℕ) (own : List (Option ℕ)) (k : �
   pub found : (c j : ℕ) → j ≤ k → LeadsToRoot p q (ListRoot own) j c → (m : ℕ) × (mark_at levels c ≡ Some m)
   pub front_of : (c : ℕ) → Contains front c → mark_at levels c ≡ Some k
   pub in_front : (c : ℕ) → mark_at levels c ≡ Some k → Contains front c
-  pub room : 0 < length front → k + unmarked levels < length p
+  pub room : 0 < length front → k + count_unmarked levels < length p
   pub path : (c j : ℕ) → mark_at levels c ≡ Some j → (s : ℕ) × SumsTo p q (ListRoot own) j c s × (slice_index paths c ≡ min s path_limit)
 
 pub same_some : (o : Option ℕ) (i j : ℕ) → o ≡ Some i → o ≡ Some j → i ≡ j
@@ -37,7 +37,7 @@ pub no_member : (c : ℕ) → Contains [] c → ⊥
 no_member c has = omega (arith, has.1)
 
 -- where no cell is unmarked, each has a mark
-all_marked : (m : List (Option ℕ)) (c : ℕ) → unmarked m ≡ 0 → c < length m → mark_at m c ≡ None → ⊥
+all_marked : (m : List (Option ℕ)) (c : ℕ) → count_unmarked m ≡ 0 → c < length m → mark_at m c ≡ None → ⊥
 all_marked [] c e h none = omega arith
 all_marked (None ∷ xs) c e h none = omega (arith, e)
 all_marked (Some x ∷ xs) zero e h none = cc
@@ -66,12 +66,12 @@ module _ (p : List Entries) (ok : IsProblem p) (q : ℕ) (own : List (Option ℕ
   targeted : (c : ℕ) (x : Link) → Contains (entries_at p c).links x → LinkLeads (entries_at p x.cell).links (length (entries_at p x.cell).links) c
   targeted c x has = let (j, h, e) = link_place (entries_at p x.cell).links _ (back p ok c x has) in (j, h, ap (λ (z : Link). z.cell) e)
 
-  pub up_to_start : (old levels : List (Option ℕ)) (paths front : List ℕ) → length own ≡ length p → length old ≡ length p → ((c : ℕ) → mark_at old c ≡ None) → unmarked old ≡ length p → AreBegun own (length own) old levels paths front → IsUpTo p q own 0 levels paths front
+  pub up_to_start : (old levels : List (Option ℕ)) (paths front : List ℕ) → length own ≡ length p → length old ≡ length p → ((c : ℕ) → mark_at old c ≡ None) → count_unmarked old ≡ length p → AreBegun own (length own) old levels paths front → IsUpTo p q own 0 levels paths front
   up_to_start old levels paths front whole old_whole none all s = record {
     levels_whole = s.marks.same ∙ old_whole;
     paths_whole = s.whole ∙ whole;
-    exact = λ c j e. let (d, is, zero_is, has) = rooted c j e in (record { leads = record { root = c; drop = d; is_root = is; reaches = subst (λ (n : ℕ). Reaches p n c c) (sym zero_is) refl }; least = λ i l. omega (arith, zero_is) }, omega (arith, zero_is));
-    found = λ c j h l. let nought : j ≡ 0 = omega arith in s.marks.covers c (let is = subst (λ (z : ℕ). mark_at own z ≡ Some l.drop) (sym (subst (λ (n : ℕ). Reaches p n c l.root) nought l.reaches)) l.is_root in (marked_within own c l.drop is, l.drop, is));
+    exact = λ c j e. let (d, is, zero_is, has) = rooted c j e in (record { leads = record { root = c; drop = d; is_root = is; reaches = subst (λ (n : ℕ). LeadsTo p n c c) (sym zero_is) refl }; least = λ i l. omega (arith, zero_is) }, omega (arith, zero_is));
+    found = λ c j h l. let nought : j ≡ 0 = omega arith in s.marks.covers c (let is = subst (λ (z : ℕ). mark_at own z ≡ Some l.drop) (sym (subst (λ (n : ℕ). LeadsTo p n c l.root) nought l.reaches)) l.is_root in (marked_within own c l.drop is, l.drop, is));
     front_of = λ c has. elim (s.marks.listed c has) [ inl wrong ↦ absurd (no_member c wrong) | inr both ↦ both.1 ];
     in_front = λ c e. (rooted c 0 e).3;
     room = λ h. let n = s.marks.count in omega (arith, n, all, h);
@@ -141,7 +141,7 @@ module _ (p : List Entries) (ok : IsProblem p) (q : ℕ) (own : List (Option ℕ
       in_next : (c : ℕ) → mark_at levels' c ≡ Some (suc k) → Contains next c
       in_next c e = elim (before c (suc k) e) [ inl old ↦ let le = (u.exact c (suc k) old).1 in absurd (omega (arith, le)) | inr (_, _, _, has) ↦ has ]
 
-      room' : 0 < length next → suc k + unmarked levels' < length p
+      room' : 0 < length next → suc k + count_unmarked levels' < length p
       room' h =
           let one : Contains next (slice_index next 0) = Contains-get_or next 0 0 h in
           let (none, some) = next_of (slice_index next 0) one in
@@ -218,7 +218,7 @@ module _ (p : List Entries) (ok : IsProblem p) (q : ℕ) (own : List (Option ℕ
     }
 
     -- the search is at its end where no cell is left, or the frontier is empty
-    pub searched_at_end : (unmarked levels ≡ 0) ⊎ (length front ≡ 0) → IsSearched p q own levels paths
+    pub searched_at_end : (count_unmarked levels ≡ 0) ⊎ (length front ≡ 0) → IsSearched p q own levels paths
     searched_at_end (inl none_left) = searched (λ c h e j l. all_marked levels c none_left (subst (λ (n : ℕ). c < n) (sym u.levels_whole) h) e)
     searched_at_end (inr empty) = searched (λ c h e j l. let (m, is) = all_found empty j c l in no_both _ m e is)
 

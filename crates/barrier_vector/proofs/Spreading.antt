@@ -2,12 +2,12 @@
 use Rattle.barrier_vector.proofs.Common.{◌≡◌, ℕ, zero, suc, ◌+◌, ◌<◌, ◌⊎◌, inl, inr, refl, sym, ◌∙◌, ap, subst, arith, List, [], ◌∷◌, ◌++◌, length}
 use Rattle.barrier_vector.proofs.Common.{length-append, Contains, Option, None, Some, Bool, true, false, not, set, slice_index, get_or-set_same}
 use Rattle.barrier_vector.proofs.Common.{get_or-set_other, is_some, cases_eq, cases_lt, length-set, Contains-push, Contains-push_cases, Contains-append_left}
-use Rattle.barrier_vector.proofs.Common.{Link, Entries, entries_at, link_at, mark_at, unmarked, LinkLeads, FrontLeads, Spreads}
+use Rattle.barrier_vector.proofs.Common.{Link, Entries, entries_at, link_at, mark_at, count_unmarked, LinkLeads, FrontLeads, Spreads}
 
 pub no_both : (o : Option ℕ) (m : ℕ) → o ≡ None → o ≡ Some m → ⊥
 no_both o m e f = cc
 
-unmarked-set : (m : List (Option ℕ)) (c v : ℕ) → c < length m → mark_at m c ≡ None → suc (unmarked (set m c (Some v))) ≡ unmarked m
+unmarked-set : (m : List (Option ℕ)) (c v : ℕ) → c < length m → mark_at m c ≡ None → suc (count_unmarked (set m c (Some v))) ≡ count_unmarked m
 unmarked-set [] c v h e = absurd (omega arith)
 unmarked-set (None ∷ xs) zero v h e = refl
 unmarked-set (Some x ∷ xs) zero v h e = absurd (no_both (Some x) x e refl)

@@ -1,7 +1,7 @@
 -- What a search begins with, one cell after another.
 use Rattle.barrier_vector.proofs.Common.{◌≡◌, ℕ, zero, suc, ◌+◌, ◌<◌, ◌⊎◌, inl, inr, refl, sym, ◌∙◌, ap, subst, arith, List, [], length, min, Option, None}
 use Rattle.barrier_vector.proofs.Common.{Some, cases_eq, cases_lt, mark_at, path_limit, AreBegun, Spreads, set, get_or-set_same, get_or-set_other, length-set}
-use Rattle.barrier_vector.proofs.Common.{replicate, unmarked}
+use Rattle.barrier_vector.proofs.Common.{replicate, count_unmarked}
 use Rattle.barrier_vector.proofs.Spreading.{no_both, spread_as, spread_then}
 use Rattle.barrier_vector.proofs.Levels.{same_some}
 
@@ -58,9 +58,9 @@ length_is : (n : ℕ) → length (without_marks n) ≡ n
 length_is zero = refl
 length_is (suc n) = ap suc (length_is n)
 
-all_unmarked : (n : ℕ) → unmarked (without_marks n) ≡ n
+all_unmarked : (n : ℕ) → count_unmarked (without_marks n) ≡ n
 all_unmarked zero = refl
 all_unmarked (suc n) = ap suc (all_unmarked n)
 
-pub all_none : (n : ℕ) (m : List (Option ℕ)) → m ≡ replicate n None → (length m ≡ n) × ((c : ℕ) → mark_at m c ≡ None) × (unmarked m ≡ n)
-all_none n m e = (ap (λ (z : List (Option ℕ)). length z) e ∙ length_is n, (λ c. ap (λ (z : List (Option ℕ)). mark_at z c) e ∙ none_at n c), ap (λ (z : List (Option ℕ)). unmarked z) e ∙ all_unmarked n)
+pub all_none : (n : ℕ) (m : List (Option ℕ)) → m ≡ replicate n None → (length m ≡ n) × ((c : ℕ) → mark_at m c ≡ None) × (count_unmarked m ≡ n)
+all_none n m e = (ap (λ (z : List (Option ℕ)). length z) e ∙ length_is n, (λ c. ap (λ (z : List (Option ℕ)). mark_at z c) e ∙ none_at n c), ap (λ (z : List (Option ℕ)). count_unmarked z) e ∙ all_unmarked n)

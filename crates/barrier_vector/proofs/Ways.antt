@@ -1,6 +1,6 @@
 -- Whether links lead from one cell of a problem to another is decided: by ways through ever more cells.
 use Rattle.barrier_vector.proofs.Common.{◌≡◌, ℕ, zero, suc, ◌<◌, ◌⊎◌, inl, inr, refl, subst, arith, List, length, Contains, cases_eq, Link, IsProblem, Entries}
-use Rattle.barrier_vector.proofs.Common.{entries_at, Reaches}
+use Rattle.barrier_vector.proofs.Common.{entries_at, LeadsTo}
 use Rattle.barrier_vector.proofs.CarriedRoots.{leads_within, join_ways}
 use Rattle.barrier_vector.proofs.Decided.{Decided, any_of}
 
@@ -50,7 +50,7 @@ joined p (suc k) a m b h to from =
 
 -- links lead from cell a to cell b
 abbrev pub LeadTo : List Entries → ℕ → ℕ → Type 0
-LeadTo p a b = (j : ℕ) × Reaches p j a b
+LeadTo p a b = (j : ℕ) × LeadsTo p j a b
 
 module _ (p : List Entries) (ok : IsProblem p) where
   pub join : (a b c : ℕ) → LeadTo p a b → LeadTo p b c → LeadTo p a c
@@ -62,7 +62,7 @@ module _ (p : List Entries) (ok : IsProblem p) where
   a_way (suc k) a b (inl way) = a_way k a b way
   a_way (suc k) a b (inr (to, from)) = join a k b (a_way k a k to) (a_way k k b from)
 
-  through : (j a b : ℕ) → Reaches p j a b → Through p (length p) a b
+  through : (j a b : ℕ) → LeadsTo p j a b → Through p (length p) a b
   through zero a b e = directly p (length p) a b (inl e)
   through (suc j) a b (x, has, way) = joined p (length p) a x.cell b (leads_within p ok a x has) (directly p (length p) a x.cell (inr (x, has, refl))) (through j x.cell b way)
 

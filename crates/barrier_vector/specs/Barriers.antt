@@ -3,15 +3,15 @@ use Rattle.std.specs.Prelude.{◌≡◌, ℕ, ◌<◌, List, length, ◌^◌, �
 use Rattle.step_problem.specs.declared.place.NoBound.{NoBound}
 use Rattle.step_problem.specs.Entries.{Entries}
 use Rattle.step_problem.specs.{IsProblem, Edges, head_at, IsBarrier}
-use Rattle.barrier_vector.specs.Bounds.{IsFloor, IsCeiling}
-use Rattle.barrier_vector.specs.Cuts.{IsRefused, IsCutBarrierOf, IsUnbounded, clamped}
+use Rattle.barrier_vector.specs.Bounds.{IsCellFloor, IsCellCeiling}
+use Rattle.barrier_vector.specs.Cuts.{IsRefused, IsCutBarrierOf, IsUnbounded, clamped_edges}
 use Rattle.cell_balance.specs.{ExactCell, SolvesStep, EnclosesStep, IsHeldBelow}
 
 -- b is the barrier of the problem: the floor and the ceiling of each cell, all of them heads
 pub record IsBarrierOf (p : List Entries) (b : Edges) : Type 0 where
   pub fits : IsBarrier p b
-  pub floors : (c : ℕ) → c < length p → IsFloor p c (head_at b.floor c)
-  pub ceilings : (c : ℕ) → c < length p → IsCeiling p c (head_at b.ceiling c)
+  pub floors : (c : ℕ) → c < length p → IsCellFloor p c (head_at b.floor c)
+  pub ceilings : (c : ℕ) → c < length p → IsCellCeiling p c (head_at b.ceiling c)
 
 -- A problem has at most one barrier.
 abbrev pub BarrierIsOne : Type 0
@@ -37,17 +37,17 @@ pub record IsSolution (p : List Entries) (s : ℕ) (e : List ExactCell) (d : ℕ
 abbrev pub FloorsEnclose : Type 0
 FloorsEnclose =
     (p : List Entries) (s : ℕ) (e : List ExactCell) (d : ℕ) (X : ℕ → ℤ) → IsSolution p s e d X →
-    (c : ℕ) (f : ℤ) → c < length p → IsFloor p c f → (f *ℤ pos d) ≤ℤ (X c *ℤ pos (10 ^ 9))
+    (c : ℕ) (f : ℤ) → c < length p → IsCellFloor p c f → (f *ℤ pos d) ≤ℤ (X c *ℤ pos (10 ^ 9))
 
 -- No solution lies above a ceiling.
 abbrev pub CeilingsEnclose : Type 0
 CeilingsEnclose =
     (p : List Entries) (s : ℕ) (e : List ExactCell) (d : ℕ) (X : ℕ → ℤ) → IsSolution p s e d X →
-    (c : ℕ) (f : ℤ) → c < length p → IsCeiling p c f → (X c *ℤ pos (10 ^ 9)) ≤ℤ (f *ℤ pos d)
+    (c : ℕ) (f : ℤ) → c < length p → IsCellCeiling p c f → (X c *ℤ pos (10 ^ 9)) ≤ℤ (f *ℤ pos d)
 
 -- A problem whose cells all have floors is held below: each component is anchored or carried.
 abbrev pub FloorsHold : Type 0
-FloorsHold = (p : List Entries) → ((c : ℕ) → c < length p → (f : ℤ) × IsFloor p c f) → IsHeldBelow p
+FloorsHold = (p : List Entries) → ((c : ℕ) → c < length p → (f : ℤ) × IsCellFloor p c f) → IsHeldBelow p
 
 -- A problem has one cut barrier or one refusal of it, and where it has a barrier that is the cut one.
 -- A problem has at most one cut barrier.
@@ -68,8 +68,8 @@ CutRefusalIsOne = (p : List Entries) (n m : NoBound) → IsUnbounded p n → IsU
 
 -- Floors and ceilings of any size, one of each for each cell, moved into the range of heads are a barrier; one in the range stays as it is.
 pub record IsClampedRight (p : List Entries) (b : Edges) : Type 0 where
-  pub fits : length b.floor ≡ length p → length b.ceiling ≡ length p → IsBarrier p (clamped b)
-  pub same : IsBarrier p b → clamped b ≡ b
+  pub fits : length b.floor ≡ length p → length b.ceiling ≡ length p → IsBarrier p (clamped_edges b)
+  pub same : IsBarrier p b → clamped_edges b ≡ b
 
 abbrev pub ClampedFits : Type 0
 ClampedFits = (p : List Entries) (b : Edges) → IsClampedRight p b

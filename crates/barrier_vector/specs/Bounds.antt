@@ -4,7 +4,7 @@ use Rattle.step_problem.specs.declared.heads.Side.{Side}
 use Rattle.step_problem.specs.declared.heads.Side.TheVariants.{Low, High}
 use Rattle.step_problem.specs.Entries.{Entries}
 use Rattle.step_problem.specs.{entries_at}
-use Rattle.cell_balance.specs.{Reaches, IsCarried}
+use Rattle.cell_balance.specs.{LeadsTo, IsCarried}
 use Rattle.barrier_vector.specs.Marks.{base_on, need}
 use Rattle.step_problem.specs.declared.entry.Link.{Link}
 
@@ -20,7 +20,7 @@ module _ (p : List Entries) (q : ℕ) (Root : ℕ → ℕ → Type 0) where
     pub root : ℕ
     pub drop : ℕ
     pub is_root : Root root drop
-    pub reaches : Reaches p k c root
+    pub reaches : LeadsTo p k c root
 
   -- The level of cell c is k: the least number of links that lead to a root.
   pub record IsLevel (c k : ℕ) : Type 0 where
@@ -60,7 +60,7 @@ AnchorRoot side p q c d = (c < length p) × (0 < anchor_on side (entries_at p c)
 
 -- The least cell of its component is a root, without a drop of its own.
 abbrev pub LeastRoot : List Entries → ℕ → ℕ → Type 0
-LeastRoot p c d = (c < length p) × ((j k : ℕ) → Reaches p j c k → c ≤ k) × (d ≡ 0)
+LeastRoot p c d = (c < length p) × ((j k : ℕ) → LeadsTo p j c k → c ≤ k) × (d ≡ 0)
 
 -- the path of cell c to the anchors of a side
 abbrev pub IsAnchorPath : Side → List Entries → ℕ → ℕ → Type 0
@@ -74,13 +74,13 @@ IsInnerPath p = IsPath p (need Low p) (LeastRoot p)
 pub record IsLongest (p : List Entries) (c t : ℕ) : Type 0 where
   pub cell : ℕ
   pub links : ℕ
-  pub reached : Reaches p links c cell
+  pub reached : LeadsTo p links c cell
   pub is_path : IsInnerPath p cell t
-  pub longest : (j k s : ℕ) → Reaches p j c k → IsInnerPath p k s → s ≤ t
+  pub longest : (j k s : ℕ) → LeadsTo p j c k → IsInnerPath p k s → s ≤ t
 
 -- No anchor of the side holds the component of cell c.
 abbrev pub IsUnanchored : Side → List Entries → ℕ → Type 0
-IsUnanchored side p c = (j k : ℕ) → Reaches p j c k → anchor_on side (entries_at p k) ≡ 0
+IsUnanchored side p c = (j k : ℕ) → LeadsTo p j c k → anchor_on side (entries_at p k) ≡ 0
 
 -- a head less a path on the low side, plus a path on the high side
 abbrev pub moved_out : Side → ℤ → ℕ → ℤ
@@ -97,14 +97,14 @@ IsCarriedFloor p c f =
     IsUnanchored Low p c × IsCarried p c × (s : ℕ) × IsInnerPath p c s × (t : ℕ) × IsLongest p c t × (f ≡ base_on Low p -ℤ pos (s + t))
 
 -- The floor of cell c: the base less its path to an anchor; in a carried component less its inner path and the longest one.
-abbrev pub IsFloor : List Entries → ℕ → ℤ → Type 0
-IsFloor p c f = IsAnchoredBound Low p c f ⊎ IsCarriedFloor p c f
+abbrev pub IsCellFloor : List Entries → ℕ → ℤ → Type 0
+IsCellFloor p c f = IsAnchoredBound Low p c f ⊎ IsCarriedFloor p c f
 
 -- The ceiling of cell c: the base of the high side and its path.
-abbrev pub IsCeiling : List Entries → ℕ → ℤ → Type 0
-IsCeiling p c f = IsAnchoredBound High p c f
+abbrev pub IsCellCeiling : List Entries → ℕ → ℤ → Type 0
+IsCellCeiling p c f = IsAnchoredBound High p c f
 
 -- the bound of cell c on a side
 abbrev pub IsBoundOn : Side → List Entries → ℕ → ℤ → Type 0
-IsBoundOn Low = IsFloor
-IsBoundOn High = IsCeiling
+IsBoundOn Low = IsCellFloor
+IsBoundOn High = IsCellCeiling

@@ -129,8 +129,8 @@ abbrev pub clamp : ℤ → ℤ
 clamp v = int_max (int_min v (pos head_limit)) (neg_ℤ (pos head_limit))
 
 -- The floors and ceilings that settling begins at: those that were cut moved to the end of the range.
-abbrev pub clamped : Edges → Edges
-clamped b = record { floor = map clamp b.floor; ceiling = map clamp b.ceiling }
+abbrev pub clamped_edges : Edges → Edges
+clamped_edges b = record { floor = map clamp b.floor; ceiling = map clamp b.ceiling }
 
 -- What holds of a problem with storage at each cell.
 -- each variable cell has storage that certainly conducts

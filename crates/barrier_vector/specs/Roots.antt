@@ -8,7 +8,7 @@ use Rattle.step_problem.specs.{entries_at, IsHead, head_at}
 use Rattle.cell_balance.specs.{sum_inside, deep_low}
 use Rattle.barrier_vector.specs.Bounds.{IsAnchorPath, IsInnerPath, IsUnanchored, IsAnchoredBound, ceil_over, IsBoundOn, anchor_on}
 use Rattle.barrier_vector.specs.Cuts.{HasNoBound, IsOutOfRange, LeavesRange, no_barrier_on, Nowhere, IsRefusedOn, cut_on, IsCutBoundOn, RefusesOn}
-use Rattle.barrier_vector.specs.Searches.{mark_at, path_limit, AreLabels, HasEach, is_label, labelled, sum_at, longest_at, greatest_inside}
+use Rattle.barrier_vector.specs.Searches.{mark_at, path_limit, AreLabels, HasEach, is_label, has_label, sum_at, longest_at, greatest_inside}
 use Rattle.barrier_vector.specs.Marks.{cell_mark, outer_of, outermost, need_on, capped_flow}
 use Rattle.barrier_vector.specs.declared.gathered.Total.{Total}
 use Rattle.barrier_vector.specs.declared.BarrierFault.{BarrierFault}
@@ -49,8 +49,8 @@ pub record AreAnchorPaths (side : Side) (p : List Entries) (levels : List (Optio
 pub record AreComponents (p : List Entries) (labels : List (Option ℕ)) (inner : List ℕ) (totals : List Total) : Type 0 where
   pub labelling : AreLabels p labels (length p)
   pub inner_paths : (c : ℕ) → c < length p → (s : ℕ) × IsInnerPath p c s × (slice_index inner c ≡ min s path_limit)
-  pub component_sums : (m : ℕ) → sum_at totals m ≡ sum_inside (length p) (labelled labels m) (λ k. deep_low (entries_at p k))
-  pub tops : (m : ℕ) → longest_at totals m ≡ greatest_inside (length p) (labelled labels m) (slice_index inner)
+  pub component_sums : (m : ℕ) → sum_at totals m ≡ sum_inside (length p) (has_label labels m) (λ k. deep_low (entries_at p k))
+  pub tops : (m : ℕ) → longest_at totals m ≡ greatest_inside (length p) (has_label labels m) (slice_index inner)
   pub inner_whole : length inner ≡ length p
   pub totals_whole : length totals ≡ length p
 

@@ -5,7 +5,7 @@ use Rattle.step_problem.specs.declared.entry.Link.{Link}
 use Rattle.step_problem.specs.Entries.{Entries}
 use Rattle.step_problem.specs.{entries_at, link_at}
 use Rattle.barrier_vector.specs.Bounds.{ceil_over, LeadsToRoot, IsPath}
-use Rattle.cell_balance.specs.{Reaches}
+use Rattle.cell_balance.specs.{LeadsTo}
 use Rattle.barrier_vector.specs.declared.gathered.Total.{Total}
 
 -- What a list has at each of its n places; d stands past its end.
@@ -19,10 +19,10 @@ abbrev pub mark_at : List (Option ℕ) → ℕ → Option ℕ
 mark_at m c = slice_index_or m c None
 
 -- how many cells have no mark
-abbrev pub unmarked : List (Option ℕ) → ℕ
-unmarked [] = 0
-unmarked (None ∷ xs) = suc (unmarked xs)
-unmarked (Some x ∷ xs) = unmarked xs
+abbrev pub count_unmarked : List (Option ℕ) → ℕ
+count_unmarked [] = 0
+count_unmarked (None ∷ xs) = suc (count_unmarked xs)
+count_unmarked (Some x ∷ xs) = count_unmarked xs
 
 -- one of the first i links leads to cell k
 abbrev pub LinkLeads : List Link → ℕ → ℕ → Type 0
@@ -39,7 +39,7 @@ pub record Spreads (Target : ℕ → Type 0) (mark : ℕ) (old new : List (Optio
   pub covers : (k : ℕ) → Target k → (m : ℕ) × (mark_at new k ≡ Some m)
   pub listed : (k : ℕ) → Contains after k → Contains before k ⊎ ((mark_at old k ≡ None) × (mark_at new k ≡ Some mark))
   pub keeps : (k : ℕ) → Contains before k → Contains after k
-  pub count : unmarked new + length after ≡ unmarked old + length before
+  pub count : count_unmarked new + length after ≡ count_unmarked old + length before
 
 -- twice the greatest head plus one: a path of this length leads out of range
 abbrev pub path_limit : ℕ
@@ -84,14 +84,14 @@ pub record AreBegun (own : List (Option ℕ)) (i : ℕ) (old new : List (Option 
 pub record AreLabels (p : List Entries) (labels : List (Option ℕ)) (i : ℕ) : Type 0 where
   pub whole : length labels ≡ length p
   pub spread : (a m : ℕ) (x : Link) → mark_at labels a ≡ Some m → Contains (entries_at p a).links x → mark_at labels x.cell ≡ Some m
-  pub reached : (a m : ℕ) → mark_at labels a ≡ Some m → (j : ℕ) × Reaches p j m a
-  pub least : (a m j k : ℕ) → mark_at labels a ≡ Some m → Reaches p j m k → m ≤ k
+  pub reached : (a m : ℕ) → mark_at labels a ≡ Some m → (j : ℕ) × LeadsTo p j m a
+  pub least : (a m j k : ℕ) → mark_at labels a ≡ Some m → LeadsTo p j m k → m ≤ k
   pub all : (a : ℕ) → a < i → (m : ℕ) × (mark_at labels a ≡ Some m)
 
 -- The component of cell c, which had no label, is labelled with c.
 pub record Fills (p : List Entries) (c : ℕ) (old new : List (Option ℕ)) : Type 0 where
   pub whole : length new ≡ length old
-  pub each : (k : ℕ) → (mark_at new k ≡ mark_at old k) ⊎ ((mark_at old k ≡ None) × (mark_at new k ≡ Some c) × (j : ℕ) × Reaches p j c k)
+  pub each : (k : ℕ) → (mark_at new k ≡ mark_at old k) ⊎ ((mark_at old k ≡ None) × (mark_at new k ≡ Some c) × (j : ℕ) × LeadsTo p j c k)
   pub begun : mark_at new c ≡ Some c
   pub closed : (k : ℕ) (x : Link) → mark_at old k ≡ None → mark_at new k ≡ Some c → Contains (entries_at p k).links x → (m : ℕ) × (mark_at new x.cell ≡ Some m)
 
@@ -101,8 +101,8 @@ is_label None m = false
 is_label (Some k) m = nat_eq k m
 
 -- the test for the cells with the label m
-abbrev pub labelled : List (Option ℕ) → ℕ → ℕ → Bool
-labelled labels m k = is_label (mark_at labels k) m
+abbrev pub has_label : List (Option ℕ) → ℕ → ℕ → Bool
+has_label labels m k = is_label (mark_at labels k) m
 
 -- the sum that the two words of a total make, and the sum and the longest path of the label k in a list of totals
 abbrev pub flow_sum : Total → ℤ

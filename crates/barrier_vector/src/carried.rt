@@ -63,7 +63,7 @@ fn carried_floor(
 }
 
 // The floor of a cell from its floor by the anchors.
-fn floor_of(
+fn floor_of_cell(
     p: &Problem,
     base: i64,
     anchored: Option<i64>,
@@ -99,7 +99,7 @@ pub(crate) fn with_carried_floors(
     let found = find_components(alloc, p, q)?;
     let mut floors = Vec::with_capacity(alloc, p.len())?;
     for c in 0..p.len() {
-        floors.push(floor_of(p, base, anchored[c], &found, c))?;
+        floors.push(floor_of_cell(p, base, anchored[c], &found, c))?;
     }
     Ok(floors)
 }

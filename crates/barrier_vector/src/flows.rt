@@ -1,6 +1,6 @@
 // The deep flow of a cell, and the flow that a cell adds to the lack or the surplus.
 ghost use Rattle.std.specs.Prelude.{◌≡◌, ◌≤◌, ◌^◌};
-ghost use Rattle.step_problem.specs.{IsWithin, CellFits};
+ghost use Rattle.step_problem.specs.{IsMagnitudeAtMost, CellFits};
 ghost use Rattle.cell_balance.specs.{deep_low};
 ghost use Rattle.decimal_input.specs.{down, up};
 ghost use Rattle.barrier_vector.specs.{high_flow, need_on};
@@ -13,7 +13,7 @@ use step_problem::{Cell, Side, sum_branches, sum_of};
 pub(crate) fn deep_flow(cell: &Cell) -> i128
     requires { CellFits cell.now }
     ensures value { result ≡ deep_low cell.now }
-    ensures within { IsWithin result (2 ^ 125) }
+    ensures within { IsMagnitudeAtMost result (2 ^ 125) }
 {
     let flows = sum_branches(Side::Low, HEAD_LIMIT, &cell.flows);
     let rivers = sum_branches(Side::Low, -HEAD_LIMIT, &cell.rivers);
@@ -22,14 +22,14 @@ pub(crate) fn deep_flow(cell: &Cell) -> i128
 }
 
 fn negative_of(flow: i128) -> u128
-    requires { IsWithin flow (2 ^ 125) }
+    requires { IsMagnitudeAtMost flow (2 ^ 125) }
     ensures { result ≡ down flow }
 {
     if flow < 0 { flow.unsigned_abs() } else { 0 }
 }
 
 fn positive_of(flow: i128) -> u128
-    requires { IsWithin flow (2 ^ 125) }
+    requires { IsMagnitudeAtMost flow (2 ^ 125) }
     ensures { result ≡ up flow }
 {
     if flow > 0 { flow.unsigned_abs() } else { 0 }
@@ -39,7 +39,7 @@ fn positive_of(flow: i128) -> u128
 fn high_flow(cell: &Cell) -> i128
     requires { CellFits cell.now }
     ensures value { result ≡ high_flow cell.now }
-    ensures within { IsWithin result (2 ^ 125) }
+    ensures within { IsMagnitudeAtMost result (2 ^ 125) }
 {
     sum_branches(Side::High, HEAD_LIMIT, &cell.flows)
 }

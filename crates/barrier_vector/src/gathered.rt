@@ -1,8 +1,8 @@
 // What the cells of each component have together.
 ghost use Rattle.std.specs.Prelude.{◌≡◌, ℕ, ◌<◌, ◌^◌, ◌↔◌, max, length, IfOk, IsTrue, Some, slice_index, ◌+ℤ◌, ◌<ℤ◌, pos, cond};
-ghost use Rattle.step_problem.specs.{IsWithin, entries_at};
+ghost use Rattle.step_problem.specs.{IsMagnitudeAtMost, entries_at};
 ghost use Rattle.cell_balance.specs.{sum_inside, deep_low};
-ghost use Rattle.barrier_vector.specs.{mark_at, is_label, labelled, flow_sum, sum_at, longest_at, greatest_inside};
+ghost use Rattle.barrier_vector.specs.{mark_at, is_label, has_label, flow_sum, sum_at, longest_at, greatest_inside};
 
 use crate::flows::deep_flow;
 use std::alloc::{AllocError, Global};
@@ -22,7 +22,7 @@ pub(crate) struct Total {
 impl Total {
     // The lower word and a flow.
     fn rest(self, flow: i128) -> i128
-        requires { IsWithin flow (2 ^ 125) }
+        requires { IsMagnitudeAtMost flow (2 ^ 125) }
         ensures { result ≡ pos self.low +ℤ flow }
     {
         self.low as i128 + flow
@@ -30,8 +30,8 @@ impl Total {
 
     // With the flow and the path of a cell more.
     fn plus(self, flow: i128, path: u64) -> Total
-        requires sum { IsWithin (flow_sum self) (2 ^ 157) }
-        requires flow { IsWithin flow (2 ^ 125) }
+        requires sum { IsMagnitudeAtMost (flow_sum self) (2 ^ 157) }
+        requires flow { IsMagnitudeAtMost flow (2 ^ 125) }
         ensures sum { flow_sum result ≡ flow_sum self +ℤ flow }
         ensures longest { result.longest ≡ max self.longest path }
     {
@@ -58,8 +58,8 @@ impl Total {
 // Adds a cell to the total with its label, if it has a label.
 fn add_to(totals: &mut [Total], label: Option<u32>, flow: i128, path: u64)
     requires label { (m : ℕ) → label ≡ Some m → m < length totals.old }
-    requires sums { (m : ℕ) → IsWithin (sum_at totals.old m) (2 ^ 157) }
-    requires flow { IsWithin flow (2 ^ 125) }
+    requires sums { (m : ℕ) → IsMagnitudeAtMost (sum_at totals.old m) (2 ^ 157) }
+    requires flow { IsMagnitudeAtMost flow (2 ^ 125) }
     ensures sums { (m : ℕ) → sum_at totals.new m ≡ sum_at totals.old m +ℤ cond (is_label label m) flow (pos 0) }
     ensures paths { (m : ℕ) → longest_at totals.new m ≡ max (longest_at totals.old m) (cond (is_label label m) path 0) }
 {
@@ -80,8 +80,8 @@ pub(crate) fn component_totals(
     requires paths_whole { length paths.now ≡ length p.now }
     requires labels { (k m : ℕ) → mark_at labels.now k ≡ Some m → m < length p.now }
     ensures whole { IfOk result (λ t. length t.items ≡ length p.now) }
-    ensures sums { IfOk result (λ t. (m : ℕ) → sum_at t.items m ≡ sum_inside (length p.now) (labelled labels.now m) (λ k. deep_low (entries_at p.now k))) }
-    ensures paths { IfOk result (λ t. (m : ℕ) → longest_at t.items m ≡ greatest_inside (length p.now) (labelled labels.now m) (slice_index paths.now)) }
+    ensures sums { IfOk result (λ t. (m : ℕ) → sum_at t.items m ≡ sum_inside (length p.now) (has_label labels.now m) (λ k. deep_low (entries_at p.now k))) }
+    ensures paths { IfOk result (λ t. (m : ℕ) → longest_at t.items m ≡ greatest_inside (length p.now) (has_label labels.now m) (slice_index paths.now)) }
 {
     p.recall_conditions();
     let none = Total {

@@ -4,7 +4,7 @@
 ghost use Rattle.std.specs.Prelude.{ℕ, ◌<◌, length, IfOk, IfErr};
 ghost use Rattle.step_problem.specs.{head_at, IsBarrier};
 ghost use Rattle.cell_balance.specs.{IsHeldBelow, EnclosesSolutions};
-ghost use Rattle.barrier_vector.specs.{IsFloor, IsCeiling, IsFault, IsCutBarrierOf, IsCutFault, EnclosesUncut, HasStorage, IsNotForLackOfAnchors};
+ghost use Rattle.barrier_vector.specs.{IsCellFloor, IsCellCeiling, IsFault, IsCutBarrierOf, IsCutFault, EnclosesUncut, HasStorage, IsNotForLackOfAnchors};
 
 mod bounds;
 mod carried;
@@ -38,8 +38,8 @@ pub enum BarrierFault {
 /// neither anchored nor carried, 26 where a floor lies below all heads, 25 where a component has no anchor of the
 /// high side, 27 where a ceiling lies above all heads.
 pub fn barrier(alloc: Global, p: &Problem) -> Result<Barrier, BarrierFault>
-    ensures floors { IfOk result (λ b. (c : ℕ) → c < length p.now → IsFloor p.now c (head_at b.floor c)) }
-    ensures ceilings { IfOk result (λ b. (c : ℕ) → c < length p.now → IsCeiling p.now c (head_at b.ceiling c)) }
+    ensures floors { IfOk result (λ b. (c : ℕ) → c < length p.now → IsCellFloor p.now c (head_at b.floor c)) }
+    ensures ceilings { IfOk result (λ b. (c : ℕ) → c < length p.now → IsCellCeiling p.now c (head_at b.ceiling c)) }
     ensures refusal { IfErr result (λ e. IsFault p.now e) }
     ensures barrier { IfOk result (λ b. IsBarrier p.now b) }
     ensures held { IfOk result (λ b. IsHeldBelow p.now) }

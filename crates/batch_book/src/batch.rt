@@ -2,7 +2,7 @@ ghost use Rattle.std.specs.Prelude.{◌≡◌, ℕ, ◌<◌, ◌≤◌, All, IfO
 ghost use Rattle.batch_book.specs.{AreJobEnds, HasEnd};
 
 use crate::book::Book;
-use crate::desks::{Desk, desks_after_work, new_desks};
+use crate::desks::{WorkerState, desks_after_work, new_desks};
 use crate::jobs::Jobs;
 use crate::queue::{Counted, Queue, push_all};
 use outside::Gate;
@@ -12,7 +12,7 @@ use std::sync::Wait;
 use std::thread::Threads;
 
 // Gathers the books of all desks into one.
-fn gather_all<'a, J: Jobs>(book: &mut Book<'a, J>, mut desks: Vec<Desk<'a, J>>)
+fn gather_all<'a, J: Jobs>(book: &mut Book<'a, J>, mut desks: Vec<WorkerState<'a, J>>)
 where
     J::End: Drop,
     requires { All (λ d. d.book.0 ≡ book.old.0) desks.items }

@@ -14,7 +14,7 @@ use std::thread::Threads;
 
 /// A worker's pass to the queue and its book.
 #[derive(Drop)]
-pub(crate) struct Desk<'a, J: Jobs> {
+pub(crate) struct WorkerState<'a, J: Jobs> {
     pass: Pass<u32, Held>,
     pub(crate) book: Book<'a, J>,
 }
@@ -27,7 +27,7 @@ pub(crate) fn new_desks<'a, N: Counted, J: Jobs>(
     pass: &mut Pass<u32, Held>,
     jobs: &'a J,
     workers: u32,
-) -> Result<Vec<Desk<'a, J>>, AllocError>
+) -> Result<Vec<WorkerState<'a, J>>, AllocError>
 where
     J::End: Drop,
     requires { IsPassOf queue.now pass.old }
@@ -38,7 +38,7 @@ where
     for _worker in 0..workers {
         let book = Book::new(alloc, jobs)?;
         let pass = queue.another::<NewPass>(pass);
-        desks.push(Desk { pass, book })?;
+        desks.push(WorkerState { pass, book })?;
     }
     Ok(desks)
 }
@@ -49,7 +49,7 @@ fn work<'a, N: Counted, R: Wait, J: Jobs, G: Gate>(
     alloc: Global,
     queue: &Queue<N>,
     jobs: &J,
-    desk: &mut Desk<'a, J>,
+    desk: &mut WorkerState<'a, J>,
     worker: u32,
     gate: &G,
 )
@@ -85,9 +85,9 @@ pub(crate) fn desks_after_work<
     alloc: Global,
     queue: &Queue<N>,
     jobs: &J,
-    mut desks: Vec<Desk<'a, J>>,
+    mut desks: Vec<WorkerState<'a, J>>,
     gate: &G,
-) -> Vec<Desk<'a, J>>
+) -> Vec<WorkerState<'a, J>>
 where
     J::End: Send + Drop,
     requires workers { (0 < vec_len desks) × (vec_len desks ≤ 64) }

@@ -1,7 +1,7 @@
 -- The flows of a cell's entries, list by list, are the single flows of each term; so each sum gains those of its term.
 use Rattle.budget_bounds.proofs.Common.{◌≡◌, ◌+ℤ◌, refl, sym, ap, ◌∙◌, arith, false, List, [], ◌∷◌, map, ℤ, pos, ints, filter, Fixed, Flow, Dir, Term, Storage}
 use Rattle.budget_bounds.proofs.Common.{ConstantHead, Wells, Drains, RiverLeakage, HeadDepBounds, Recharge, Et, Entries, TermPair, singles, parts, part}
-use Rattle.budget_bounds.proofs.Common.{fixed_term, flow_term, is_term, flow_pair, capped, plus_pair, fixed_of, entry_pair, flows_of, ◌++◌, append-nil}
+use Rattle.budget_bounds.proofs.Common.{fixed_term, flow_term, is_term, flow_pair, capped_term, plus_pair, fixed_of, entry_pair, flows_of, ◌++◌, append-nil}
 use Rattle.budget_bounds.proofs.Common.{FixedKind, FlowKind}
 use Rattle.budget_bounds.proofs.Caps.{capped_twice, filter_all, parts_lo, parts_hi}
 use Rattle.step_problem.specs.{drain_flow as drain_bound, evap_flow as evap_bound, fixed_flow as fixed_bound, river_flow as river_bound}
@@ -50,7 +50,7 @@ module _ (c : Entries) (l u : ℤ) where
 module _ (dir : Dir) where
   -- a sum with the parts of these flows
   abbrev pub with_flows : TermPair → List TermPair → TermPair
-  with_flows s xs = capped (plus_pair s (parts dir xs))
+  with_flows s xs = capped_term (plus_pair s (parts dir xs))
 
   none_added : (x : ℤ) → pos 0 +ℤ x ≡ x
   none_added x = omega (arith, ints)
@@ -66,7 +66,7 @@ module _ (dir : Dir) where
 
   more : (s m n : TermPair) (xs ys : List TermPair) → m ≡ with_flows s xs → n ≡ with_flows m ys → n ≡ with_flows s (xs ++ ys)
   more s m n xs ys first then_ =
-      then_ ∙ ap (λ (z : TermPair). with_flows z ys) first ∙ capped_twice s (parts dir xs) (parts dir ys) (parts_lo dir ys) (parts_hi dir ys) ∙ ap (λ (z : TermPair). capped (plus_pair s z)) (sym (parts-append xs ys))
+      then_ ∙ ap (λ (z : TermPair). with_flows z ys) first ∙ capped_twice s (parts dir xs) (parts dir ys) (parts_lo dir ys) (parts_hi dir ys) ∙ ap (λ (z : TermPair). capped_term (plus_pair s z)) (sym (parts-append xs ys))
 
   pub cell_added : (c : Entries) (l u : ℤ) (t : Term) (s₀ s₁ s₂ s₃ s₄ s₅ : TermPair) → s₁ ≡ with_flows s₀ (map (entry_pair fixed_bound l u) (fixed_of t c.fixed)) → s₂ ≡ with_flows s₁ (map flow_pair (flows_of t c.flows)) →
       s₃ ≡ with_flows s₂ (map (entry_pair drain_bound l u) (filter (λ x. is_term t Drains) c.drains)) → s₄ ≡ with_flows s₃ (map (entry_pair river_bound l u) (filter (λ x. is_term t RiverLeakage) c.rivers)) →

@@ -4,11 +4,11 @@ pub use Rattle.std.proofs.Common.{true, zero, ℕ, ℤ, ◌++◌, ◌+ℤ◌, �
 pub use Rattle.std.proofs.lemmas.Int.{clamps, ints}
 pub use Rattle.std.proofs.lemmas.List.{append-nil, drop_all}
 pub use Rattle.std.specs.List.{AllZip, filter}
-pub use Rattle.budget_bounds.specs.{AreSums, AreWithin, CoverEncloses, EnclosesBudgets, HeadsAreWithin, IsSum, Reaches, all_terms, bounds_in, capped}
+pub use Rattle.budget_bounds.specs.{AreSums, AreWithin, CoverEncloses, EnclosesBudgets, HeadsAreWithin, IsSum, ReachesAsFar, all_terms, bounds_in, capped_term}
 pub use Rattle.budget_bounds.specs.{entry_pair, exact_part, fixed_of, fixed_term, flow_pair, flow_term, flows_of, is_small, is_term, no_pair, part, place_of}
 pub use Rattle.budget_bounds.specs.{plus_pair, sum_of, term_limit, too_large, ◌>>=◌}
-unfoldable pub use Rattle.budget_bounds.specs.{budget_of, exact_singles, exact_term, parts, singles, term_of, term_pair, terms_of, tested, tested_budget}
-unfoldable pub use Rattle.budget_bounds.specs.{tested_terms}
+unfoldable pub use Rattle.budget_bounds.specs.{budget_of, exact_singles, exact_term, parts, singles, term_of, term_or_refusal, term_pair, terms_of}
+unfoldable pub use Rattle.budget_bounds.specs.{tested_budget, tested_terms}
 pub use Rattle.budget_bounds.specs.declared.pair.TermPair.{TermPair}
 pub use Rattle.cell_balance.specs.{CellEncloses, DrainEncloses, EnclosesStep, EvapEncloses, ExactCell, ExactFixed, ExactFlow, FixedEncloses, FlowEncloses}
 pub use Rattle.cell_balance.specs.{RiverEncloses, cell_at, drain_flow, evap_flow, fixed_flow, no_cell, river_flow, sum_below, total_below}

@@ -4,9 +4,9 @@ use Rattle.budget_bounds.proofs.Common.{get_or, AllZip, filter, Fixed, Flow, Dir
 use Rattle.budget_bounds.proofs.Common.{HeadDepBounds, Recharge, Et, Entries, entries_at, no_entries, TermPair, fixed_term, flow_term, is_term, part, singles}
 use Rattle.budget_bounds.proofs.Common.{flow_pair, parts, term_pair, AreWithin, HeadsAreWithin, exact_part, entry_pair, exact_singles, exact_term, place_of}
 use Rattle.budget_bounds.proofs.Common.{◌>>=◌, all_terms, bounds_in, budget_of, is_small, no_pair, term_of, terms_of, too_large, EnclosesBudgets, CoverEncloses}
-use Rattle.budget_bounds.proofs.Common.{Reaches, total_below, ExactFlow, ExactFixed, ExactCell, cell_at, no_cell, fixed_flow, river_flow, drain_flow, evap_flow}
-use Rattle.budget_bounds.proofs.Common.{FlowEncloses, FixedEncloses, RiverEncloses, DrainEncloses, EvapEncloses, CellEncloses, EnclosesStep, FixedKind}
-use Rattle.budget_bounds.proofs.Common.{FlowKind}
+use Rattle.budget_bounds.proofs.Common.{ReachesAsFar, total_below, ExactFlow, ExactFixed, ExactCell, cell_at, no_cell, fixed_flow, river_flow, drain_flow}
+use Rattle.budget_bounds.proofs.Common.{evap_flow, FlowEncloses, FixedEncloses, RiverEncloses, DrainEncloses, EvapEncloses, CellEncloses, EnclosesStep}
+use Rattle.budget_bounds.proofs.Common.{FixedKind, FlowKind}
 use Rattle.decimal_input.specs.{Fraction, fraction_total, EnclosesSigned}
 use Rattle.cell_balance.proofs.EntryBounds.{bounds_hold}
 use Rattle.cell_balance.proofs.Zips.{AllZip-at, AllZip-length}
@@ -132,7 +132,7 @@ budget_encloses p l u (Err r) e = tt
 pub same_place : (s t : Term) → place_of s ≡ place_of t → s ≡ t
 same_place s t e = sym (at_place s s) ∙ ap (λ (i : ℕ). get_or all_terms i s) e ∙ at_place t s
 
-wider : (a b : TermPair) (k : ℕ) (f : Fraction) → Reaches a b → EnclosesSigned b.lo b.hi k f → EnclosesSigned a.lo a.hi k f
+wider : (a b : TermPair) (k : ℕ) (f : Fraction) → ReachesAsFar a b → EnclosesSigned b.lo b.hi k f → EnclosesSigned a.lo a.hi k f
 wider a b k f r h = record {
   lower = le_trans_z _ _ _ (mul_mono_right (den f) a.lo b.lo r.lower) h.lower;
   upper = le_trans_z _ _ _ h.upper (mul_mono_right (den f) b.hi a.hi r.upper);

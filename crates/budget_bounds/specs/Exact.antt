@@ -1,7 +1,7 @@
 -- The exact budget of an exact step at heads that are fractions, and what it means that bounds enclose it (TM 6-A16, chapter 3, the volumetric budget).
 use Rattle.std.specs.Prelude.{ℕ, ◌+◌, ◌<◌, List, map, length, ℤ, pos, ◌^◌, ◌+ℤ◌, ◌≤ℤ◌, if◌then◌else◌, [], ◌∷◌, Result, Ok, Err, slice_index_or}
 use Rattle.std.specs.List.{filter}
-use Rattle.decimal_input.specs.{Fraction, whole, negated, fraction_total, EnclosesSigned}
+use Rattle.decimal_input.specs.{Fraction, whole, opposite, fraction_total, EnclosesSigned}
 use Rattle.step_problem.specs.declared.place.Dir.{Dir}
 use Rattle.step_problem.specs.declared.place.Dir.TheVariants.{In, Out}
 use Rattle.step_problem.specs.declared.place.Term.{Term}
@@ -13,7 +13,7 @@ use Rattle.budget_bounds.specs.declared.pair.Budget.{Budget}
 use Rattle.budget_bounds.specs.Terms.{fixed_term, flow_term, is_term, bounds_in, term_limit, all_terms, is_small, no_pair, place_of, too_large, ◌>>=◌}
 use Rattle.std.specs.Int.{int_min}
 use Rattle.step_problem.specs.declared.heads.Bound.{Bound}
-use Rattle.step_problem.specs.{IsWithin, IsHead}
+use Rattle.step_problem.specs.{IsMagnitudeAtMost, IsHead}
 use Rattle.budget_bounds.specs.declared.pair.TermPair.{TermPair}
 use Rattle.step_problem.specs.declared.place.NoBound.{NoBound}
 
@@ -38,7 +38,7 @@ exact_singles Et c v = map (evap_flow v) c.evaps
 -- the part of a flow that goes into the variable cells, and the part that goes out of them, as a magnitude
 abbrev pub exact_part : Dir → Fraction → Fraction
 exact_part In f = greater f (whole (pos 0))
-exact_part Out f = greater (negated f) (whole (pos 0))
+exact_part Out f = greater (opposite f) (whole (pos 0))
 
 -- The exact In or Out of a term, where the variable cell of index c has the head h c.
 unfoldable pub exact_term : List ExactCell → (ℕ → Fraction) → Dir → Term → Fraction
@@ -65,8 +65,8 @@ abbrev pub plus_pair : TermPair → TermPair → TermPair
 plus_pair a b = record { lo = a.lo +ℤ b.lo; hi = a.hi +ℤ b.hi }
 
 -- more than the limit counts as the limit
-abbrev pub capped : TermPair → TermPair
-capped x = record { lo = int_min x.lo term_limit; hi = int_min x.hi term_limit }
+abbrev pub capped_term : TermPair → TermPair
+capped_term x = record { lo = int_min x.lo term_limit; hi = int_min x.hi term_limit }
 
 pub record IsSum (x : TermPair) : Type 0 where
   pub lo_above : pos 0 ≤ℤ x.lo
@@ -76,11 +76,11 @@ pub record IsSum (x : TermPair) : Type 0 where
 
 -- a flow that may be added to a sum up to the limit
 pub record IsFlow (x : TermPair) : Type 0 where
-  pub lo : IsWithin x.lo (2 ^ 123)
-  pub hi : IsWithin x.hi (2 ^ 123)
+  pub lo : IsMagnitudeAtMost x.lo (2 ^ 123)
+  pub hi : IsMagnitudeAtMost x.hi (2 ^ 123)
 
 -- a part of such a flow
-pub record IsPart (x : TermPair) : Type 0 where
+pub record IsPartOfFlow (x : TermPair) : Type 0 where
   pub lo_above : pos 0 ≤ℤ x.lo
   pub lo_below : x.lo ≤ℤ pos (2 ^ 123)
   pub hi_above : pos 0 ≤ℤ x.hi
@@ -99,14 +99,14 @@ abbrev pub AreSums : List TermPair → Type 0
 AreSums sums = (t : Term) → IsSum (sum_of sums t)
 
 -- a term's bounds, or FlowTooLarge at the term
-unfoldable pub tested : Dir → Term → TermPair → Result TermPair NoBound
-tested dir t x = if is_small x then Ok x else Err (too_large dir t)
+unfoldable pub term_or_refusal : Dir → Term → TermPair → Result TermPair NoBound
+term_or_refusal dir t x = if is_small x then Ok x else Err (too_large dir t)
 
 -- those of several terms, or FlowTooLarge at the first that is too large
 unfoldable pub tested_terms : List TermPair → Dir → List Term → Result (List TermPair) NoBound
 tested_terms s dir [] = Ok []
 tested_terms s dir (t ∷ ts) = do
-  x ← tested dir t (sum_of s t)
+  x ← term_or_refusal dir t (sum_of s t)
   xs ← tested_terms s dir ts
   Ok (x ∷ xs)
 
@@ -118,18 +118,18 @@ tested_budget into out = do
 
 -- When the bounds of one budget reach as far as those of another.
 -- the bounds a reach as far as b: the lower one is at most that of b, and the upper one at least that of b
-pub record Reaches (a b : TermPair) : Type 0 where
+pub record ReachesAsFar (a b : TermPair) : Type 0 where
   pub lower : a.lo ≤ℤ b.lo
   pub upper : b.hi ≤ℤ a.hi
 
 -- the bounds of each term reach as far
 abbrev pub Covers : Budget → Budget → Type 0
-Covers listed computed = (dir : Dir) (t : Term) → Reaches (bounds_in listed dir t) (bounds_in computed dir t)
+Covers listed computed = (dir : Dir) (t : Term) → ReachesAsFar (bounds_in listed dir t) (bounds_in computed dir t)
 
 -- the first term in this direction whose listed bounds don't reach as far
 pub record IsFirstShort (listed computed : Budget) (dir : Dir) (t : Term) : Type 0 where
-  pub short : Reaches (bounds_in listed dir t) (bounds_in computed dir t) → ⊥
-  pub first : (x : Term) → place_of x < place_of t → Reaches (bounds_in listed dir x) (bounds_in computed dir x)
+  pub short : ReachesAsFar (bounds_in listed dir t) (bounds_in computed dir t) → ⊥
+  pub first : (x : Term) → place_of x < place_of t → ReachesAsFar (bounds_in listed dir x) (bounds_in computed dir x)
 
 -- the place of a term among all: In terms come before Out terms
 abbrev pub line_of : Dir → Term → ℕ
@@ -138,8 +138,8 @@ line_of Out t = 8 + place_of t
 
 -- the first of all terms whose listed bounds don't reach as far
 pub record IsFirstUncovered (listed computed : Budget) (dir : Dir) (t : Term) : Type 0 where
-  pub short : Reaches (bounds_in listed dir t) (bounds_in computed dir t) → ⊥
-  pub first : (d : Dir) (x : Term) → line_of d x < line_of dir t → Reaches (bounds_in listed d x) (bounds_in computed d x)
+  pub short : ReachesAsFar (bounds_in listed dir t) (bounds_in computed dir t) → ⊥
+  pub first : (d : Dir) (x : Term) → line_of d x < line_of dir t → ReachesAsFar (bounds_in listed d x) (bounds_in computed d x)
 
 -- A value in the bounds of a budget lies in those of one that covers it.
 abbrev pub CoverEncloses : Type 0

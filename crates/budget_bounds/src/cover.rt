@@ -1,12 +1,12 @@
 // Whether the bounds of one budget reach as far as those of another.
 ghost use Rattle.std.specs.Prelude.{◌≡◌, ◌<◌, ◌↔◌, IsTrue, MatchOption};
-ghost use Rattle.budget_bounds.specs.{Covers, IsFirstShort, IsFirstUncovered, Reaches, place_of, bounds_in, fixed_term, flow_term};
+ghost use Rattle.budget_bounds.specs.{Covers, IsFirstShort, IsFirstUncovered, ReachesAsFar, place_of, bounds_in, fixed_term, flow_term};
 
 use crate::pair::{Budget, TermPair};
 use step_problem::{Dir, FixedKind, FlowKind, Term};
 
 fn reaches(a: TermPair, b: TermPair) -> bool
-    ensures { IsTrue result ↔ Reaches a b }
+    ensures { IsTrue result ↔ ReachesAsFar a b }
 {
     a.lo <= b.lo && b.hi <= a.hi
 }
@@ -22,14 +22,14 @@ fn bounds_in(budget: &Budget, dir: Dir, term: Term) -> TermPair
 }
 
 fn term_reaches(listed: &Budget, computed: &Budget, dir: Dir, term: Term) -> bool
-    ensures { IsTrue result ↔ Reaches (bounds_in listed.now dir term) (bounds_in computed.now dir term) }
+    ensures { IsTrue result ↔ ReachesAsFar (bounds_in listed.now dir term) (bounds_in computed.now dir term) }
 {
     reaches(bounds_in(listed, dir, term), bounds_in(computed, dir, term))
 }
 
 // The first term in this direction whose listed bounds don't reach as far as the computed ones.
 fn first_short(listed: &Budget, computed: &Budget, dir: Dir) -> Option<Term>
-    ensures { MatchOption result ((t : Term) → Reaches (bounds_in listed.now dir t) (bounds_in computed.now dir t))
+    ensures { MatchOption result ((t : Term) → ReachesAsFar (bounds_in listed.now dir t) (bounds_in computed.now dir t))
         (λ t. IsFirstShort listed.now computed.now dir t) }
 {
     for place in 0..8 {

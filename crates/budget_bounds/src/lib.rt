@@ -10,5 +10,5 @@ mod terms;
 
 pub use cover::first_uncovered;
 pub use pair::{Budget, TermPair};
-pub use sums::{TERM_LIMIT, plus_part};
+pub use sums::{TERM_LIMIT, add_part};
 pub use terms::budget;

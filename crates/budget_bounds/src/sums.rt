@@ -4,8 +4,8 @@ ghost use Rattle.std.specs.Int.{int_max, int_min};
 ghost use Rattle.std.specs.List.{filter};
 ghost use Rattle.step_problem.specs.{CellFits};
 ghost use Rattle.step_problem.specs.declared.place.Term.{Term};
-ghost use Rattle.budget_bounds.specs.{entry_pair, is_term, part, singles, parts, term_limit, AreHeads, AreSums, IsFlow, IsPart, IsSum, capped, plus_pair};
-ghost use Rattle.budget_bounds.specs.{sum_of};
+ghost use Rattle.budget_bounds.specs.{entry_pair, is_term, part, singles, parts, term_limit, AreHeads, AreSums, IsFlow, IsPartOfFlow, IsSum, capped_term};
+ghost use Rattle.budget_bounds.specs.{plus_pair, sum_of};
 
 use crate::cover::place_of;
 use crate::flows::{Entry, entry_pair};
@@ -25,10 +25,10 @@ fn positive_part(flow: i128) -> i128
 }
 
 // The part of a flow that goes in, or out.
-fn part_of(dir: Dir, flow: TermPair) -> TermPair
+fn in_or_out(dir: Dir, flow: TermPair) -> TermPair
     requires { IsFlow flow }
     ensures value { result ≡ part dir flow }
-    ensures part { IsPart result }
+    ensures part { IsPartOfFlow result }
 {
     match dir {
         Dir::In => TermPair {
@@ -55,13 +55,13 @@ fn plus_capped(sum: i128, part: i128) -> i128
 }
 
 /// A sum with what of one more flow goes in, or out, as a magnitude. A sum stays at 2^126 once it is there.
-pub fn plus_part(dir: Dir, sum: TermPair, flow: TermPair) -> TermPair
+pub fn add_part(dir: Dir, sum: TermPair, flow: TermPair) -> TermPair
     requires sum { IsSum sum }
     requires flow { IsFlow flow }
-    ensures value { result ≡ capped (plus_pair sum (part dir flow)) }
+    ensures value { result ≡ capped_term (plus_pair sum (part dir flow)) }
     ensures sum { IsSum result }
 {
-    let part = part_of(dir, flow);
+    let part = in_or_out(dir, flow);
     TermPair {
         lo: plus_capped(sum.lo, part.lo),
         hi: plus_capped(sum.hi, part.hi),
@@ -79,10 +79,10 @@ pub(crate) fn sum_of(sums: &[TermPair; 8], term: Term) -> TermPair
 fn add_flow(sums: &mut [TermPair; 8], dir: Dir, term: Term, flow: TermPair)
     requires sums { AreSums sums.old }
     requires flow { IsFlow flow }
-    ensures value { (t : Term) → sum_of sums.new t ≡ cond (is_term t term) (capped (plus_pair (sum_of sums.old t) (part dir flow))) (sum_of sums.old t) }
+    ensures value { (t : Term) → sum_of sums.new t ≡ cond (is_term t term) (capped_term (plus_pair (sum_of sums.old t) (part dir flow))) (sum_of sums.old t) }
     ensures sums { AreSums sums.new }
 {
-    let sum = plus_part(dir, sum_of(sums, term), flow);
+    let sum = add_part(dir, sum_of(sums, term), flow);
     sums[place_of(term)] = sum;
 }
 
@@ -92,7 +92,7 @@ fn add_entries<E: Entry>(sums: &mut [TermPair; 8], dir: Dir, own: Bound, entries
     requires fit { All E.fits entries.now }
     requires weights { All (λ x. E.weight x * E.unit < 2 ^ 123) entries.now }
     ensures value { (t : Term) → sum_of sums.new t
-        ≡ capped (plus_pair (sum_of sums.old t) (parts dir (map (entry_pair E.flow own.low own.high) (filter (λ x. is_term t (E.of x)) entries.now)))) }
+        ≡ capped_term (plus_pair (sum_of sums.old t) (parts dir (map (entry_pair E.flow own.low own.high) (filter (λ x. is_term t (E.of x)) entries.now)))) }
     ensures sums { AreSums sums.new }
 {
     for x in entries {
@@ -105,7 +105,7 @@ pub(crate) fn add_cell(sums: &mut [TermPair; 8], dir: Dir, own: Bound, cell: &Ce
     requires own { AreHeads own }
     requires sums { AreSums sums.old }
     requires fits { CellFits cell.now }
-    ensures value { (t : Term) → sum_of sums.new t ≡ capped (plus_pair (sum_of sums.old t) (parts dir (singles t cell.now own.low own.high))) }
+    ensures value { (t : Term) → sum_of sums.new t ≡ capped_term (plus_pair (sum_of sums.old t) (parts dir (singles t cell.now own.low own.high))) }
     ensures sums { AreSums sums.new }
 {
     add_entries(sums, dir, own, &cell.fixed);

@@ -2,7 +2,7 @@
 ghost use Rattle.std.specs.Prelude.{◌≡◌, IfOk};
 ghost use Rattle.step_problem.specs.{lower_at, upper_at};
 ghost use Rattle.cell_relax.specs.{AreWords};
-ghost use Rattle.budget_bounds.specs.{EnclosesBudgets, all_terms, budget_of, term_pair, capped, sum_of, tested, tested_budget, tested_terms};
+ghost use Rattle.budget_bounds.specs.{EnclosesBudgets, all_terms, budget_of, term_pair, capped_term, sum_of, term_or_refusal, tested_budget, tested_terms};
 ghost use Rattle.step_problem.specs.declared.place.Term.{Term};
 ghost use Rattle.step_problem.specs.declared.place.Dir.TheVariants.{In, Out};
 
@@ -10,9 +10,9 @@ use crate::pair::{Budget, TermPair};
 use crate::sums::{TERM_LIMIT, add_cell, sum_of};
 use step_problem::{Bound, Dir, NoBound, Place, Problem, StepRefusal, Term};
 
-#[tactic(auto, unfolding(crate::specs::Exact::tested))]
+#[tactic(auto, unfolding(crate::specs::Exact::term_or_refusal))]
 fn term_of(sums: &[TermPair; 8], dir: Dir, term: Term) -> Result<TermPair, NoBound>
-    ensures { result ≡ tested dir term (sum_of sums.now term) }
+    ensures { result ≡ term_or_refusal dir term (sum_of sums.now term) }
 {
     let sum = sum_of(sums, term);
     if sum.lo < TERM_LIMIT && sum.hi < TERM_LIMIT {
@@ -71,8 +71,8 @@ const NOTHING: TermPair = TermPair { lo: 0, hi: 0 };
 #[tactic(auto, using(crate::proofs::Caps::one_more, crate::proofs::Caps::all_below))]
 fn flow_sums(p: &Problem, bounds: &[Bound]) -> Budget
     requires { AreWords p.now bounds.now }
-    ensures into { (t : Term) → sum_of result.into t ≡ capped (term_pair p.now (lower_at bounds.now) (upper_at bounds.now) In t) }
-    ensures out { (t : Term) → sum_of result.out t ≡ capped (term_pair p.now (lower_at bounds.now) (upper_at bounds.now) Out t) }
+    ensures into { (t : Term) → sum_of result.into t ≡ capped_term (term_pair p.now (lower_at bounds.now) (upper_at bounds.now) In t) }
+    ensures out { (t : Term) → sum_of result.out t ≡ capped_term (term_pair p.now (lower_at bounds.now) (upper_at bounds.now) Out t) }
 {
     let mut into = [NOTHING; 8];
     let mut out = [NOTHING; 8];

@@ -12,14 +12,14 @@ pub use Rattle.std.specs.List.{AllZip, filter}
 pub use Rattle.cell_balance.specs.{AreLinked, BalanceFalls, BalanceRises, BoundsHold, CellEncloses, Compares, DrainEncloses, DrainLaws, DryLaw, EnclosesStep}
 pub use Rattle.cell_balance.specs.{EvapEncloses, EvapLaws, ExactCell, ExactDrain, ExactEvap, ExactFixed, ExactFlow, ExactLink, ExactRiver, FixedEncloses}
 pub use Rattle.cell_balance.specs.{FixedLaws, FlowEncloses, FlowsAreRight, HasEqualEnds, HasLinkBack, IsBelow, IsCarried, IsClosed, IsComparable, IsComponent}
-pub use Rattle.cell_balance.specs.{IsHeldBelow, Leads, LiesBelow, LiesBetween, LinkEncloses, LinksCancel, Reaches, RiverEncloses, RiverLaws, SolvesStep}
+pub use Rattle.cell_balance.specs.{IsHeldBelow, Leads, LeadsTo, LiesBelow, LiesBetween, LinkEncloses, LinksCancel, RiverEncloses, RiverLaws, SolvesStep}
 pub use Rattle.cell_balance.specs.{balance, cell_at, deep_flow, deep_low, drain_flow, evap_flow, example_barrier, example_heads, example_highs, example_lows}
 pub use Rattle.cell_balance.specs.{example_problem, example_step, first_cell, first_entries, fixed_flow, full_rate, greater, lesser, link_flow, minus, no_cell}
 pub use Rattle.cell_balance.specs.{no_link, one, over_difference, river_flow, second_cell, second_entries, share, sum_below, sum_inside, third_cell}
 pub use Rattle.cell_balance.specs.{third_entries, total_below, total_inside}
 pub use Rattle.decimal_input.proofs.FloorLaws.{cancel_right, le-add, le-antisym, le-of, mul_mono_right, negated_enclosed, swap}
-pub use Rattle.decimal_input.specs.{Encloses, EnclosesSigned, Fraction, IsBetweenSigned, IsBetweenWhole, IsOver, IsShare, Ratio, fraction_total, negated}
-pub use Rattle.decimal_input.specs.{signed, whole}
+pub use Rattle.decimal_input.specs.{Encloses, EnclosesSigned, Fraction, IsBetweenSigned, IsBetweenWhole, IsOver, IsShare, Ratio, as_fraction, fraction_total}
+pub use Rattle.decimal_input.specs.{opposite, whole}
 pub use Rattle.decimal_input.specs.Fractions.{AtMost, Same, den, plus, times}
 pub use Rattle.step_problem.proofs.Falls.{loss_falls, total_mono, total_mono_all}
 pub use Rattle.step_problem.proofs.Leasts.{as_diff, diffs, least_times, most_times, mul_add, mul_assoc, mul_le, mul_mono, mul_neg, mul_nonneg, mul_sub, neg_mul}

@@ -1,6 +1,6 @@
 -- Sums of enclosed fractions, and their parts, are enclosed.
 use Rattle.cell_balance.proofs.Common.{◌≡◌, ℕ, zero, suc, ◌*◌, ◌^◌, ◌<◌, refl, arith, List, [], ◌∷◌, Bool, true, false, map, ℤ, pos, neg_ℤ, ◌+ℤ◌, mul-pos, ◌≤ℤ◌}
-use Rattle.cell_balance.proofs.Common.{sym, ap, ◌∙◌, ◌*ℤ◌, ◌<ℤ◌, filter, AllZip, int_max, ints, clamps, by_lt_z, Fraction, whole, negated, fraction_total}
+use Rattle.cell_balance.proofs.Common.{sym, ap, ◌∙◌, ◌*ℤ◌, ◌<ℤ◌, filter, AllZip, int_max, ints, clamps, by_lt_z, Fraction, whole, opposite, fraction_total}
 use Rattle.cell_balance.proofs.Common.{EnclosesSigned, IsOver, den, plus, AtMost, Same, total, greater, sum_below, total_below, sum_inside, total_inside}
 use Rattle.cell_balance.proofs.Common.{IsBelow, le-add, le-antisym, le-of, negated_enclosed, cancel_right, mul_mono_right, swap, zero-*ℤ, mul_assoc, mul_comm}
 use Rattle.cell_balance.proofs.Deep.{add_mul}
@@ -81,8 +81,8 @@ in_encloses a b k f p =
     enclosed_over _ _ k n (greater f (whole (pos 0))) (int_max z (pos 0)) (omega arith) (IsOver-greater (n * 10 ^ k) f (whole (pos 0)) z (pos 0) over (IsOver-none (n * 10 ^ k)))
     (rw (max_times, zero-*ℤ) (omega (arith, ints, clamps, inside.lower))) (rw (max_times, zero-*ℤ) (omega (arith, ints, clamps, inside.upper)))
 
-pub out_encloses : (a b : ℤ) (k : ℕ) (f : Fraction) → EnclosesSigned a b k f → EnclosesSigned (int_max (neg_ℤ b) (pos 0)) (int_max (neg_ℤ a) (pos 0)) k (greater (negated f) (whole (pos 0)))
-out_encloses a b k f h = in_encloses (neg_ℤ b) (neg_ℤ a) k (negated f) (negated_enclosed a b k f h)
+pub out_encloses : (a b : ℤ) (k : ℕ) (f : Fraction) → EnclosesSigned a b k f → EnclosesSigned (int_max (neg_ℤ b) (pos 0)) (int_max (neg_ℤ a) (pos 0)) k (greater (opposite f) (whole (pos 0)))
+out_encloses a b k f h = in_encloses (neg_ℤ b) (neg_ℤ a) k (opposite f) (negated_enclosed a b k f h)
 
 -- over lists that are related place by place
 pub total_encloses : {X Y : Type 0} (R : X → Y → Type 0) (lo hi : X → ℤ) (k : ℕ) (f : Y → Fraction) → ((x : X) (y : Y) → R x y → EnclosesSigned (lo x) (hi x) k (f y)) → (xs : List X) (ys : List Y) → AllZip R xs ys → EnclosesSigned (total lo xs) (total hi xs) k (fraction_total f ys)

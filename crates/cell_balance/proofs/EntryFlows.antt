@@ -1,8 +1,8 @@
 -- What the manual says of single flows, from their whole numbers.
 use Rattle.cell_balance.proofs.Common.{◌≡◌, ℕ, zero, suc, ◌*◌, ◌<◌, ◌≤◌, refl, sym, ap, ◌∙◌, subst, arith, ℤ, pos, negsuc, neg_ℤ, ◌-ℤ◌, ◌*ℤ◌, ◌≤ℤ◌, ◌<ℤ◌}
-use Rattle.cell_balance.proofs.Common.{mul-pos, int_max, int_min, mul-le-mul_right, mul-le-mul, *ℤ-zero, ints, clamps, Ratio, Fraction, den, signed, negated}
-use Rattle.cell_balance.proofs.Common.{IsOver, IsShare, mul_nonneg, mul_neg, ExactFixed, ExactRiver, ExactDrain, ExactEvap, minus, fixed_flow, river_flow}
-use Rattle.cell_balance.proofs.Common.{drain_flow, evap_flow, full_rate, over_difference, FixedLaws, RiverLaws, DrainLaws, EvapLaws, FlowsAreRight}
+use Rattle.cell_balance.proofs.Common.{mul-pos, int_max, int_min, mul-le-mul_right, mul-le-mul, *ℤ-zero, ints, clamps, Ratio, Fraction, den, as_fraction}
+use Rattle.cell_balance.proofs.Common.{opposite, IsOver, IsShare, mul_nonneg, mul_neg, ExactFixed, ExactRiver, ExactDrain, ExactEvap, minus, fixed_flow}
+use Rattle.cell_balance.proofs.Common.{river_flow, drain_flow, evap_flow, full_rate, over_difference, FixedLaws, RiverLaws, DrainLaws, EvapLaws, FlowsAreRight}
 use Rattle.cell_balance.proofs.Scaling.{IsOver-times, IsOver-minus, IsOver-negated, IsOver-signed, over_zero}
 use Rattle.cell_balance.proofs.Enclosing.{over_le, le_over, same_over, negative_over, negative_below, positive_above, below_over}
 use Rattle.cell_balance.proofs.Denominators.{Goes-second, fraction_over, entry_den, some_entry}
@@ -25,8 +25,8 @@ mul_positive c (pos n) h k = let p : 1 * n ≤ c * n = mul-le-mul_right n h in o
 mul_positive c (negsuc n) h k = absurd (omega (arith, ints))
 
 -- C times a difference of heads, in whole numbers
-pub difference_over : (k m c : ℕ) (r : Ratio) (f g : Fraction) (a b : ℤ) → IsShare k r c → IsOver m f a → IsOver m g b → IsOver (k * m) (over_difference (signed r) f g) (pos c *ℤ (a -ℤ b))
-difference_over k m c r f g a b s p q = IsOver-times k m (signed r) (minus f g) (pos c) (a -ℤ b) (IsOver-signed k r c s) (IsOver-minus m f g a b p q)
+pub difference_over : (k m c : ℕ) (r : Ratio) (f g : Fraction) (a b : ℤ) → IsShare k r c → IsOver m f a → IsOver m g b → IsOver (k * m) (over_difference (as_fraction r) f g) (pos c *ℤ (a -ℤ b))
+difference_over k m c r f g a b s p q = IsOver-times k m (as_fraction r) (minus f g) (pos c) (a -ℤ b) (IsOver-signed k r c s) (IsOver-minus m f g a b p q)
 
 module _ (k m : ℕ) (some_k : 0 < k) (some_m : 0 < m) (v : Fraction) (y : ℤ) (own : IsOver m v y) where
   some : 0 < k * m
@@ -67,13 +67,13 @@ module _ (k m : ℕ) (some_k : 0 < k) (some_m : 0 < m) (v : Fraction) (y : ℤ) 
       wet : w.foot ≤ℤ y → whole_drain y w ≡ pos w.c *ℤ (w.foot -ℤ y)
       wet h = let e : neg_ℤ (int_max (y -ℤ w.foot) (pos 0)) ≡ w.foot -ℤ y = omega (arith, ints, clamps) in sym (mul_neg (pos w.c) (int_max (y -ℤ w.foot) (pos 0))) ∙ ap (λ (z : ℤ). pos w.c *ℤ z) e
 
-  all_out : (x : ExactEvap) (w : WholeEntry) → EvapOver k m x w → IsOver (k * m) (negated (full_rate x)) (neg_ℤ (whole_full w))
+  all_out : (x : ExactEvap) (w : WholeEntry) → EvapOver k m x w → IsOver (k * m) (opposite (full_rate x)) (neg_ℤ (whole_full w))
   all_out x w r = IsOver-negated (k * m) (full_rate x) (whole_full w) (full_over k m x w r)
 
   evap_laws : (x : ExactEvap) (w : WholeEntry) → EvapOver k m x w → EvapLaws v x
   evap_laws x w r = record {
     never_gives = negative_over (k * m) (evap_flow v x) (whole_evap y w) some flow (out (mul_nonneg (pos w.c) (int_max (int_min y w.top -ℤ w.foot) (pos 0)) (omega (arith, ints)) (omega (arith, ints, clamps))));
-    at_most_full = le_over (k * m) (negated (full_rate x)) (evap_flow v x) (neg_ℤ (whole_full w)) (whole_evap y w) some (all_out x w r) flow (evap_within_full y w);
+    at_most_full = le_over (k * m) (opposite (full_rate x)) (evap_flow v x) (neg_ℤ (whole_full w)) (whole_evap y w) some (all_out x w r) flow (evap_within_full y w);
     below = λ h. over_zero (k * m) (evap_flow v x) some (subst (λ (z : ℤ). IsOver (k * m) (evap_flow v x) z) (none (over_le m v x.extinction y w.foot own r.foot h)) flow);
     between = λ h i. same_over (k * m) _ _ _ _ some flow (difference_over k m w.c x.conductance x.extinction v w.foot y r.c r.foot own) (middle (over_le m x.extinction v w.foot y r.foot own h) (over_le m v x.surface y w.top own r.top i));
     above = λ h. same_over (k * m) _ _ _ _ some flow (all_out x w r) (top (over_le m x.surface v w.top y r.top own h));

@@ -1,6 +1,6 @@
 -- The example meets all that the comparison asks.
 use Rattle.cell_balance.proofs.Common.{◌≡◌, ℕ, zero, suc, ◌<◌, ◌⊎◌, inl, inr, refl, sym, arith, pos, neg_ℤ, ◌≤ℤ◌, true, nat_eq, cases_eq, ne_eqb, eq-eqb, ints}
-use Rattle.cell_balance.proofs.Common.{entries_at, Constant, lower_balance, upper_balance, head_at, IsCertificate, SolvesStep, LiesBetween, Reaches, Leads}
+use Rattle.cell_balance.proofs.Common.{entries_at, Constant, lower_balance, upper_balance, head_at, IsCertificate, SolvesStep, LiesBetween, LeadsTo, Leads}
 use Rattle.cell_balance.proofs.Common.{IsComponent, IsCarried, IsHeldBelow, IsComparable, example_problem, example_step, example_heads, example_barrier}
 use Rattle.cell_balance.proofs.Common.{example_lows, example_highs, balance, share, cell_at}
 use Rattle.cell_balance.proofs.ExampleProblem.{of_three, example_fits, example_encloses}
@@ -13,14 +13,14 @@ anchored (suc (suc c)) h = absurd (omega arith)
 third_component : IsComponent example_problem 2 (λ k. nat_eq k 2)
 third_component = record { reached = reached; whole = whole }
   where
-    reached : (k : ℕ) → nat_eq k 2 ≡ true → (j : ℕ) × Reaches example_problem j 2 k
+    reached : (k : ℕ) → nat_eq k 2 ≡ true → (j : ℕ) × LeadsTo example_problem j 2 k
     reached k t =
         elim (cases_eq k 2) [
           | inl e ↦ (0, sym e)
           | inr e ↦ absurd (cc (ne_eqb k 2 e))
         ]
 
-    whole : (j k : ℕ) → Reaches example_problem j 2 k → nat_eq k 2 ≡ true
+    whole : (j k : ℕ) → LeadsTo example_problem j 2 k → nat_eq k 2 ≡ true
     whole zero k way = eq-eqb k 2 (sym way)
     whole (suc j) k (x, has, way) = absurd (omega (arith, has.1))
 

@@ -1,7 +1,7 @@
 -- What holds the components of a problem holds the closed sets of the whole numbers of each step that it encloses.
 use Rattle.cell_balance.proofs.Common.{*ℤ-zero, ◌*◌, arith, length, pos, mul-pos, ◌*ℤ◌, ◌<ℤ◌, ◌<◌, ◌≡◌, ◌≤ℤ◌, All, Bool, List, get_or, inl, inr, refl, subst}
 use Rattle.cell_balance.proofs.Common.{suc, sym, true, zero, ℕ, ℤ, ◌≤◌, Contains, AllZip, ints, All-contains, Contains-get_or, IsBetweenWhole, total}
-use Rattle.cell_balance.proofs.Common.{entries_at, no_entries, IsHeldBelow, Reaches, deep_low, sum_inside, IsCarried, IsComponent, Entries, Link}
+use Rattle.cell_balance.proofs.Common.{entries_at, no_entries, IsHeldBelow, LeadsTo, deep_low, sum_inside, IsCarried, IsComponent, Entries, Link}
 use Rattle.cell_balance.proofs.Zips.{AllZip-length, All-zip, WholeCell, WholeEntry, whole_at, whole_deep, CellWithin, FixedWithin, LinkWithin, AllZip-at}
 use Rattle.cell_balance.proofs.Zips.{no_whole, whole_balance, IsDry}
 use Rattle.cell_balance.proofs.Scaling.{conducting, positive_times}
@@ -14,7 +14,7 @@ use Rattle.cell_balance.proofs.Dry.{IsMutual, total-none}
 
 -- The cells of a carried component do not all lie below their bottoms and drains.
 -- one more link at the end of a way
-pub Reaches-more : (p : List Entries) (j a k : ℕ) (x : Link) → Reaches p j a k → Contains (entries_at p k).links x → Reaches p (suc j) a x.cell
+pub Reaches-more : (p : List Entries) (j a k : ℕ) (x : Link) → LeadsTo p j a k → Contains (entries_at p k).links x → LeadsTo p (suc j) a x.cell
 Reaches-more p zero a k x way has = (x, subst (λ (z : ℕ). Contains (entries_at p z).links x) (sym way) has, refl)
 Reaches-more p (suc j) a k x (z, there, rest) has = (z, there, Reaches-more p j z.cell k x rest has)
 
@@ -70,7 +70,7 @@ module _ (m n : ℕ) (some_m : 0 < m) (some_n : 0 < n) (p : List Entries) (w : L
         (entries_at p c).links (whole_at w c).links (cell_within m n p w within c i).links
         (links_lead_to_weight (λ k. S k ≡ true) (length w) (whole_at w c).links (λ k k_in conducts. closed c k (omega (arith, i, as_many)) k_in inside conducts))
 
-    pub along : (S : ℕ → Bool) → IsClosed (length w) (a_of w) S → (j c k : ℕ) → c < length p → S c ≡ true → Reaches p j c k → (k < length p) × (S k ≡ true)
+    pub along : (S : ℕ → Bool) → IsClosed (length w) (a_of w) S → (j c k : ℕ) → c < length p → S c ≡ true → LeadsTo p j c k → (k < length p) × (S k ≡ true)
     along S closed zero c k i inside way = (subst (λ (z : ℕ). z < length p) way i, subst (λ (z : ℕ). S z ≡ true) way inside)
     along S closed (suc j) c k i inside (x, has, way) =
         let (range, there) = All-contains (λ x. (x.cell < length p) × (S x.cell ≡ true)) (entries_at p c).links x (goes_on S closed c i inside) has in

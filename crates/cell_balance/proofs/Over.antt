@@ -1,7 +1,8 @@
 -- An exact step and its whole numbers: conductances over k, heads over m, flows over k * m.
-use Rattle.cell_balance.proofs.Common.{◌≡◌, ℕ, ◌*◌, subst, arith, ℤ, pos, ◌+ℤ◌, ◌-ℤ◌, ◌*ℤ◌, AllZip, int_max, int_min, ints, Fraction, IsOver, whole, signed}
-use Rattle.cell_balance.proofs.Common.{times, Ratio, IsShare, total, ExactFlow, ExactLink, ExactFixed, ExactRiver, ExactDrain, ExactEvap, ExactCell, minus}
-use Rattle.cell_balance.proofs.Common.{greater, lesser, link_flow, fixed_flow, river_flow, drain_flow, evap_flow, balance, deep_flow, full_rate}
+use Rattle.cell_balance.proofs.Common.{◌≡◌, ℕ, ◌*◌, subst, arith, ℤ, pos, ◌+ℤ◌, ◌-ℤ◌, ◌*ℤ◌, AllZip, int_max, int_min, ints, Fraction, IsOver, whole}
+use Rattle.cell_balance.proofs.Common.{as_fraction, times, Ratio, IsShare, total, ExactFlow, ExactLink, ExactFixed, ExactRiver, ExactDrain, ExactEvap}
+use Rattle.cell_balance.proofs.Common.{ExactCell, minus, greater, lesser, link_flow, fixed_flow, river_flow, drain_flow, evap_flow, balance, deep_flow}
+use Rattle.cell_balance.proofs.Common.{full_rate}
 use Rattle.cell_balance.specs.{deep_river}
 use Rattle.cell_balance.proofs.Scaling.{IsOver-plus, IsOver-times, IsOver-negated, IsOver-minus, IsOver-none, IsOver-signed, IsOver-greater, IsOver-lesser}
 use Rattle.cell_balance.proofs.Scaling.{IsOver-total}
@@ -42,12 +43,12 @@ module _ (k m : ℕ) where
     pub evaps : AllZip EvapOver e.evaps w.evaps
 
   pub deep_river_over : (e : ExactRiver) (w : WholeEntry) → RiverOver e w → IsOver (k * m) (deep_river e) (whole_deep_river w)
-  deep_river_over e w r = IsOver-times k m (signed e.conductance) (minus e.stage e.bottom) (pos w.c) _ (IsOver-signed k e.conductance w.c r.c) (IsOver-minus m e.stage e.bottom w.top w.foot r.top r.foot)
+  deep_river_over e w r = IsOver-times k m (as_fraction e.conductance) (minus e.stage e.bottom) (pos w.c) _ (IsOver-signed k e.conductance w.c r.c) (IsOver-minus m e.stage e.bottom w.top w.foot r.top r.foot)
 
   pub full_over : (e : ExactEvap) (w : WholeEntry) → EvapOver e w → IsOver (k * m) (full_rate e) (whole_full w)
   full_over e w r =
       let depth = IsOver-greater m (minus e.surface e.extinction) (whole (pos 0)) (w.top -ℤ w.foot) (pos 0) (IsOver-minus m e.surface e.extinction w.top w.foot r.top r.foot) (IsOver-none m) in
-      IsOver-times k m (signed e.conductance) (greater (minus e.surface e.extinction) (whole (pos 0))) (pos w.c) _ (IsOver-signed k e.conductance w.c r.c) depth
+      IsOver-times k m (as_fraction e.conductance) (greater (minus e.surface e.extinction) (whole (pos 0))) (pos w.c) _ (IsOver-signed k e.conductance w.c r.c) depth
 
   pub deep_over : (e : ExactCell) (w : WholeCell) → CellOver e w → IsOver (k * m) (deep_flow e) (whole_deep w)
   deep_over e w o =
@@ -62,29 +63,29 @@ module _ (k m : ℕ) where
   module _ (v : Fraction) (y : ℤ) (own : IsOver m v y) where
     pub link_over : (h : ℕ → Fraction) (Y : ℕ → ℤ) → ((c : ℕ) → IsOver m (h c) (Y c)) → (e : ExactLink) (w : WholeLink) → LinkOver e w → IsOver (k * m) (link_flow h v e) (whole_link Y y w)
     link_over h Y heads e w r =
-        IsOver-times k m (signed e.conductance) (minus (h e.cell) v) (pos w.c) (Y w.cell -ℤ y) (IsOver-signed k e.conductance w.c r.c)
+        IsOver-times k m (as_fraction e.conductance) (minus (h e.cell) v) (pos w.c) (Y w.cell -ℤ y) (IsOver-signed k e.conductance w.c r.c)
         (IsOver-minus m (h e.cell) v (Y w.cell) y (subst (λ (z : ℕ). IsOver m (h e.cell) (Y z)) r.same (heads e.cell)) own)
 
     pub fixed_over : (e : ExactFixed) (w : WholeEntry) → FixedOver e w → IsOver (k * m) (fixed_flow v e) (whole_fixed y w)
-    fixed_over e w r = IsOver-times k m (signed e.conductance) (minus e.head v) (pos w.c) (w.top -ℤ y) (IsOver-signed k e.conductance w.c r.c) (IsOver-minus m e.head v w.top y r.top own)
+    fixed_over e w r = IsOver-times k m (as_fraction e.conductance) (minus e.head v) (pos w.c) (w.top -ℤ y) (IsOver-signed k e.conductance w.c r.c) (IsOver-minus m e.head v w.top y r.top own)
 
     pub river_over : (e : ExactRiver) (w : WholeEntry) → RiverOver e w → IsOver (k * m) (river_flow v e) (whole_river y w)
     river_over e w r =
-        IsOver-times k m (signed e.conductance) (minus e.stage (greater v e.bottom)) (pos w.c) (w.top -ℤ int_max y w.foot) (IsOver-signed k e.conductance w.c r.c)
+        IsOver-times k m (as_fraction e.conductance) (minus e.stage (greater v e.bottom)) (pos w.c) (w.top -ℤ int_max y w.foot) (IsOver-signed k e.conductance w.c r.c)
         (IsOver-minus m e.stage (greater v e.bottom) w.top (int_max y w.foot) r.top (IsOver-greater m v e.bottom y w.foot own r.foot))
 
     pub drain_over : (e : ExactDrain) (w : WholeEntry) → DrainOver e w → IsOver (k * m) (drain_flow v e) (whole_drain y w)
     drain_over e w r =
         let depth = IsOver-greater m (minus v e.elevation) (whole (pos 0)) (y -ℤ w.foot) (pos 0) (IsOver-minus m v e.elevation y w.foot own r.foot) (IsOver-none m) in
-        let out = IsOver-times k m (signed e.conductance) (greater (minus v e.elevation) (whole (pos 0))) (pos w.c) (int_max (y -ℤ w.foot) (pos 0)) (IsOver-signed k e.conductance w.c r.c) depth in
-        IsOver-negated (k * m) (times (signed e.conductance) (greater (minus v e.elevation) (whole (pos 0)))) (pos w.c *ℤ int_max (y -ℤ w.foot) (pos 0)) out
+        let out = IsOver-times k m (as_fraction e.conductance) (greater (minus v e.elevation) (whole (pos 0))) (pos w.c) (int_max (y -ℤ w.foot) (pos 0)) (IsOver-signed k e.conductance w.c r.c) depth in
+        IsOver-negated (k * m) (times (as_fraction e.conductance) (greater (minus v e.elevation) (whole (pos 0)))) (pos w.c *ℤ int_max (y -ℤ w.foot) (pos 0)) out
 
     pub evap_over : (e : ExactEvap) (w : WholeEntry) → EvapOver e w → IsOver (k * m) (evap_flow v e) (whole_evap y w)
     evap_over e w r =
         let top = IsOver-lesser m v e.surface y w.top own r.top in
         let depth = IsOver-greater m (minus (lesser v e.surface) e.extinction) (whole (pos 0)) (int_min y w.top -ℤ w.foot) (pos 0) (IsOver-minus m (lesser v e.surface) e.extinction (int_min y w.top) w.foot top r.foot) (IsOver-none m) in
-        let out = IsOver-times k m (signed e.conductance) (greater (minus (lesser v e.surface) e.extinction) (whole (pos 0))) (pos w.c) (int_max (int_min y w.top -ℤ w.foot) (pos 0)) (IsOver-signed k e.conductance w.c r.c) depth in
-        IsOver-negated (k * m) (times (signed e.conductance) (greater (minus (lesser v e.surface) e.extinction) (whole (pos 0)))) (pos w.c *ℤ int_max (int_min y w.top -ℤ w.foot) (pos 0)) out
+        let out = IsOver-times k m (as_fraction e.conductance) (greater (minus (lesser v e.surface) e.extinction) (whole (pos 0))) (pos w.c) (int_max (int_min y w.top -ℤ w.foot) (pos 0)) (IsOver-signed k e.conductance w.c r.c) depth in
+        IsOver-negated (k * m) (times (as_fraction e.conductance) (greater (minus (lesser v e.surface) e.extinction) (whole (pos 0)))) (pos w.c *ℤ int_max (int_min y w.top -ℤ w.foot) (pos 0)) out
 
     pub balance_over : (h : ℕ → Fraction) (Y : ℕ → ℤ) → ((c : ℕ) → IsOver m (h c) (Y c)) → (e : ExactCell) (w : WholeCell) → CellOver e w → IsOver (k * m) (balance e v h) (whole_balance w y Y)
     balance_over h Y heads e w r =

@@ -1,6 +1,6 @@
 -- Arithmetic of fractions goes over to whole numbers over a common denominator.
 use Rattle.cell_balance.proofs.Common.{◌≡◌, ℕ, zero, suc, ◌+◌, ◌*◌, ◌<◌, sym, ap, ◌∙◌, arith, ℤ, pos, neg_ℤ, ◌+ℤ◌, ◌-ℤ◌, ◌*ℤ◌, List, [], ◌∷◌, ◌≤◌, refl, negsuc}
-use Rattle.cell_balance.proofs.Common.{◌≤ℤ◌, ◌<ℤ◌, AllZip, int_max, int_min, ints, clamps, by_lt_z, zero-*ℤ, Ratio, Fraction, whole, signed, negated}
+use Rattle.cell_balance.proofs.Common.{◌≤ℤ◌, ◌<ℤ◌, AllZip, int_max, int_min, ints, clamps, by_lt_z, zero-*ℤ, Ratio, Fraction, whole, as_fraction, opposite}
 use Rattle.cell_balance.proofs.Common.{fraction_total, IsOver, IsShare, den, plus, times, diffs, as_diff, same_diff, mul_mono, mul_add, neg_mul, total, minus}
 use Rattle.cell_balance.proofs.Common.{greater, lesser, mul_mono_right, swap, mul-le-mul_right, *ℤ_comm}
 
@@ -61,11 +61,11 @@ IsOver-times d n f g a b p q = record {
   is = product_ring f.num g.num (pos d) (pos n) ∙ rw (p.is, q.is) (product_ring a (pos (den f)) b (pos (den g)) ∙ ap (λ (k : ℤ). (a *ℤ b) *ℤ k) (sym (den_product f g)));
 }
 
-pub IsOver-negated : (d : ℕ) (f : Fraction) (a : ℤ) → IsOver d f a → IsOver d (negated f) (neg_ℤ a)
+pub IsOver-negated : (d : ℕ) (f : Fraction) (a : ℤ) → IsOver d f a → IsOver d (opposite f) (neg_ℤ a)
 IsOver-negated d f a p = record { is = neg_mul f.num (pos d) ∙ ap neg_ℤ p.is ∙ sym (neg_mul a (pos (den f))) }
 
 pub IsOver-minus : (d : ℕ) (f g : Fraction) (a b : ℤ) → IsOver d f a → IsOver d g b → IsOver d (minus f g) (a -ℤ b)
-IsOver-minus d f g a b p q = rw (sub_is a b) (IsOver-plus d f (negated g) a (neg_ℤ b) p (IsOver-negated d g b q))
+IsOver-minus d f g a b p q = rw (sub_is a b) (IsOver-plus d f (opposite g) a (neg_ℤ b) p (IsOver-negated d g b q))
   where
     sub_is : (a b : ℤ) → a -ℤ b ≡ a +ℤ neg_ℤ b
     sub_is a b = omega (arith, ints)
@@ -73,7 +73,7 @@ IsOver-minus d f g a b p q = rw (sub_is a b) (IsOver-plus d f (negated g) a (neg
 pub IsOver-none : (d : ℕ) → IsOver d (whole (pos 0)) (pos 0)
 IsOver-none d = record { is = zero-*ℤ (pos d) }
 
-pub IsOver-signed : (d : ℕ) (r : Ratio) (n : ℕ) → IsShare d r n → IsOver d (signed r) (pos n)
+pub IsOver-signed : (d : ℕ) (r : Ratio) (n : ℕ) → IsShare d r n → IsOver d (as_fraction r) (pos n)
 IsOver-signed d r n h = record { is = ap pos h.is }
 
 -- the greater of two numbers, times a whole number

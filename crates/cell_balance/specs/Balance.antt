@@ -1,13 +1,13 @@
 -- The flow of each kind into a variable cell, and their sum, at heads that are fractions (TM 6-A16, chapters 2 and 6). A flow into the cell is positive.
 use Rattle.std.specs.Prelude.{ℕ, ◌+◌, ◌*◌, pos, ◌*ℤ◌, ◌≡◌, ◌-◌, ◌^◌, ◌<◌, List, length, ℤ, ◌≤ℤ◌, zero, suc, All, Bool, true, cond}
 use Rattle.std.specs.Int.{int_max, int_min}
-use Rattle.decimal_input.specs.{Fraction, whole, signed, negated, fraction_total}
+use Rattle.decimal_input.specs.{Fraction, whole, as_fraction, opposite, fraction_total}
 use Rattle.decimal_input.specs.Fractions.{den, plus, times, AtMost}
 use Rattle.cell_balance.specs.Steps.{ExactLink, ExactFixed, ExactRiver, ExactDrain, ExactEvap, ExactCell, cell_at}
 
 -- f - g
 abbrev pub minus : Fraction → Fraction → Fraction
-minus f g = plus f (negated g)
+minus f g = plus f (opposite g)
 
 -- the greater and the lesser of two fractions, over the product of their denominators
 abbrev pub greater : Fraction → Fraction → Fraction
@@ -18,22 +18,22 @@ lesser f g = record { num = int_min (f.num *ℤ pos (den g)) (g.num *ℤ pos (de
 
 -- C * (head at the other end - head) (TM 6-A16, chapter 2: Darcy's law between two cells, by the conductance)
 abbrev pub link_flow : (ℕ → Fraction) → Fraction → ExactLink → Fraction
-link_flow h v x = times (signed x.conductance) (minus (h x.cell) v)
+link_flow h v x = times (as_fraction x.conductance) (minus (h x.cell) v)
 
 abbrev pub fixed_flow : Fraction → ExactFixed → Fraction
-fixed_flow v x = times (signed x.conductance) (minus x.head v)
+fixed_flow v x = times (as_fraction x.conductance) (minus x.head v)
 
 -- C * (stage - head), where the head counts from the river's bottom up (TM 6-A16, chapter 6, RIV)
 abbrev pub river_flow : Fraction → ExactRiver → Fraction
-river_flow v x = times (signed x.conductance) (minus x.stage (greater v x.bottom))
+river_flow v x = times (as_fraction x.conductance) (minus x.stage (greater v x.bottom))
 
 -- -C * (head - elevation) above the drain's elevation, 0 below (TM 6-A16, chapter 6, DRN)
 abbrev pub drain_flow : Fraction → ExactDrain → Fraction
-drain_flow v x = negated (times (signed x.conductance) (greater (minus v x.elevation) (whole (pos 0))))
+drain_flow v x = opposite (times (as_fraction x.conductance) (greater (minus v x.elevation) (whole (pos 0))))
 
 -- -C * (head - extinction), where the head counts from the extinction elevation up to the surface (TM 6-A16, chapter 6, EVT)
 abbrev pub evap_flow : Fraction → ExactEvap → Fraction
-evap_flow v x = negated (times (signed x.conductance) (greater (minus (lesser v x.surface) x.extinction) (whole (pos 0))))
+evap_flow v x = opposite (times (as_fraction x.conductance) (greater (minus (lesser v x.surface) x.extinction) (whole (pos 0))))
 
 -- The balance of a cell at its head v, where the cell of index k has the head h k: the sum of all flows into it (TM
 -- 6-A16, chapter 2, the finite-difference equation with all terms on one side).
@@ -77,11 +77,11 @@ IsClosed e inside = (c : ℕ) → c < length e → inside c ≡ true → All (λ
 
 -- what a river gives where the head is at or below its bottom: C * (stage - bottom) (TM 6-A16, chapter 6, RIV)
 abbrev pub deep_river : ExactRiver → Fraction
-deep_river x = times (signed x.conductance) (minus x.stage x.bottom)
+deep_river x = times (as_fraction x.conductance) (minus x.stage x.bottom)
 
 -- what an evapotranspiration takes where the head is at or above the surface: its greatest rate (TM 6-A16, chapter 6, EVT)
 abbrev pub full_rate : ExactEvap → Fraction
-full_rate x = times (signed x.conductance) (greater (minus x.surface x.extinction) (whole (pos 0)))
+full_rate x = times (as_fraction x.conductance) (greater (minus x.surface x.extinction) (whole (pos 0)))
 
 -- A cell's deep flow: its constant flows and its rivers at their bottoms, less its evapotranspirations at their full rate.
 abbrev pub deep_flow : ExactCell → Fraction

@@ -80,9 +80,9 @@ abbrev pub deep_low : Entries → ℤ
 deep_low c = total (λ x. x.lo) c.flows +ℤ total (deep_river Low) c.rivers -ℤ total (λ x. pos (full_rate x)) c.evaps
 
 -- j links lead from cell a to cell b
-abbrev pub Reaches : List Entries → ℕ → ℕ → ℕ → Type 0
-Reaches p zero a b = a ≡ b
-Reaches p (suc j) a b = (x : Link) × Contains (entries_at p a).links x × Reaches p j x.cell b
+abbrev pub LeadsTo : List Entries → ℕ → ℕ → ℕ → Type 0
+LeadsTo p zero a b = a ≡ b
+LeadsTo p (suc j) a b = (x : Link) × Contains (entries_at p a).links x × LeadsTo p j x.cell b
 
 -- An anchored cell: a fixed link of it certainly conducts.
 abbrev pub IsAnchored : List Entries → ℕ → Type 0
@@ -90,12 +90,12 @@ IsAnchored p c = (x : Fixed) × Contains (entries_at p c).fixed x × (0 < x.lo)
 
 -- j links lead from cell c to an anchored cell
 abbrev pub Leads : List Entries → ℕ → ℕ → Type 0
-Leads p j c = (a : ℕ) × Reaches p j c a × IsAnchored p a
+Leads p j c = (a : ℕ) × LeadsTo p j c a × IsAnchored p a
 
 -- The test holds exactly for the component of cell c: the cells to which links lead from it.
 pub record IsComponent (p : List Entries) (c : ℕ) (inside : ℕ → Bool) : Type 0 where
-  pub reached : (k : ℕ) → inside k ≡ true → (j : ℕ) × Reaches p j c k
-  pub whole : (j k : ℕ) → Reaches p j c k → inside k ≡ true
+  pub reached : (k : ℕ) → inside k ≡ true → (j : ℕ) × LeadsTo p j c k
+  pub whole : (j k : ℕ) → LeadsTo p j c k → inside k ≡ true
 
 -- A carried cell: the sum of the deep flows of its component is above 0.
 pub record IsCarried (p : List Entries) (c : ℕ) : Type 0 where

@@ -1,6 +1,6 @@
 -- Laws of exact balances, and the comparison of bounds with solutions. Heads are whole numerators over one denominator d.
 use Rattle.std.specs.Prelude.{◌≡◌, ℕ, ◌<◌, List, length, All, Bool, true, ℤ, pos, ◌≤ℤ◌, ◌+◌, ◌*ℤ◌, ◌<ℤ◌}
-use Rattle.decimal_input.specs.{fraction_total, Fraction, signed, negated, EnclosesSigned}
+use Rattle.decimal_input.specs.{fraction_total, Fraction, as_fraction, opposite, EnclosesSigned}
 use Rattle.decimal_input.specs.Fractions.{AtMost, den, times, Same}
 use Rattle.step_problem.specs.Entries.{Entries}
 use Rattle.step_problem.specs.{IsProblem, Edges, head_at, IsCertificate, link_flow as link_bound, fixed_flow as fixed_bound, river_flow as river_bound}
@@ -77,23 +77,23 @@ pub record FixedLaws (v : Fraction) (x : ExactFixed) : Type 0 where
 -- a river takes water where the head is above its stage, gives C * (stage - head) above its bottom and the constant C * (stage - bottom) below it
 pub record RiverLaws (v : Fraction) (x : ExactRiver) : Type 0 where
   pub takes : 0 < x.conductance.num → IsBelow x.stage v → (river_flow v x).num <ℤ pos 0
-  pub above : AtMost x.bottom v → Same (river_flow v x) (over_difference (signed x.conductance) x.stage v)
+  pub above : AtMost x.bottom v → Same (river_flow v x) (over_difference (as_fraction x.conductance) x.stage v)
   pub below : AtMost v x.bottom → Same (river_flow v x) (deep_river x)
 
 -- a drain never gives water, takes none at or below its elevation, and takes C * (head - elevation) above it
 pub record DrainLaws (v : Fraction) (x : ExactDrain) : Type 0 where
   pub never_gives : (drain_flow v x).num ≤ℤ pos 0
   pub below : AtMost v x.elevation → (drain_flow v x).num ≡ pos 0
-  pub above : AtMost x.elevation v → Same (drain_flow v x) (over_difference (signed x.conductance) x.elevation v)
+  pub above : AtMost x.elevation v → Same (drain_flow v x) (over_difference (as_fraction x.conductance) x.elevation v)
 
 -- an evapotranspiration takes between nothing and its full rate: nothing at or below the extinction elevation, the
 -- full rate at or above the surface, and in proportion between
 pub record EvapLaws (v : Fraction) (x : ExactEvap) : Type 0 where
   pub never_gives : (evap_flow v x).num ≤ℤ pos 0
-  pub at_most_full : AtMost (negated (full_rate x)) (evap_flow v x)
+  pub at_most_full : AtMost (opposite (full_rate x)) (evap_flow v x)
   pub below : AtMost v x.extinction → (evap_flow v x).num ≡ pos 0
-  pub between : AtMost x.extinction v → AtMost v x.surface → Same (evap_flow v x) (over_difference (signed x.conductance) x.extinction v)
-  pub above : AtMost x.surface v → Same (evap_flow v x) (negated (full_rate x))
+  pub between : AtMost x.extinction v → AtMost v x.surface → Same (evap_flow v x) (over_difference (as_fraction x.conductance) x.extinction v)
+  pub above : AtMost x.surface v → Same (evap_flow v x) (opposite (full_rate x))
 
 pub record FlowsAreRight : Type 0 where
   pub fixed : (v : Fraction) (x : ExactFixed) → FixedLaws v x

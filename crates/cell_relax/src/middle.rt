@@ -1,11 +1,11 @@
 // Halving an interval of heads.
 ghost use Rattle.std.specs.Prelude.{◌+◌, pos, ◌+ℤ◌, ◌<ℤ◌};
-ghost use Rattle.step_problem.specs.{IsWithin, head_limit};
+ghost use Rattle.step_problem.specs.{IsMagnitudeAtMost, head_limit};
 
 /// A number strictly between two that are not neighbours.
 pub fn middle_of(low: i64, high: i64) -> i64
-    requires low { IsWithin low (head_limit + 1) }
-    requires high { IsWithin high (head_limit + 1) }
+    requires low { IsMagnitudeAtMost low (head_limit + 1) }
+    requires high { IsMagnitudeAtMost high (head_limit + 1) }
     requires apart { (low +ℤ pos 1) <ℤ high }
     ensures above { low <ℤ result }
     ensures below { result <ℤ high }
@@ -69,8 +69,8 @@ impl Trend {
 
     /// The next trial: a number strictly between two that are not neighbours.
     pub fn next(self, reached: i64, beyond: i64) -> i64
-        requires reached { IsWithin reached (head_limit + 1) }
-        requires beyond { IsWithin beyond (head_limit + 1) }
+        requires reached { IsMagnitudeAtMost reached (head_limit + 1) }
+        requires beyond { IsMagnitudeAtMost beyond (head_limit + 1) }
         requires apart { (reached +ℤ pos 1) <ℤ beyond }
         ensures above { reached <ℤ result }
         ensures below { result <ℤ beyond }

@@ -4,7 +4,7 @@ use Rattle.certificate_check.proofs.Common.{pair_certifies, HoldsAt, Certificate
 use Rattle.certificate_check.proofs.Common.{ClampedPairEncloses, bounds_enclose}
 use Rattle.std.proofs.lemmas.Int.{by_lt_z, clamps, ints}
 use Rattle.decimal_input.proofs.FloorLaws.{le-trans, mul_mono_right}
-use Rattle.barrier_vector.specs.{clamp, clamped, range_on}
+use Rattle.barrier_vector.specs.{clamp, clamped_edges, range_on}
 use Rattle.barrier_vector.proofs.Cutting.{refusal_is_one}
 use Rattle.barrier_vector.proofs.Outlining.{clamped_at}
 use Rattle.certificate_check.proofs.Certified.{certificate_compares}
@@ -64,7 +64,7 @@ high_clamped d f y range uncut =
 pub clamped_encloses : ClampedPairEncloses
 clamped_encloses p b l u ok barrier held uncut pair s e d X encloses some solves range =
     let lies = uncut s e d X encloses some solves in
-    certificate_compares p (clamped b) l u ok (pair_certifies p (clamped b) l u ok barrier pair) held s e d X encloses some solves
+    certificate_compares p (clamped_edges b) l u ok (pair_certifies p (clamped_edges b) l u ok barrier pair) held s e d X encloses some solves
     (record {
       low = λ c i. rw (clamped_at b.floor c) (low_clamped d (head_at b.floor c) (X c *ℤ pos (10 ^ 9)) (range.low c i) (lies.low c i));
       high = λ c i. rw (clamped_at b.ceiling c) (high_clamped d (head_at b.ceiling c) (X c *ℤ pos (10 ^ 9)) (range.high c i) (lies.high c i));

@@ -7,7 +7,7 @@ use Rattle.step_problem.specs.declared.place.NoBound.{NoBound}
 use Rattle.step_problem.specs.Entries.{Entries}
 use Rattle.step_problem.specs.{entries_at, lower_balance, upper_balance, Edges, head_at, lower_at, upper_at, IsBarrier, IsSettledPair, IsCertificate, IsProblem}
 use Rattle.step_problem.specs.{head_limit, bound_on}
-use Rattle.barrier_vector.specs.{range_on, Refuses, EnclosesUncut, clamped, IsOutOfRange}
+use Rattle.barrier_vector.specs.{range_on, Refuses, EnclosesUncut, clamped_edges, IsOutOfRange}
 use Rattle.certificate_check.specs.declared.Verdict.{Verdict}
 use Rattle.certificate_check.specs.declared.Verdict.TheVariants.{Yes, No}
 use Rattle.cell_relax.specs.{AreWords}
@@ -61,7 +61,7 @@ IsCutAt b c side = IsOutOfRange side (bound_on side (head_at b.floor c) (head_at
 -- Words that are a certificate over the clamped barrier are one over the cut barrier, but perhaps at the cells whose floor or ceiling was cut.
 abbrev pub FailsOnlyWhereCut : Type 0
 FailsOnlyWhereCut =
-    (p : List Entries) (b : Edges) (words : List Bound) → IsCertificate p (clamped b) (lower_at words) (upper_at words) →
+    (p : List Entries) (b : Edges) (words : List Bound) → IsCertificate p (clamped_edges b) (lower_at words) (upper_at words) →
     (c : ℕ) (side : Side) → c < length p → (IsCutAt b c side → ⊥) → HoldsAt p b words c side
 
 -- Words that are a certificate over the cut barrier have no refusal for the range of heads.
@@ -76,6 +76,6 @@ RangeRefusalIsOne = (p : List Entries) (b : Edges) (words : List Bound) (n m : N
 -- The settled pair over the clamped barrier encloses every solution whose heads are in the range of heads, also where it is refused.
 abbrev pub ClampedPairEncloses : Type 0
 ClampedPairEncloses =
-    (p : List Entries) (b : Edges) (l u : ℕ → ℤ) → IsProblem p → IsBarrier p (clamped b) → IsHeldBelow p → EnclosesUncut p b → IsSettledPair p (clamped b) l u →
+    (p : List Entries) (b : Edges) (l u : ℕ → ℤ) → IsProblem p → IsBarrier p (clamped_edges b) → IsHeldBelow p → EnclosesUncut p b → IsSettledPair p (clamped_edges b) l u →
     (s : ℕ) (e : List ExactCell) (d : ℕ) (X : ℕ → ℤ) → EnclosesStep s p e → 0 < d → SolvesStep e d X →
     LiesBetween (length p) d X (λ c. neg_ℤ (pos head_limit)) (λ c. pos head_limit) → LiesBetween (length p) d X l u

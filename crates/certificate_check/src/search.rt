@@ -4,7 +4,7 @@ ghost use Rattle.step_problem.specs.{lower_at, upper_at, IsCertificate};
 ghost use Rattle.cell_relax.specs.{AreWords};
 ghost use Rattle.certificate_check.specs.{HoldsAt, IsFirstFailing, IsRangeRefusal};
 ghost use Rattle.cell_balance.specs.{IsHeldBelow, EnclosesSolutions};
-ghost use Rattle.barrier_vector.specs.{IsLeastWith, EnclosesUncut, clamped};
+ghost use Rattle.barrier_vector.specs.{IsLeastWith, EnclosesUncut, clamped_edges};
 
 use barrier_vector::{is_out_of_range, out_of_range};
 use cell_relax::balance_in;
@@ -71,7 +71,7 @@ fn holds(p: &Problem, barrier: &Barrier, bounds: &[Bound], cell: usize, side: Si
     requires floors { length barrier.now.floor ≡ length p.now }
     requires ceilings { length barrier.now.ceiling ≡ length p.now }
     requires bounds { AreWords p.now bounds.now }
-    requires settled { IsCertificate p.now (clamped barrier.now) (lower_at bounds.now) (upper_at bounds.now) }
+    requires settled { IsCertificate p.now (clamped_edges barrier.now) (lower_at bounds.now) (upper_at bounds.now) }
     ensures { IsTrue result ↔ HoldsAt p.now barrier.now bounds.now cell side }
 {
     let bound = side.bound_of(barrier.floor[cell], barrier.ceiling[cell]);
@@ -83,7 +83,7 @@ fn first_on(p: &Problem, barrier: &Barrier, bounds: &[Bound], side: Side) -> Opt
     requires floors { length barrier.now.floor ≡ length p.now }
     requires ceilings { length barrier.now.ceiling ≡ length p.now }
     requires bounds { AreWords p.now bounds.now }
-    requires settled { IsCertificate p.now (clamped barrier.now) (lower_at bounds.now) (upper_at bounds.now) }
+    requires settled { IsCertificate p.now (clamped_edges barrier.now) (lower_at bounds.now) (upper_at bounds.now) }
     ensures { MatchOption result ((c : ℕ) → c < length p.now → HoldsAt p.now barrier.now bounds.now c side)
         (IsLeastWith p.now (λ c. HoldsAt p.now barrier.now bounds.now c side → ⊥)) }
 {
@@ -102,7 +102,7 @@ pub fn range_refusal(p: &Problem, barrier: &Barrier, bounds: &[Bound]) -> Option
     requires floors { length barrier.now.floor ≡ length p.now }
     requires ceilings { length barrier.now.ceiling ≡ length p.now }
     requires bounds { AreWords p.now bounds.now }
-    requires settled { IsCertificate p.now (clamped barrier.now) (lower_at bounds.now) (upper_at bounds.now) }
+    requires settled { IsCertificate p.now (clamped_edges barrier.now) (lower_at bounds.now) (upper_at bounds.now) }
     ensures exact { MatchOption result (IsCertificate p.now barrier.now (lower_at bounds.now) (upper_at bounds.now))
         (IsRangeRefusal p.now barrier.now bounds.now) }
     // So without a refusal the heads enclose every solution, where each component is anchored or carried.

@@ -37,7 +37,7 @@ pub use Rattle.exact_histories.specs.{HaveOneBy, HaveOneHistory}
 pub use Rattle.flow_equations.proofs.Links.{below_is, index_is}
 pub use Rattle.flow_equations.specs.{exact_step, heads_of, variable_heads}
 pub use Rattle.listing_io.specs.{AreCellBounds, AreFlows, AreListed, IsCellBound, IsFlowPair, IsListedAt, IsListedStep, IsPairIf, IsTime, IsWritable}
-pub use Rattle.listing_io.specs.{ListingsAreReadAgain, all_lines, ended, first_line, has_evt, is_printed, listing_at, step_in, step_lines, zone_pair}
+pub use Rattle.listing_io.specs.{ListingsAreReadAgain, all_lines, ended_line, first_line, has_evt, is_printed, listing_at, step_in, step_lines, zone_pair}
 unfoldable pub use Rattle.listing_io.specs.{all_step_lines, first_text, step_text}
 pub use Rattle.listing_io.specs.declared.listing.ListedStep.{ListedStep}
 pub use Rattle.listing_run.proofs.HistoriesBound.{AllBoundMoves, BoundsMovesOf, histories_bound}
@@ -57,7 +57,7 @@ pub use Rattle.model_types.specs.declared.time_steps.TimeStep.{TimeStep}
 pub use Rattle.problem_builder.proofs.Steps.{cells_of, same_problem}
 pub use Rattle.problem_builder.proofs.TimesOf.{flat-In, time_of}
 pub use Rattle.problem_builder.proofs.Zipped.{left_of, right_of, zip_image}
-pub use Rattle.problem_builder.specs.{AreGridHeads, HeadsEnclose, IsActive, IsProblemOf, bound_at, whole_cell, whole_evap, whole_fixed, whole_link}
+pub use Rattle.problem_builder.specs.{AreGridHeads, HeadsEnclose, IsActive, IsCellNamed, IsProblemOf, bound_at, whole_cell, whole_evap, whole_fixed, whole_link}
 pub use Rattle.problem_hull.specs.{cell_hull, cell_shape, evap_hull, fixed_hull, fixed_shape, zip_with}
 pub use Rattle.step_chain.proofs.Assembled.{constant_not_variable, index_below}
 pub use Rattle.step_chain.proofs.Histories.{first_in, lies_encloses, lies_in_first}

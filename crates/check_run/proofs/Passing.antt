@@ -5,9 +5,8 @@ use Rattle.check_run.proofs.Common.{EnclosesSolutions, exact_step, heads_of, var
 use Rattle.check_run.proofs.Common.{IsActive, bound_at, EncloseExact, exact_faces, exact_flow, ZonePair, CoversFlow, AreWide, ConstantsReach, IsConstantCell}
 use Rattle.check_run.proofs.Common.{variable_bounds, checked_task, step_of, Decks, AreDecks, EachMember, IsMember, AreConstantHeadsFor, ConstantPairEncloses}
 use Rattle.check_run.proofs.Common.{HasCellsOf, cell_of_member, member_cells, of_member, BoundsMovesOf, EnclosesSteps, AllZip-at, AllZip-length, get_or}
-use Rattle.check_run.proofs.Common.{EnclosesSigned, ExactCell, follows, EnclosesMoves, Solved, lies_encloses}
+use Rattle.check_run.proofs.Common.{EnclosesSigned, ExactCell, follows, EnclosesMoves, Solved, lies_encloses, IsCellNamed}
 use Rattle.decimal_input.specs.Fractions.{den}
-use Rattle.problem_builder.specs.GridHeads.{IsNamed}
 use Rattle.decimal_input.proofs.FloorLaws.{mul_mono_right}
 use Rattle.cell_balance.proofs.Deep.{le_trans_z}
 use Rattle.listing_run.proofs.Moves.{flows_enclose, heads_named}
@@ -33,7 +32,7 @@ wide_enclose s e (Some zones) h listed flows covers encloses = λ k d lt.
 module _ (ds : Decks) (s : ℕ) (at : TimeStep) (old : List Bound) (p : List Entries) (constant_heads heads : List Bound)
     (valid : AreDecks ds) (time : Contains (times ds.first) at) (are : AreConstantHeadsFor ds at constant_heads) (pair_encloses : ConstantPairEncloses)
     (all_enclose : EachMember ds (EnclosesSteps s at old p))
-    (named : (c : ℕ) → IsNamed p c → IsActive ds.first c)
+    (named : (c : ℕ) → IsCellNamed p c → IsActive ds.first c)
     (constants : ConstantsReach ds at heads)
     (solutions : EnclosesSolutions p (lower_at (variable_bounds ds at heads)) (upper_at (variable_bounds ds at heads)))
     (m : FlowModel) (member : IsMember ds m) where
@@ -64,7 +63,7 @@ module _ (ds : Decks) (s : ℕ) (at : TimeStep) (old : List Bound) (p : List Ent
       let moved = moves before d X move in
       let Y : ℕ → ℤ = variable_heads e X in
       let inside = within (length p) d Y (lower_at (variable_bounds ds at heads)) (upper_at (variable_bounds ds at heads)) move.some moved.variables in
-      let active = λ (c : ℕ) (k : IsNamed p c). cell_of_member ds.first m cells c (named c k) in
+      let active = λ (c : ℕ) (k : IsCellNamed p c). cell_of_member ds.first m cells c (named c k) in
       record {
         heads = moved.heads;
         budget = cover listed computed s e (heads_of d Y) covers (terms s e (heads_of d Y) moved.step inside);

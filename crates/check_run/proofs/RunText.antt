@@ -2,8 +2,8 @@
 use Rattle.check_run.proofs.Common.{Limits, Option, ◌≡◌, ℕ, List, [], ◌∷◌, ◌++◌, map, get_or, Contains, Ok, refl, sym, ap, ◌∙◌, subst, arith, Bool, zero, suc}
 use Rattle.check_run.proofs.Common.{◌+◌, ◌<◌, true, length, concat, append_assoc, append-nil, get_or_default, get_or-map, length-map, Bound, FlowModel}
 use Rattle.check_run.proofs.Common.{TimeStep, times, IsModel, cell_count, is_variable, index_of, variable_cells, HeadsFit, bound_at, pairs_in, pairs_small}
-use Rattle.check_run.proofs.Common.{all_step_lines, ended, first_line, first_text, step_lines, step_text, IsTime, IsWritable, ListingsAreReadAgain, all_lines}
-use Rattle.check_run.proofs.Common.{listing_at, AreCellBounds, IsListedStep, Task, Step, Whole, AllSteps, IsStep, deck_task, listing, text_of, Steps}
+use Rattle.check_run.proofs.Common.{all_step_lines, ended_line, first_line, first_text, step_lines, step_text, IsTime, IsWritable, ListingsAreReadAgain}
+use Rattle.check_run.proofs.Common.{all_lines, listing_at, AreCellBounds, IsListedStep, Task, Step, Whole, AllSteps, IsStep, deck_task, listing, text_of, Steps}
 use Rattle.check_run.proofs.Common.{IsReadable, RunIsReadAgain, as_listed, variable_bounds, Decks, StartHeadsFit, time_of, Entries, entries_at, no_entries}
 use Rattle.check_run.proofs.Common.{no_bound, IsHead, AreWords, passing, at_rank, is_at, below_is, index_is, AreGridHeads, index_below, ListedStep}
 use Rattle.listing_run.specs.{is_between}
@@ -33,15 +33,15 @@ module _ (limits : Limits) (ds : Decks) (s : ℕ) (zones : Option (List ℕ)) (r
       let more = all_step_lines ds.first s rest (map as_listed values) in
       ap (λ (t : List ℕ). text_of task v ++ t) (rows_text v.heads rest values h)
       ∙ ap (λ (t : List ℕ). t ++ text (more ++ (last_row ∷ []))) (step_rows at old v is)
-      ∙ sym (flat_map-append ended here (more ++ (last_row ∷ [])))
+      ∙ sym (flat_map-append ended_line here (more ++ (last_row ∷ [])))
       ∙ ap text (sym (append_assoc here more (last_row ∷ [])))
 
   whole_text : (values : List Step) → AllSteps task values Whole → concat (listing task values end_line) ≡ text (rows_of (is_between task) ds.first s (map as_listed values))
   unfolding first_text rows_of
   whole_text values h =
       let others = concat (map (text_of task) values ++ (end_line ∷ [])) in
-      ap (λ (t : List ℕ). t ++ others) (append-nil (ended (first_line (is_between task) ds.first s)))
-      ∙ ap (λ (t : List ℕ). ended (first_line (is_between task) ds.first s) ++ t) (rows_text h.start (times ds.first) values h.steps)
+      ap (λ (t : List ℕ). t ++ others) (append-nil (ended_line (first_line (is_between task) ds.first s)))
+      ∙ ap (λ (t : List ℕ). ended_line (first_line (is_between task) ds.first s) ++ t) (rows_text h.start (times ds.first) values h.steps)
 
 is_time : (m : FlowModel) (at : TimeStep) → IsModel m → Contains (times m) at → IsTime at
 is_time m at model there =

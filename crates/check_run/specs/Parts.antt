@@ -19,8 +19,7 @@ use Rattle.model_types.specs.declared.time_steps.TimeStep.{TimeStep}
 use Rattle.model_types.specs.{variable_cells}
 use Rattle.problem_builder.specs.declared.fault.BuildFault.{BuildFault}
 use Rattle.problem_builder.specs.declared.fault.BuildFault.TheVariants as build
-use Rattle.problem_builder.specs.{IsActive}
-use Rattle.problem_builder.specs.GridHeads.{IsNamed}
+use Rattle.problem_builder.specs.{IsActive, IsCellNamed}
 use Rattle.deck_problems.specs.declared.decks.Decks.{Decks}
 use Rattle.deck_problems.specs.{AreConstantHeadsFor, EachMember, EnclosesSteps}
 use Rattle.step_chain.specs.{IsPosed, HasNoPose}
@@ -69,7 +68,7 @@ pub record ArePosed (limits : Limits) (d : Decks) (s : ℕ) (at : TimeStep) (old
   pub posed : IsPosed limits d s at old x.problem x.barrier
   pub held : IsHeldBelow x.problem
   pub solutions : EnclosesUncut x.problem x.barrier
-  pub named : (c : ℕ) → IsNamed x.problem c → IsActive d.first c
+  pub named : (c : ℕ) → IsCellNamed x.problem c → IsActive d.first c
   pub cells : map (λ e. e.id) x.problem ≡ variable_cells d.first at.period
   pub encloses : EachMember d (EnclosesSteps s at old x.problem)
   pub constant : AreConstantHeadsFor d at x.constant_heads

@@ -2,8 +2,7 @@
 ghost use Rattle.std.specs.Prelude.{◌≡◌, ℕ, List, Bool, true, false, map, option_map, IfOk, IfErr, MatchOption};
 ghost use Rattle.std.specs.List.{AllZip};
 ghost use Rattle.step_problem.specs.declared.place.ZoneFlow.{ZoneFlow as Flow};
-ghost use Rattle.problem_builder.specs.{AreGridHeads, IsActive};
-ghost use Rattle.problem_builder.specs.GridHeads.{IsNamed};
+ghost use Rattle.problem_builder.specs.{AreGridHeads, IsActive, IsCellNamed};
 ghost use Rattle.zone_pairs.specs.{zones_of_flow, AreZones};
 ghost use Rattle.listing_run.specs.{AreFlowsOf};
 ghost use Rattle.check_run.specs.{CoversFlow, IsFirstNarrow, AreNarrow, AreWide};
@@ -48,7 +47,7 @@ pub(crate) fn test_flows(
 ) -> Result<(), CheckFault>
     requires zones { AreZones model.now (option_map (λ z. z.now) zones) }
     requires heads { AreGridHeads model.now heads.now }
-    requires named { (c : ℕ) → IsNamed problem.now c → IsActive model.now c }
+    requires named { (c : ℕ) → IsCellNamed problem.now c → IsActive model.now c }
     requires pairs { (flows : List Flow) → AreFlowsOf problem.now heads.now (option_map (λ z. z.now) zones) flows →
         map zones_of_flow listed.now ≡ map zones_of_flow flows }
     ensures wide { IfOk result (λ _. AreWide problem.now heads.now (option_map (λ z. z.now) zones.entry) listed.now) }

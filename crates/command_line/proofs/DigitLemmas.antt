@@ -2,7 +2,7 @@
 use Rattle.command_line.proofs.Common.{◌≡◌, ℕ, ◌≤◌, Bool, true, false, cond, List, [], ◌∷◌, Option, Some, None, codes, refl, subst, arith, bytes_eq}
 use Rattle.command_line.proofs.Common.{digits_value, leb-true, and_parts, Text, Row, Kinds, fault_of, subcommand_of, first_of, heads_app, is_number, number_in}
 use Rattle.command_line.proofs.Common.{number_or, Wanted, AskedCheck, Check, batch_in, write_in, check_in, command_in, digits_in, make_in, rounds_in, run_in}
-use Rattle.command_line.proofs.Common.{wanted_if, wanted_of, watch_in, workers_in, flag_in, unwatched}
+use Rattle.command_line.proofs.Common.{wanted_if, order_of_words, watch_in, workers_in, flag_in, quick_if_unwatched}
 use Rattle.std.specs.Prelude.{◌&&◌, if◌then◌else◌, decimal, nat_le, option_and_then}
 
 -- a number that was taken is one of its range
@@ -34,7 +34,7 @@ cond_fits false x y h k = k
 
 run_fits : (rows : List Row) → Fits (run_in rows)
 run_fits rows =
-    then_fits (first_of (codes "name") rows) _ (λ name a. then_fits (digits_in rows) _ (λ digits b. then_fits (workers_in rows) _ (λ workers c. then_fits (rounds_in rows) _ (λ rounds d. then_fits (watch_in rows) _ (λ turns e. then_fits (unwatched turns (flag_in (codes "quick") rows)) _ (λ quick f. tt))))))
+    then_fits (first_of (codes "name") rows) _ (λ name a. then_fits (digits_in rows) _ (λ digits b. then_fits (workers_in rows) _ (λ workers c. then_fits (rounds_in rows) _ (λ rounds d. then_fits (watch_in rows) _ (λ turns e. then_fits (quick_if_unwatched turns (flag_in (codes "quick") rows)) _ (λ quick f. tt))))))
 
 check_fits : (rows : List Row) → Fits (check_in rows)
 check_fits rows =
@@ -63,5 +63,5 @@ found_fits : (faults : Kinds) (found : Option (Text × List Row)) → Fits (want
 found_fits [] found = then_fits found (λ p. command_in p.0 p.1) (λ p e. command_fits p.0 p.1)
 found_fits (fault ∷ faults) found = tt
 
-pub check_digits : (words : List Text) (asked : AskedCheck) (to : Option Text) → wanted_of words ≡ Some (Check asked to) → asked.digits ≤ 18
+pub check_digits : (words : List Text) (asked : AskedCheck) (to : Option Text) → order_of_words words ≡ Some (Check asked to) → asked.digits ≤ 18
 check_digits words asked to e = subst Fits e (found_fits (fault_of heads_app words) (subcommand_of heads_app words))

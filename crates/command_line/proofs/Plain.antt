@@ -1,9 +1,9 @@
 -- The number that a text writes plainly.
 use Rattle.command_line.proofs.Common.{◌≡◌, ℕ, Bool, true, false, ◌≤◌, ◌<◌, ◌^◌, List, Some, None, Ok, Result, decimal, refl, sym, ap, subst, ◌∙◌, arith, ◌≢◌}
 use Rattle.command_line.proofs.Common.{[], ◌∷◌, Option, inl, inr, bytes_eq, digits_value, ParsesUnsigned, and_parts, leb-true, le-leb, is_number, number_in}
-use Rattle.command_line.proofs.Common.{wanted_of, wanted_if, command_in, is_simple, is_simple_and_free, App, Text, Kinds, HasKind, IsAmong, kind_of, fault_of}
-use Rattle.command_line.proofs.Common.{HasMatchesOf, subcommand_of, subcommand_rows_of, heads_app, run_app, check_app, make_app, batch_app, write_app, settling}
-use Rattle.command_line.proofs.Common.{needing, spanning, with_flag, with_option, with_word}
+use Rattle.command_line.proofs.Common.{order_of_words, wanted_if, command_in, is_simple, is_simple_and_free, App, Text, Kinds, HasKind, IsAmong, kind_of}
+use Rattle.command_line.proofs.Common.{fault_of, HasMatchesOf, subcommand_of, subcommand_rows_of, heads_app, run_app, check_app, make_app, batch_app, write_app}
+use Rattle.command_line.proofs.Common.{settling, needing, spanning, with_flag, with_option, with_word}
 use Rattle.std.proofs.Common.{◌&&◌, nat_le, option_and_then}
 use Rattle.std.proofs.lemmas.Fmt.{parse-decimal, decimal_is_IsNumeral}
 use Rattle.std.proofs.lemmas.Slice.Eq.{bytes_eq-Decides}
@@ -77,14 +77,14 @@ among_none : (k : ErrorKind) (kinds : Kinds) (found : Option (Text × List _)) �
 among_none k [] found h = absurd h
 among_none k (x ∷ kinds) found h = refl
 
-pub usage_at_err : (words : List Text) (a : App) (e : Error) → a ≡ heads_app → (is_simple_and_free a ≡ true → HasKind (fault_of a words) e) → kind_of e ≢ kind.OutOfMemory → wanted_of words ≡ None
+pub usage_at_err : (words : List Text) (a : App) (e : Error) → a ≡ heads_app → (is_simple_and_free a ≡ true → HasKind (fault_of a words) e) → kind_of e ≢ kind.OutOfMemory → order_of_words words ≡ None
 usage_at_err words a e same kinds other = by_kind (let P : App → Type 0 = λ a. HasKind (fault_of a words) e in subst P same (kinds (ap is_simple_and_free same ∙ heads_free)))
   where
-    by_kind : HasKind (fault_of heads_app words) e → wanted_of words ≡ None
+    by_kind : HasKind (fault_of heads_app words) e → order_of_words words ≡ None
     by_kind (inl h) = absurd (other h)
     by_kind (inr h) = among_none (kind_of e) (fault_of heads_app words) (subcommand_of heads_app words) h
 
-pub order_at_ok : (words : List Text) (a : App) (m : ArgMatches) → a ≡ heads_app → (is_simple_and_free a ≡ true → fault_of a words ≡ []) → HasMatchesOf a words m → wanted_of words ≡ option_and_then (λ p. command_in p.0 p.1) (subcommand_rows_of m)
+pub order_at_ok : (words : List Text) (a : App) (m : ArgMatches) → a ≡ heads_app → (is_simple_and_free a ≡ true → fault_of a words ≡ []) → HasMatchesOf a words m → order_of_words words ≡ option_and_then (λ p. command_in p.0 p.1) (subcommand_rows_of m)
 order_at_ok words a m same faults matches =
     let none : fault_of heads_app words ≡ [] = (let P : App → Type 0 = λ a. fault_of a words ≡ [] in subst P same (faults (ap is_simple_and_free same ∙ heads_free))) in
     let rows : subcommand_rows_of m ≡ subcommand_of heads_app words = (matches (ap is_simple same ∙ heads_simple)).1 ∙ ap (λ a. subcommand_of a words) same in

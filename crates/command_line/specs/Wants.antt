@@ -36,7 +36,7 @@ x >>= f = option_and_then f x
 -- A listing that the words ask for: the limits, the name of its name file, the digits of conductances, the number of workers and of plain
 -- rounds in which a step must settle, the name of a zone file, if there is one, the number of views in each phase, if the heads are
 -- viewed, and whether a step may have any pair that is a certificate.
-pub record Asked : Type 0 where
+pub record ListingOrder : Type 0 where
   pub limits : Limits
   pub name : Text
   pub digits : ℕ
@@ -69,7 +69,7 @@ pub record AskedBatch : Type 0 where
 -- to make a model from this seed, with this many rows and columns, and sum it up; to list the models of a batch; or to write the deck of
 -- the model of this name file, by these limits.
 pub data Wanted : Type 0 where
-  Run : Asked → Option Text → Wanted
+  Run : ListingOrder → Option Text → Wanted
   Check : AskedCheck → Option Text → Wanted
   Make : ℕ → ℕ → Wanted
   Batch : AskedBatch → Wanted
@@ -105,9 +105,9 @@ abbrev pub limits_in : List Row → Limits
 limits_in rows = limits_of (flag_in (codes "wide") rows)
 
 -- a quick listing is not watched
-abbrev pub unwatched : Option ℕ → Bool → Option Bool
-unwatched (Some turns) true = None
-unwatched turns quick = Some quick
+abbrev pub quick_if_unwatched : Option ℕ → Bool → Option Bool
+quick_if_unwatched (Some turns) true = None
+quick_if_unwatched turns quick = Some quick
 
 -- what the words after a command ask for, by the values that they give to its arguments
 abbrev pub run_in : List Row → Option Wanted
@@ -117,7 +117,7 @@ run_in rows = do
   workers ← workers_in rows
   rounds ← rounds_in rows
   turns ← watch_in rows
-  quick ← unwatched turns (flag_in (codes "quick") rows)
+  quick ← quick_if_unwatched turns (flag_in (codes "quick") rows)
   Some (Run (record {
     limits = limits_in rows;
     name = name;
@@ -178,14 +178,14 @@ wanted_if [] found = option_and_then (λ p. command_in p.0 p.1) found
 wanted_if (fault ∷ faults) found = None
 
 -- What the words ask for: clap accepts them (a call for help is a fault), and each number is in its range.
-abbrev pub wanted_of : List Text → Option Wanted
-wanted_of words = wanted_if (fault_of heads_app words) (subcommand_of heads_app words)
+abbrev pub order_of_words : List Text → Option Wanted
+order_of_words words = wanted_if (fault_of heads_app words) (subcommand_of heads_app words)
 
 -- what an order asks for, in the form of the code
 abbrev pub text_if : Option (Bor Text) → Option Text
 text_if text = option_map (λ t. t.now) text
 
-abbrev pub asked_of : RunOrder → Asked
+abbrev pub asked_of : RunOrder → ListingOrder
 asked_of a =
     record {
       limits = a.limits;
@@ -204,9 +204,9 @@ check_of a = record { limits = a.limits; name = a.name.now; listing = a.listing.
 abbrev pub batch_of : BatchOrder → AskedBatch
 batch_of a = record { limits = a.limits; list = a.list.now; digits = a.digits; workers = a.workers; rounds = a.rounds; quick = a.quick }
 
-abbrev pub wanted : Order → Wanted
-wanted (order.Run a) = Run (asked_of a) (text_if a.to)
-wanted (order.Check a) = Check (check_of a) (text_if a.to)
-wanted (order.Make a) = Make a.seed a.size
-wanted (order.Batch a) = Batch (batch_of a)
-wanted (order.Write limits name) = Write limits name.now
+abbrev pub wanted_by : Order → Wanted
+wanted_by (order.Run a) = Run (asked_of a) (text_if a.to)
+wanted_by (order.Check a) = Check (check_of a) (text_if a.to)
+wanted_by (order.Make a) = Make a.seed a.size
+wanted_by (order.Batch a) = Batch (batch_of a)
+wanted_by (order.Write limits name) = Write limits name.now

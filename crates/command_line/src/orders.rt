@@ -1,7 +1,8 @@
 // What the words ask for, read from them.
 ghost use Rattle.std.specs.Prelude.{◌≡◌, map, option_map, option_and_then, IfOk, IfSome, IsErrOf, Some, None, false};
 ghost use Rattle.clap.specs.Words.{rows_of, found_of, first_of, subcommand_rows_of};
-ghost use Rattle.command_line.specs.{flag_in, limits_in, unwatched, wanted, wanted_of, run_in, check_in, make_in, batch_in, write_in, command_in};
+ghost use Rattle.command_line.specs.{flag_in, limits_in, quick_if_unwatched, wanted_by, order_of_words, run_in, check_in, make_in, batch_in, write_in};
+ghost use Rattle.command_line.specs.{command_in};
 
 use crate::commands::heads_command;
 use crate::numbers::{
@@ -43,7 +44,7 @@ fn limits_in(found: &ArgMatches) -> Limits
 
 // Whether a listing is quick; None for one that is watched too.
 fn quick_unless_watched(watch: Option<u32>, quick: bool) -> Option<bool>
-    ensures is { result ≡ unwatched watch quick }
+    ensures is { result ≡ quick_if_unwatched watch quick }
     ensures plain { IfSome result (λ q. IfSome watch (λ _. q ≡ false)) }
 {
     match watch {
@@ -53,7 +54,7 @@ fn quick_unless_watched(watch: Option<u32>, quick: bool) -> Option<bool>
 }
 
 fn run_order<'a>(found: &ArgMatches<'a>) -> Option<Order<'a>>
-    ensures { option_map wanted result ≡ run_in (rows_of (found_of found.now)) }
+    ensures { option_map wanted_by result ≡ run_in (rows_of (found_of found.now)) }
 {
     let name = text_of(found, "name")?;
     let digits = digits_or_given(text_of(found, "digits"))?;
@@ -75,7 +76,7 @@ fn run_order<'a>(found: &ArgMatches<'a>) -> Option<Order<'a>>
 }
 
 fn check_order<'a>(found: &ArgMatches<'a>) -> Option<Order<'a>>
-    ensures { option_map wanted result ≡ check_in (rows_of (found_of found.now)) }
+    ensures { option_map wanted_by result ≡ check_in (rows_of (found_of found.now)) }
 {
     let name = text_of(found, "name")?;
     let listing = text_of(found, "listing")?;
@@ -91,7 +92,7 @@ fn check_order<'a>(found: &ArgMatches<'a>) -> Option<Order<'a>>
 }
 
 fn make_order<'a>(found: &ArgMatches<'a>) -> Option<Order<'a>>
-    ensures { option_map wanted result ≡ make_in (rows_of (found_of found.now)) }
+    ensures { option_map wanted_by result ≡ make_in (rows_of (found_of found.now)) }
 {
     let seed = text_of(found, "seed")?;
     let size = text_of(found, "size")?;
@@ -101,7 +102,7 @@ fn make_order<'a>(found: &ArgMatches<'a>) -> Option<Order<'a>>
 }
 
 fn batch_order<'a>(found: &ArgMatches<'a>) -> Option<Order<'a>>
-    ensures { option_map wanted result ≡ batch_in (rows_of (found_of found.now)) }
+    ensures { option_map wanted_by result ≡ batch_in (rows_of (found_of found.now)) }
 {
     let list = text_of(found, "list")?;
     let digits = digits_or_given(text_of(found, "digits"))?;
@@ -118,7 +119,7 @@ fn batch_order<'a>(found: &ArgMatches<'a>) -> Option<Order<'a>>
 }
 
 fn write_order<'a>(found: &ArgMatches<'a>) -> Option<Order<'a>>
-    ensures { option_map wanted result ≡ write_in (rows_of (found_of found.now)) }
+    ensures { option_map wanted_by result ≡ write_in (rows_of (found_of found.now)) }
 {
     let name = text_of(found, "name")?;
     Some(Order::Write {
@@ -128,7 +129,7 @@ fn write_order<'a>(found: &ArgMatches<'a>) -> Option<Order<'a>>
 }
 
 fn command_order<'a>(name: &str, found: &ArgMatches<'a>) -> Option<Order<'a>>
-    ensures { option_map wanted result ≡ command_in name.now (rows_of (found_of found.now)) }
+    ensures { option_map wanted_by result ≡ command_in name.now (rows_of (found_of found.now)) }
 {
     if name == "run" {
         run_order(found)
@@ -146,7 +147,7 @@ fn command_order<'a>(name: &str, found: &ArgMatches<'a>) -> Option<Order<'a>>
 }
 
 fn order_from<'a>(matches: &ArgMatches<'a>) -> Option<Order<'a>>
-    ensures { option_map wanted result ≡ option_and_then (λ p. command_in p.0 p.1) (subcommand_rows_of matches.now) }
+    ensures { option_map wanted_by result ≡ option_and_then (λ p. command_in p.0 p.1) (subcommand_rows_of matches.now) }
 {
     let (name, found) = matches.subcommand()?;
     command_order(name, found)
@@ -154,8 +155,8 @@ fn order_from<'a>(matches: &ArgMatches<'a>) -> Option<Order<'a>>
 
 /// What the words ask for; the first of them is the program's name. A call for help asks for nothing.
 pub fn read_order<'a>(alloc: Global, words: &'a [&'a str]) -> Result<Order<'a>, WordsFault>
-    ensures order { IfOk result (λ o. wanted_of (map (λ w. w.now) words.entry.now) ≡ Some (wanted o)) }
-    ensures usage { IsErrOf result WordsFault.Usage → wanted_of (map (λ w. w.now) words.entry.now) ≡ None }
+    ensures order { IfOk result (λ o. order_of_words (map (λ w. w.now) words.entry.now) ≡ Some (wanted_by o)) }
+    ensures usage { IsErrOf result WordsFault.Usage → order_of_words (map (λ w. w.now) words.entry.now) ≡ None }
 {
     let Ok(command) = heads_command(alloc) else {
         return Err(WordsFault::Memory);

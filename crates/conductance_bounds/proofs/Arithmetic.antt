@@ -2,7 +2,7 @@
 use Rattle.conductance_bounds.proofs.Common.{ℕ, zero, ◌+◌, ◌≤◌, ◌<◌, arith, ℤ, pos, negsuc, neg_ℤ, ◌+ℤ◌, ◌-ℤ◌, unsigned_abs, int_min, int_max, ints, clamps}
 use Rattle.conductance_bounds.proofs.Common.{AtMost, plus, times, over, AtMost-trans, plus-AtMost, times-AtMost, over-AtMost, ten_pos, cross_of, Sd, value}
 use Rattle.conductance_bounds.proofs.Common.{IsDown, IsUp, IsNear, HasSize, Span, IsOrdered, reach, mul-pos, AreOperands, one_rounded, AreBounds, Lower, Number}
-use Rattle.conductance_bounds.proofs.Common.{Product, Quotient, Ratio, Same, Sum, Term, Upper, Within, bound, refl, rounded, IsSd, ◌∙◌, IsWithin}
+use Rattle.conductance_bounds.proofs.Common.{Product, Quotient, Ratio, Same, Sum, Term, Upper, Within, bound, refl, rounded_decimal, IsSd, ◌∙◌, IsWithin}
 use Rattle.conductance_bounds.proofs.Sides.{positive_value}
 use Rattle.conductance_bounds.proofs.SpanBounds.{exact_rounded}
 
@@ -97,22 +97,22 @@ quotient_ordered a b r p q some l h = record {
 pub sum_bounds : (t u : Term) (a b r : Span) → AreBounds t a → AreBounds u b → IsDown r.lo (plus (value a.lo) (value b.lo)) → IsUp r.hi (plus (value a.hi) (value b.hi)) → AreBounds (Sum t u) r
 unfolding bound
 sum_bounds t u a b r p q l h = record {
-  lower = one_rounded Lower r.lo _ l ∙ (λ i. rounded Lower (plus (value (p.lower i)) (value (q.lower i))));
-  upper = one_rounded Upper r.hi _ h ∙ (λ i. rounded Upper (plus (value (p.upper i)) (value (q.upper i))));
+  lower = one_rounded Lower r.lo _ l ∙ (λ i. rounded_decimal Lower (plus (value (p.lower i)) (value (q.lower i))));
+  upper = one_rounded Upper r.hi _ h ∙ (λ i. rounded_decimal Upper (plus (value (p.upper i)) (value (q.upper i))));
 }
 
 pub product_bounds : (t u : Term) (a b r : Span) → AreBounds t a → AreBounds u b → IsDown r.lo (times (value a.lo) (value b.lo)) → IsUp r.hi (times (value a.hi) (value b.hi)) → AreBounds (Product t u) r
 unfolding bound
 product_bounds t u a b r p q l h = record {
-  lower = one_rounded Lower r.lo _ l ∙ (λ i. rounded Lower (times (value (p.lower i)) (value (q.lower i))));
-  upper = one_rounded Upper r.hi _ h ∙ (λ i. rounded Upper (times (value (p.upper i)) (value (q.upper i))));
+  lower = one_rounded Lower r.lo _ l ∙ (λ i. rounded_decimal Lower (times (value (p.lower i)) (value (q.lower i))));
+  upper = one_rounded Upper r.hi _ h ∙ (λ i. rounded_decimal Upper (times (value (p.upper i)) (value (q.upper i))));
 }
 
 pub quotient_bounds : (t u : Term) (a b r : Span) → AreBounds t a → AreBounds u b → IsDown r.lo (over (value a.lo) (value b.hi)) → IsUp r.hi (over (value a.hi) (value b.lo)) → AreBounds (Quotient t u) r
 unfolding bound
 quotient_bounds t u a b r p q l h = record {
-  lower = one_rounded Lower r.lo _ l ∙ (λ i. rounded Lower (over (value (p.lower i)) (value (q.upper i))));
-  upper = one_rounded Upper r.hi _ h ∙ (λ i. rounded Upper (over (value (p.upper i)) (value (q.lower i))));
+  lower = one_rounded Lower r.lo _ l ∙ (λ i. rounded_decimal Lower (over (value (p.lower i)) (value (q.upper i))));
+  upper = one_rounded Upper r.hi _ h ∙ (λ i. rounded_decimal Upper (over (value (p.upper i)) (value (q.lower i))));
 }
 
 -- those of a number of the input, and of a number between two decimals

@@ -2,7 +2,7 @@
 use Rattle.conductance_bounds.proofs.Common.{◌≡◌, ℕ, ◌+◌, ◌-◌, ◌≤◌, ◌<◌, ◌^◌, ◌⊎◌, ◌∙◌, inl, inr, Bool, true, false, Option, Some, None, refl, sym, ap, subst}
 use Rattle.conductance_bounds.proofs.Common.{arith, cases_lt, unsigned_abs, unwrap_or, IfSome, ℤ, neg_ℤ, pos, Encloses, EnclosesSigned, Fraction, IsFloor}
 use Rattle.conductance_bounds.proofs.Common.{IsCeiling, Passes, Ratio, den, Sd, value, Span, Pair, AreBounds, Term, Lower, Upper, in_units, pair, small_pair}
-use Rattle.conductance_bounds.proofs.Common.{capped, flow, small_flow, capped_flow, signed_pair, PairEncloses, FlowEncloses, Holds, below, option_map}
+use Rattle.conductance_bounds.proofs.Common.{capped_pair, flow, small_flow, capped_flow, signed_pair, PairEncloses, FlowEncloses, Holds, pair_below, option_map}
 use Rattle.conductance_bounds.proofs.Common.{lt_of_mul-lt-mul_right, cond_above, cond_below, is_ceiling, one_ceiling, one_floor}
 use Rattle.conductance_bounds.proofs.Manual.{pair_ordered}
 use Rattle.conductance_bounds.specs.declared.pair.FlowPair.{FlowPair}
@@ -28,10 +28,10 @@ past t s n x bounds h =
     let q : n < in_units Upper (value x.hi) s = lt_of_mul-lt-mul_right (den (value x.hi)) (omega (arith, h.pass, (is_ceiling (value x.hi) s).at_least)) in
     subst (λ (r : Sd). n < in_units Upper (value r) s) bounds.upper q
 
-pub some_below : (t : Term) (s n lo hi : ℕ) (x : Span) → AreBounds t x → IsFloor lo (value x.lo) s → IsCeiling hi (value x.hi) s → hi < n → Some (whole lo hi) ≡ below n (pair t s)
+pub some_below : (t : Term) (s n lo hi : ℕ) (x : Span) → AreBounds t x → IsFloor lo (value x.lo) s → IsCeiling hi (value x.hi) s → hi < n → Some (whole lo hi) ≡ pair_below n (pair t s)
 some_below t s n lo hi x bounds a b lt = let e = pair_is t s lo hi x bounds a b in ap Some e ∙ cond_below (pair t s).hi n (Some (pair t s)) None (subst (λ (p : Pair). p.hi < n) e lt)
 
-pub none_below : (t : Term) (s n : ℕ) (x : Span) → AreBounds t x → Passes n (value x.hi) s → None ≡ below (n + 1) (pair t s)
+pub none_below : (t : Term) (s n : ℕ) (x : Span) → AreBounds t x → Passes n (value x.hi) s → None ≡ pair_below (n + 1) (pair t s)
 none_below t s n x bounds h = cond_above (pair t s).hi (n + 1) (Some (pair t s)) None None (omega (arith, past t s n x bounds h)) refl
 
 -- a flow with its sign
@@ -49,20 +49,20 @@ pub small_flow_encloses : (t : Term) (neg : Bool) (s : ℕ) (f : Fraction) (r : 
 small_flow_encloses t neg s f r e h = grind (arith)
 
 -- in a table: a small pair, or the one that stands for it
-pub below_case : (n : ℕ) (p : Pair) → ((p.hi < n) × (below n p ≡ Some p)) ⊎ ((n ≤ p.hi) × (below n p ≡ None))
+pub below_case : (n : ℕ) (p : Pair) → ((p.hi < n) × (pair_below n p ≡ Some p)) ⊎ ((n ≤ p.hi) × (pair_below n p ≡ None))
 below_case n p = elim (cases_lt p.hi n) [ inl lt ↦ inl (lt, sym (cond_below p.hi n (Some p) None lt)) | inr ge ↦ inr (ge, sym (cond_above p.hi n (Some p) None None ge refl)) ]
 
-pub real_pair : (t : Term) (s : ℕ) → (capped t s).hi < 2 ^ 60 → capped t s ≡ pair t s
-unfolding capped
+pub real_pair : (t : Term) (s : ℕ) → (capped_pair t s).hi < 2 ^ 60 → capped_pair t s ≡ pair t s
+unfolding capped_pair
 real_pair t s h =
     let keep : Option Pair → Pair = λ o. unwrap_or o (whole 1 (2 ^ 60)) in
     elim (below_case (2 ^ 60) (pair t s)) [
       | inl small ↦ ap keep small.1
-      | inr large ↦ absurd (let e : (capped t s).hi ≡ 2 ^ 60 = ap (λ (o : Option Pair). (keep o).hi) large.1 in omega (arith, e, h))
+      | inr large ↦ absurd (let e : (capped_pair t s).hi ≡ 2 ^ 60 = ap (λ (o : Option Pair). (keep o).hi) large.1 in omega (arith, e, h))
     ]
 
-pub capped_ordered : (t : Term) (s : ℕ) → Holds t → (capped t s).lo ≤ (capped t s).hi
-unfolding capped
+pub capped_ordered : (t : Term) (s : ℕ) → Holds t → (capped_pair t s).lo ≤ (capped_pair t s).hi
+unfolding capped_pair
 capped_ordered t s h =
     let P : Option Pair → Type 0 = λ o. (unwrap_or o (whole 1 (2 ^ 60))).lo ≤ (unwrap_or o (whole 1 (2 ^ 60))).hi in
     elim (below_case (2 ^ 60) (pair t s)) [ inl small ↦ subst P (sym small.1) (pair_ordered t s h) | inr large ↦ subst P (sym large.1) (omega arith) ]

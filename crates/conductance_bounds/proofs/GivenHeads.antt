@@ -2,7 +2,7 @@
 use Rattle.conductance_bounds.proofs.Common.{◌≡◌, ℕ, suc, ◌+◌, ◌*◌, ◌-◌, ◌≤◌, ◌^◌, arith, ap, ◌∙◌, sym, subst, ℤ, pos, negsuc, neg_ℤ, ◌+ℤ◌, ◌-ℤ◌, ◌*ℤ◌, ◌≤ℤ◌}
 use Rattle.conductance_bounds.proofs.Common.{int_min, int_max, ints, clamps, by_lt_z, Dec, number, Ratio, den, EnclosesSigned, mul_mono_right, cancel_right}
 use Rattle.conductance_bounds.proofs.Common.{swap, diffs, as_diff, same_diff, between_heads, IsPassed, blend, given_pair, head_pair, add_times, IsSignedCeiling}
-use Rattle.conductance_bounds.proofs.Common.{IsSignedFloor, neg_times, HeadPair, ceiling_of, floor_of, Part}
+use Rattle.conductance_bounds.proofs.Common.{IsSignedFloor, neg_times, HeadPair, ceiling_of, head_floor_of, Part}
 use Rattle.model_types.specs.declared.entry.Given.{Given}
 use Rattle.conductance_bounds.proofs.Units.{IsCeilingOf, IsFloorOf, ceiling_is, floor_is, head_ceiling, head_floor, pair_of}
 use Rattle.decimal_input.specs.Fractions.{den as denominator}
@@ -147,9 +147,9 @@ head_encloses shead ehead part r is x F p q h =
     subst (λ (k : HeadPair). EnclosesSigned k.lo k.hi 9 (between_heads x F)) e (given_encloses x F part h)
 
 pub given_is : (shead ehead : Dec) (part : Part) (start end : HeadPair) (lo hi : ℤ) → start ≡ head_pair shead → end ≡ head_pair ehead →
-    lo ≡ floor_of (int_min (blend start.lo end.lo part.lo) (blend start.lo end.lo part.hi)) → hi ≡ ceiling_of (int_max (blend start.hi end.hi part.lo) (blend start.hi end.hi part.hi)) → pair_of lo hi ≡ given_pair shead ehead part
+    lo ≡ head_floor_of (int_min (blend start.lo end.lo part.lo) (blend start.lo end.lo part.hi)) → hi ≡ ceiling_of (int_max (blend start.hi end.hi part.lo) (blend start.hi end.hi part.hi)) → pair_of lo hi ≡ given_pair shead ehead part
 unfolding given_pair
 given_is shead ehead part start end lo hi p q a b =
-    let low = a ∙ (λ i. floor_of (int_min (blend (p i).lo (q i).lo part.lo) (blend (p i).lo (q i).lo part.hi))) in
+    let low = a ∙ (λ i. head_floor_of (int_min (blend (p i).lo (q i).lo part.lo) (blend (p i).lo (q i).lo part.hi))) in
     let high = b ∙ (λ i. ceiling_of (int_max (blend (p i).hi (q i).hi part.lo) (blend (p i).hi (q i).hi part.hi))) in
     λ i. record { lo = low i; hi = high i }

@@ -1,12 +1,12 @@
 -- The steps of the loops over growing time steps.
 use Rattle.conductance_bounds.proofs.Common.{◌≡◌, ℕ, zero, suc, ◌+◌, ◌*◌, ◌≤◌, ◌<◌, ◌^◌, inl, inr, arith, subst, ℤ, pos, negsuc, neg_ℤ, ◌+ℤ◌, ◌≤ℤ◌, int_max}
-use Rattle.conductance_bounds.proofs.Common.{mul-le-mul, cases_lt, ints, clamps, Dec, size, scaled, up, down, Ratio, ratio, AtMost, AtMost-trans, Same-AtMost}
-use Rattle.conductance_bounds.proofs.Common.{Same-back, ten_pos, power_within, num_scaled, den_scaled, Sd, HasSize, IsSd, one, Same, Span, value, Number, Sum}
-use Rattle.conductance_bounds.proofs.Common.{Product, sum_term, power_term, IsSlow, AreBounds, reach}
+use Rattle.conductance_bounds.proofs.Common.{mul-le-mul, cases_lt, ints, clamps, Dec, size, scaled_ratio, up, down, Ratio, ratio, AtMost, AtMost-trans}
+use Rattle.conductance_bounds.proofs.Common.{Same-AtMost, Same-back, ten_pos, power_within, num_scaled, den_scaled, Sd, HasSize, IsSd, one, Same, Span, value}
+use Rattle.conductance_bounds.proofs.Common.{Number, Sum, Product, sum_term, power_term, IsSlow, AreBounds, reach}
 use Rattle.conductance_bounds.proofs.Arithmetic.{reach_within}
 
 -- a decimal of at least 0.001 has an exponent of at least -20
-slow_least : (m : ℕ) (e : ℤ) → m < 10 ^ 18 → AtMost (ratio 1 1000) (scaled m e) → neg_ℤ (pos 20) ≤ℤ e
+slow_least : (m : ℕ) (e : ℤ) → m < 10 ^ 18 → AtMost (ratio 1 1000) (scaled_ratio m e) → neg_ℤ (pos 20) ≤ℤ e
 unfolding ratio
 slow_least m (pos n) few h = omega (arith, ints)
 slow_least m (negsuc n) few h =
@@ -17,7 +17,7 @@ slow_least m (negsuc n) few h =
     ]
 
 -- one of at most 1000 has an exponent of at most -14
-slow_most : (m : ℕ) (e : ℤ) → 10 ^ 17 ≤ m → AtMost (scaled m e) (ratio 1000 1) → e ≤ℤ neg_ℤ (pos 14)
+slow_most : (m : ℕ) (e : ℤ) → 10 ^ 17 ≤ m → AtMost (scaled_ratio m e) (ratio 1000 1) → e ≤ℤ neg_ℤ (pos 14)
 unfolding ratio
 slow_most m (pos n) many h =
     let cross : m * 10 ^ n ≤ 1000 = omega (arith, (rw (num_scaled m (pos n), den_scaled m (pos n)) at h.cross)) in
@@ -29,7 +29,7 @@ slow_most m (negsuc n) many h =
       | inr le ↦ omega (arith, ints, le)
     ]
 
-no_zero : (m : ℕ) (e : ℤ) → m ≡ 0 → AtMost (ratio 1 1000) (scaled m e) → ⊥
+no_zero : (m : ℕ) (e : ℤ) → m ≡ 0 → AtMost (ratio 1 1000) (scaled_ratio m e) → ⊥
 unfolding ratio
 no_zero m e z h = nothing m (10 ^ up e) (10 ^ down e) z (ten_pos (down e)) (rw (num_scaled m e, den_scaled m e) at h.cross)
   where

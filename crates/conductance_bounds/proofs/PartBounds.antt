@@ -1,10 +1,10 @@
 -- The part of a period that has passed lies between its bounds, and is at most 1.
 use Rattle.conductance_bounds.proofs.Common.{◌≡◌, ℕ, zero, suc, ◌+◌, ◌*◌, ◌-◌, ◌≤◌, ◌<◌, ◌^◌, Bool, true, false, cond, min, arith, refl, subst, sym, ap}
-use Rattle.conductance_bounds.proofs.Common.{mul-le-mul_right, le_of_mul-le-mul_right, cases_lt, size, Ratio, ratio, over, scaled, den, AtMost, Same, plus}
-use Rattle.conductance_bounds.proofs.Common.{times, AtMost-trans, AtMost-refl, Same-AtMost, num_plus, num_over, den_over, Same-trans, Same-sym, den_plus, value}
-use Rattle.conductance_bounds.proofs.Common.{IsTimed, number_one, one, power, geometric, multiplier, passed, Span, AreBounds, exact, bound, Lower, sum_term}
-use Rattle.conductance_bounds.proofs.Common.{part, pair, IsPassed, part_term, is_whole, power_term, over-Same, Same-self, plus-Same, times-Same, IsFloor, Sd}
-use Rattle.conductance_bounds.proofs.Common.{Upper, in_units, ◌∙◌, cond-false, cond-true, Part, one_floor, Period}
+use Rattle.conductance_bounds.proofs.Common.{mul-le-mul_right, le_of_mul-le-mul_right, cases_lt, size, Ratio, ratio, over, scaled_ratio, den, AtMost, Same}
+use Rattle.conductance_bounds.proofs.Common.{plus, times, AtMost-trans, AtMost-refl, Same-AtMost, num_plus, num_over, den_over, Same-trans, Same-sym, den_plus}
+use Rattle.conductance_bounds.proofs.Common.{value, IsTimed, number_one, one, power, geometric, multiplier, part_passed, Span, AreBounds, exact, bound, Lower}
+use Rattle.conductance_bounds.proofs.Common.{sum_term, part, pair, IsPassed, part_term, is_whole, power_term, over-Same, Same-self, plus-Same, times-Same}
+use Rattle.conductance_bounds.proofs.Common.{IsFloor, Sd, Upper, in_units, ◌∙◌, cond-false, cond-true, Part, one_floor, Period}
 use Rattle.model_types.proofs.Growth.{horner}
 use Rattle.conductance_bounds.proofs.Sides.{IsFactor, bound_on, exact_positive, more_positive, quotient, size_positive, sum_factor}
 use Rattle.conductance_bounds.proofs.Manual.{Encloses-same, pair_encloses}
@@ -92,8 +92,8 @@ module _ (p : Period) (n : ℕ) (some : 1 ≤ n) (few : n ≤ p.nstp) (growth : 
       }
 
   -- at every step of a period
-  pub part_encloses : IsPassed (passed p n) (part p n).lo (part p n).hi
-  unfolding passed part
+  pub part_encloses : IsPassed (part_passed p n) (part p n).lo (part p n).hi
+  unfolding part_passed part
   part_encloses = by_case (is_whole p n)
     where
       by_case : (b : Bool) → IsPassed (cond b one share) (cond b whole_part (growing_of p n)).lo (cond b whole_part (growing_of p n)).hi
@@ -131,7 +131,7 @@ pub multiplier_positive : (p : Period) → IsTimed p → 0 < (multiplier p).num
 multiplier_positive p h = grind (arith, unit_positive, size_positive)
 
 unity_is_one : size number_one ≡ one
-unfolding scaled
+unfolding scaled_ratio
 unity_is_one = refl
 
 pub steady_bounds : (p : Period) (n : ℕ) (x : Span) → p.steady ≡ true → AreBounds (sum_term (size number_one) n) x → AreBounds (sum_term (multiplier p) n) x

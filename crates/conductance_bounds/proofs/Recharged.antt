@@ -1,13 +1,13 @@
 -- The pair of a recharge contains it, whatever its sign.
 use Rattle.conductance_bounds.proofs.Common.{◌≡◌, ℕ, ◌*◌, ◌≤◌, ◌^◌, Bool, true, false, arith, ap, ◌∙◌, ℤ, pos, neg_ℤ, ◌*ℤ◌, ints, Dec, size, Ratio, times, Same}
-use Rattle.conductance_bounds.proofs.Common.{Fraction, signed, with_sign, Encloses, EnclosesSigned, Number, number, num_times, den_times, Same-sym, neg_times}
-use Rattle.conductance_bounds.proofs.Common.{recharge_formula, recharge_exact, FlowEncloses, Pair, pair, signed_pair}
+use Rattle.conductance_bounds.proofs.Common.{Fraction, as_fraction, with_sign, Encloses, EnclosesSigned, Number, number, num_times, den_times, Same-sym}
+use Rattle.conductance_bounds.proofs.Common.{neg_times, recharge_formula, recharge_exact, FlowEncloses, Pair, pair, signed_pair}
 use Rattle.decimal_input.specs.Fractions.{den as denominator, times as product}
 use Rattle.conductance_bounds.proofs.Manual.{pair_encloses, Encloses-same}
 
 -- a number with a sign times an area
 abbrev with_area : Bool → Ratio → Ratio → Fraction
-with_area neg r a = product (record { num = with_sign neg r.num; less = r.less }) (signed a)
+with_area neg r a = product (record { num = with_sign neg r.num; less = r.less }) (as_fraction a)
 
 plain_low : (l n d p n' d' : ℕ) → n ≡ n' → d ≡ d' → l * d ≤ n * p → l * d' ≤ n' * p
 plain_low l n d p n' d' e q h = omega (arith, h, (let a : n * p ≡ n' * p = ap (λ (z : ℕ). z * p) e in a), (let b : l * d ≡ l * d' = ap (λ (z : ℕ). l * z) q in b))

@@ -1,7 +1,7 @@
 -- The two bounds of a formula lie on their sides of its value, and the bounds of positive factors are positive.
 use Rattle.conductance_bounds.proofs.Common.{ℕ, zero, suc, ◌<◌, arith, mul-pos, Ratio, AtMost, AtMost-trans, plus-AtMost, times-AtMost, over-AtMost}
 use Rattle.conductance_bounds.proofs.Common.{plus-positive, times-positive, over-positive, num_scaled, ten_pos, up, Dec, size, Sd, value, IsPositive, one, Term}
-use Rattle.conductance_bounds.proofs.Common.{exact, bound, Holds, IsBetween, Number, Within, Sum, Product, Quotient, Side, Lower, Upper, rounded, ratio}
+use Rattle.conductance_bounds.proofs.Common.{exact, bound, Holds, IsBetween, Number, Within, Sum, Product, Quotient, Side, Lower, Upper, rounded_decimal, ratio}
 use Rattle.conductance_bounds.proofs.Common.{sum_term, power_term, is_rounded, rounded_positive}
 
 pub positive_value : (x : Sd) → 0 < x.m → 0 < (value x).num
@@ -15,10 +15,10 @@ abbrev pub IsOn : Side → Sd → Ratio → Type 0
 IsOn Lower r f = AtMost (value r) f
 IsOn Upper r f = AtMost f (value r)
 
-low : (f g : Ratio) → AtMost f g → AtMost (value (rounded Lower f)) g
+low : (f g : Ratio) → AtMost f g → AtMost (value (rounded_decimal Lower f)) g
 low f g le = AtMost-trans (is_rounded Lower f).at_most le
 
-high : (f g : Ratio) → AtMost g f → AtMost g (value (rounded Upper f))
+high : (f g : Ratio) → AtMost g f → AtMost g (value (rounded_decimal Upper f))
 high f g le = AtMost-trans le (is_rounded Upper f).at_least
 
 -- Each bound of a formula is on its side of the value.

@@ -1,10 +1,11 @@
 -- The decimals of a thickness contain it.
 use Rattle.conductance_bounds.proofs.Common.{◌≡◌, ℕ, zero, suc, ◌*◌, ◌≤◌, ◌<◌, ◌^◌, arith, ℤ, pos, negsuc, neg_ℤ, ◌-ℤ◌, ◌*ℤ◌, ◌≤ℤ◌, ◌<ℤ◌, mul-pos, refl, ◌-◌}
-use Rattle.conductance_bounds.proofs.Common.{inl, inr, subst, sym, ap, ◌+ℤ◌, unsigned_abs, ints, Dec, number, Fraction, ratio, scaled, size, Ratio, den, Same}
-use Rattle.conductance_bounds.proofs.Common.{plus, times, mul_mono_right, diffs, as_diff, same_diff, AtMost-trans, Same-trans, Same-sym, Same-AtMost, Same-back}
-use Rattle.conductance_bounds.proofs.Common.{num_times, den_times, num_plus, den_plus, num_scaled, den_scaled, scaled_shift, gap, IsThick, one, number_one}
-use Rattle.conductance_bounds.proofs.Common.{IsBetween, AreBounds, Number, Side, Lower, Upper, bound, rounded, span, units_at, sum_term, power_term, Span}
-use Rattle.conductance_bounds.proofs.Common.{cases_lt, pow-suc, Sd, IsSd, value, Same-self, times-Same, plus-Same, ◌∙◌, is_rounded, one_rounded}
+use Rattle.conductance_bounds.proofs.Common.{inl, inr, subst, sym, ap, ◌+ℤ◌, unsigned_abs, ints, Dec, number, Fraction, ratio, scaled_ratio, size, Ratio, den}
+use Rattle.conductance_bounds.proofs.Common.{Same, plus, times, mul_mono_right, diffs, as_diff, same_diff, AtMost-trans, Same-trans, Same-sym, Same-AtMost}
+use Rattle.conductance_bounds.proofs.Common.{Same-back, num_times, den_times, num_plus, den_plus, num_scaled, den_scaled, scaled_shift, gap, IsThick, one}
+use Rattle.conductance_bounds.proofs.Common.{number_one, IsBetween, AreBounds, Number, Side, Lower, Upper, bound, rounded_decimal, span, units_at, sum_term}
+use Rattle.conductance_bounds.proofs.Common.{power_term, Span, cases_lt, pow-suc, Sd, IsSd, value, Same-self, times-Same, plus-Same, ◌∙◌, is_rounded}
+use Rattle.conductance_bounds.proofs.Common.{one_rounded}
 use Rattle.conductance_bounds.proofs.Units.{units_ceiling, units_floor}
 use Rattle.decimal_input.specs.Fractions.{den as denominator}
 
@@ -81,13 +82,13 @@ span_between top bottom thick order wide =
     }
 
 -- The number 1.
-pub unity_is : Same (scaled (10 ^ 17) (negsuc 16)) one
+pub unity_is : Same (scaled_ratio (10 ^ 17) (negsuc 16)) one
 unfolding ratio
 unity_is = record { cross = rw (num_scaled, den_scaled) refl }
 
 -- Steps of one length: the sums are the whole numbers, and each rounding is exact.
 -- what is a decimal is rounded to itself
-pub exact_rounded : (side : Side) (x : Sd) (f : Ratio) → IsSd x → Same (value x) f → x ≡ rounded side f
+pub exact_rounded : (side : Side) (x : Sd) (f : Ratio) → IsSd x → Same (value x) f → x ≡ rounded_decimal side f
 exact_rounded Lower x f d same = one_rounded Lower x f (record { decimal = d; at_most = Same-AtMost same; greatest = (λ y e h. AtMost-trans h (Same-back same)) })
 exact_rounded Upper x f d same = one_rounded Upper x f (record { decimal = d; at_least = Same-back same; least = (λ y e h. AtMost-trans (Same-AtMost same) h) })
 
@@ -97,17 +98,17 @@ pub record IsDecimal (f : Ratio) : Type 0 where
   pub decimal : IsSd at
   pub same : Same (value at) f
 
-shift : (m : ℕ) (e : ℤ) → Same (scaled (m * 10) (e -ℤ pos 1)) (scaled m e)
-shift m e = subst (λ (k : ℤ). Same (scaled (m * 10) (e -ℤ pos 1)) (scaled m k)) (let q : (e -ℤ pos 1) +ℤ pos 1 ≡ e = omega (arith, ints) in q) (scaled_shift m 1 (e -ℤ pos 1))
+shift : (m : ℕ) (e : ℤ) → Same (scaled_ratio (m * 10) (e -ℤ pos 1)) (scaled_ratio m e)
+shift m e = subst (λ (k : ℤ). Same (scaled_ratio (m * 10) (e -ℤ pos 1)) (scaled_ratio m k)) (let q : (e -ℤ pos 1) +ℤ pos 1 ≡ e = omega (arith, ints) in q) (scaled_shift m 1 (e -ℤ pos 1))
 
-padded : (j m : ℕ) (e : ℤ) → m < 10 ^ 18 → 10 ^ 17 ≤ m * 10 ^ j → IsDecimal (scaled m e)
-padded zero m e few big = record { at = record { m = m; e = e }; decimal = inl (omega (arith, big), few); same = Same-self (scaled m e) }
+padded : (j m : ℕ) (e : ℤ) → m < 10 ^ 18 → 10 ^ 17 ≤ m * 10 ^ j → IsDecimal (scaled_ratio m e)
+padded zero m e few big = record { at = record { m = m; e = e }; decimal = inl (omega (arith, big), few); same = Same-self (scaled_ratio m e) }
 padded (suc j) m e few big = elim (cases_lt m (10 ^ 17)) [
   | inl lt ↦ (let r = padded j (m * 10) (e -ℤ pos 1) (omega (arith, lt)) (let q : m * 10 ^ suc j ≡ m * (10 ^ j * 10) = ap (λ (z : ℕ). m * z) (pow-suc 10 j) in omega (arith, big, q)) in record { at = r.at; decimal = r.decimal; same = Same-trans r.same (shift m e) })
-  | inr le ↦ record { at = record { m = m; e = e }; decimal = inl (le, few); same = Same-self (scaled m e) }
+  | inr le ↦ record { at = record { m = m; e = e }; decimal = inl (le, few); same = Same-self (scaled_ratio m e) }
 ]
 
-pub whole_is : (n : ℕ) → Same (scaled n (pos 0)) (ratio n 1)
+pub whole_is : (n : ℕ) → Same (scaled_ratio n (pos 0)) (ratio n 1)
 unfolding ratio
 whole_is n = record { cross = rw (num_scaled, den_scaled) (omega arith) }
 
@@ -133,10 +134,10 @@ unity_input : Same (value unity) (size number_one)
 unity_input = Same-trans unity_is (Same-sym (whole_is 1))
 
 -- the two spellings of 1 in the formulas
-one_is : (side : Side) → unity ≡ rounded side one
+one_is : (side : Side) → unity ≡ rounded_decimal side one
 one_is side = exact_rounded side unity one unity_decimal unity_is
 
-input_is : (side : Side) → unity ≡ rounded side (size number_one)
+input_is : (side : Side) → unity ≡ rounded_decimal side (size number_one)
 input_is side = exact_rounded side unity (size number_one) unity_decimal unity_input
 
 equal_sum : (side : Side) (n : ℕ) (x : Sd) → n < 10 ^ 17 → IsSd x → Same (value x) (ratio (suc n) 1) → x ≡ bound (sum_term (size number_one) n) side
@@ -147,17 +148,17 @@ equal_sum side (suc n) x few d same =
     let before = equal_sum side n y.at (omega (arith, few)) y.decimal y.same in
     let product : Same (value y.at) (times (value y.at) (value unity)) = Same-trans y.same (Same-sym (Same-trans (times-Same y.same unity_is) (times_one (suc n)))) in
     let sum : Same (value x) (plus (value y.at) (value unity)) = Same-trans same (Same-sym (Same-trans (plus-Same y.same unity_is) (plus_one (suc n)))) in
-    let factor = exact_rounded side y.at _ y.decimal product ∙ (λ i. rounded side (times (value (before i)) (value (input_is side i)))) in
-    exact_rounded side x _ d sum ∙ (λ i. rounded side (plus (value (factor i)) (value (one_is side i))))
+    let factor = exact_rounded side y.at _ y.decimal product ∙ (λ i. rounded_decimal side (times (value (before i)) (value (input_is side i)))) in
+    exact_rounded side x _ d sum ∙ (λ i. rounded_decimal side (plus (value (factor i)) (value (one_is side i))))
 
 equal_power : (side : Side) (n : ℕ) → unity ≡ bound (power_term (size number_one) n) side
 unfolding power_term bound
 equal_power side zero = one_is side
 equal_power side (suc n) =
     let product : Same (value unity) (times (value unity) (value unity)) = Same-trans unity_is (Same-sym (Same-trans (times-Same unity_is unity_is) (times_one 1))) in
-    exact_rounded side unity _ unity_decimal product ∙ (λ i. rounded side (times (value (equal_power side n i)) (value (input_is side i))))
+    exact_rounded side unity _ unity_decimal product ∙ (λ i. rounded_decimal side (times (value (equal_power side n i)) (value (input_is side i))))
 
-pub equal_sums : (t : Dec) (n : ℕ) (x : Sd) → t ≡ number_one → 1 ≤ n → n ≤ 100000 → IsSd x → Same (value x) (scaled n (pos 0)) → AreBounds (sum_term (size t) (n - 1)) (record { lo = x; hi = x })
+pub equal_sums : (t : Dec) (n : ℕ) (x : Sd) → t ≡ number_one → 1 ≤ n → n ≤ 100000 → IsSd x → Same (value x) (scaled_ratio n (pos 0)) → AreBounds (sum_term (size t) (n - 1)) (record { lo = x; hi = x })
 equal_sums t n x e some few d same =
     let whole : Same (value x) (ratio (suc (n - 1)) 1) = subst (λ k. Same (value x) (ratio k 1)) (let q : n ≡ suc (n - 1) = omega (arith, some) in q) (Same-trans same (whole_is n)) in
     subst (λ k. AreBounds (sum_term (size k) (n - 1)) (record { lo = x; hi = x })) (sym e) (record { lower = equal_sum Lower (n - 1) x (omega (arith, few)) d whole; upper = equal_sum Upper (n - 1) x (omega (arith, few)) d whole })

@@ -1,9 +1,9 @@
 -- A thickness lies between its two decimals, however the floors and ceilings were found.
 use Rattle.conductance_bounds.proofs.Common.{◌≡◌, ℕ, ◌<◌, ◌≤◌, ◌^◌, arith, ap, subst, ℤ, pos, negsuc, neg_ℤ, ◌+ℤ◌, ◌-ℤ◌, ◌*ℤ◌, ◌≤ℤ◌, ◌<ℤ◌, unsigned_abs, ints}
-use Rattle.conductance_bounds.proofs.Common.{mul-pos, by_lt_z, Dec, number, scaled, Fraction, IsSignedFloor, IsSignedCeiling, IsFloorPast, IsCeilingPast}
+use Rattle.conductance_bounds.proofs.Common.{mul-pos, by_lt_z, Dec, number, scaled_ratio, Fraction, IsSignedFloor, IsSignedCeiling, IsFloorPast, IsCeilingPast}
 use Rattle.conductance_bounds.proofs.Common.{AtMost-trans, scaled-AtMost, mul_mono_right, cancel_right, HasSize, IsDown, IsUp, gap, IsThick, Span, IsBetween}
-use Rattle.conductance_bounds.proofs.Common.{Lower, Upper, AreThick, Option, Some, None, IfSome, ◌∙◌, sym, IfNone, unwrap_or, num_scaled, ten_pos, up, rounded}
-use Rattle.conductance_bounds.proofs.Common.{span, units_at, one_rounded, rounded_positive}
+use Rattle.conductance_bounds.proofs.Common.{Lower, Upper, AreThick, Option, Some, None, IfSome, ◌∙◌, sym, IfNone, unwrap_or, num_scaled, ten_pos, up}
+use Rattle.conductance_bounds.proofs.Common.{rounded_decimal, span, units_at, one_rounded, rounded_positive}
 use Rattle.decimal_input.specs.Fractions.{den}
 use Rattle.conductance_bounds.proofs.SpanBounds.{abs_positive, span_between}
 use Rattle.conductance_bounds.proofs.Units.{ceiling_units, floor_units, units_ceiling, units_floor}
@@ -63,7 +63,7 @@ ceiling_or_limit f (Some z) hi e limit some past = subst (λ (w : ℤ). IsSigned
 ceiling_or_limit f None hi e limit some past = subst (λ (w : ℤ). IsSignedCeiling w f 18) (limit past.ceiling past.is past.past ∙ sym e) past.is
 
 -- both decimals of a thickness are above 0, in order, and of a size
-pub are_thick : (t : Span) (low high : ℕ) → low ≤ high → IsDown t.lo (scaled low (neg_ℤ (pos 18))) → IsUp t.hi (scaled high (neg_ℤ (pos 18))) →
+pub are_thick : (t : Span) (low high : ℕ) → low ≤ high → IsDown t.lo (scaled_ratio low (neg_ℤ (pos 18))) → IsUp t.hi (scaled_ratio high (neg_ℤ (pos 18))) →
     HasSize t.lo (neg_ℤ (pos 35)) (pos 4) → HasSize t.hi (neg_ℤ (pos 35)) (pos 4) → AreThick t.lo t.hi
 are_thick t low high le p q l h = record {
   low = p.decimal;
@@ -97,15 +97,15 @@ pub span_positive : (top bottom : Dec) → IsThick top bottom → 0 < (span top 
 unfolding span
 span_positive top bottom thick =
     let n = unsigned_abs (units_at Lower top 18 -ℤ units_at Upper bottom 18) in
-    rounded_positive (scaled n (neg_ℤ (pos 18))) (rw (num_scaled n (neg_ℤ (pos 18))) (mul-pos (edges_room top bottom thick).some (ten_pos (up (neg_ℤ (pos 18))))))
+    rounded_positive (scaled_ratio n (neg_ℤ (pos 18))) (rw (num_scaled n (neg_ℤ (pos 18))) (mul-pos (edges_room top bottom thick).some (ten_pos (up (neg_ℤ (pos 18))))))
 
 -- the decimals of a number of units, rounded to both sides
 pub span_is : (top bottom : Dec) (t : Span) (low high : ℕ) → low ≡ unsigned_abs (units_at Lower top 18 -ℤ units_at Upper bottom 18) → high ≡ unsigned_abs (units_at Upper top 18 -ℤ units_at Lower bottom 18) →
-    IsDown t.lo (scaled low (neg_ℤ (pos 18))) → IsUp t.hi (scaled high (neg_ℤ (pos 18))) → t ≡ span top bottom
+    IsDown t.lo (scaled_ratio low (neg_ℤ (pos 18))) → IsUp t.hi (scaled_ratio high (neg_ℤ (pos 18))) → t ≡ span top bottom
 unfolding span
 span_is top bottom t low high e f p q =
-    let lower = one_rounded Lower t.lo _ p ∙ ap (λ (n : ℕ). rounded Lower (scaled n (neg_ℤ (pos 18)))) e in
-    let upper = one_rounded Upper t.hi _ q ∙ ap (λ (n : ℕ). rounded Upper (scaled n (neg_ℤ (pos 18)))) f in
+    let lower = one_rounded Lower t.lo _ p ∙ ap (λ (n : ℕ). rounded_decimal Lower (scaled_ratio n (neg_ℤ (pos 18)))) e in
+    let upper = one_rounded Upper t.hi _ q ∙ ap (λ (n : ℕ). rounded_decimal Upper (scaled_ratio n (neg_ℤ (pos 18)))) f in
     λ i. record { lo = lower i; hi = upper i }
 
 -- every floor of the upper elevation, and every ceiling of the lower one, is small

@@ -1,8 +1,8 @@
 -- A number of the input in whole units is its floor or its ceiling.
 use Rattle.conductance_bounds.proofs.Common.{◌≡◌, ℕ, ◌+◌, ◌*◌, ◌^◌, Bool, true, false, arith, refl, ints, ℤ, pos, negsuc, neg_ℤ, ◌+ℤ◌, ◌*ℤ◌, ◌≤ℤ◌, ◌<ℤ◌, Dec}
 use Rattle.conductance_bounds.proofs.Common.{number, size, with_sign, IsSignedFloor, IsSignedCeiling, Lower, Upper, in_units, units_at, head_pair, HeadPair}
-use Rattle.conductance_bounds.proofs.Common.{if◌then◌else◌, div-mul-le_self, lt-mul-div-succ, ceiling_of, floor_of, other, ceiling_of_ceiling, ceiling_of_floor}
-use Rattle.conductance_bounds.proofs.Common.{floor_of_ceiling, floor_of_floor, is_ceiling, is_floor}
+use Rattle.conductance_bounds.proofs.Common.{if◌then◌else◌, div-mul-le_self, lt-mul-div-succ, ceiling_of, head_floor_of, other, ceiling_of_ceiling}
+use Rattle.conductance_bounds.proofs.Common.{ceiling_of_floor, floor_of_ceiling, floor_of_floor, is_ceiling, is_floor}
 use Rattle.decimal_input.proofs.FloorLaws.{one_ceiling, one_floor}
 
 pub units_floor : (d : Dec) (s : ℕ) → IsSignedFloor (units_at Lower d s) (number d) s
@@ -52,7 +52,7 @@ pub record IsCeilingOf (x z : ℤ) : Type 0 where
   pub at_least : x ≤ℤ (z *ℤ pos (10 ^ 18))
   pub next : ((z +ℤ neg_ℤ (pos 1)) *ℤ pos (10 ^ 18)) <ℤ x
 
-pub floor_is : (x : ℤ) → IsFloorOf x (floor_of x)
+pub floor_is : (x : ℤ) → IsFloorOf x (head_floor_of x)
 floor_is (pos n) = record { at_most = omega (arith, ints, div-mul-le_self n (10 ^ 18)); next = omega (arith, ints, lt-mul-div-succ n {b = 10 ^ 18} (omega arith)) }
 floor_is (negsuc n) = record { at_most = omega (arith, ints, lt-mul-div-succ n {b = 10 ^ 18} (omega arith)); next = omega (arith, ints, div-mul-le_self n (10 ^ 18)) }
 

@@ -2,7 +2,7 @@
 -- it bounds, in the manual's form (TM 6-A16, chapters 5 and 6).
 use Rattle.std.specs.Prelude.{ℕ, ◌-◌, ◌==◌, Bool, cond, Option, Some, None}
 use Rattle.decimal_input.specs.declared.dec.Dec.{Dec}
-use Rattle.decimal_input.specs.{number, size, Ratio, over, Fraction, signed}
+use Rattle.decimal_input.specs.{number, size, Ratio, over, Fraction, as_fraction}
 use Rattle.decimal_input.specs.Ratios.{plus, times}
 use Rattle.decimal_input.specs.Fractions.{times as product}
 use Rattle.scaled_decimal.specs.declared.decimal.Sd.{Sd}
@@ -127,7 +127,7 @@ storage_exact ss thick delr delc t steps n perlen f =
 
 -- recharge as a flow: RECH * DELR * DELC
 abbrev pub recharge_exact : Dec → Dec → Dec → Fraction
-recharge_exact rate delr delc = product (number rate) (signed (times (size delr) (size delc)))
+recharge_exact rate delr delc = product (number rate) (as_fraction (times (size delr) (size delc)))
 
 -- evapotranspiration as a conductance: EVTR * DELR * DELC / EXDP
 abbrev pub evap_exact : Dec → Dec → Dec → Dec → Ratio

@@ -1,18 +1,18 @@
 -- The formulas of a model's bounds: those of single calls, with the numbers of its cells and with the exact thicknesses.
 use Rattle.std.specs.Prelude.{ℕ, ◌+◌, ◌-◌, ◌==◌, cond, Some, None, pos, neg_ℤ, ◌-ℤ◌, unsigned_abs, ◌≡◌, ◌<◌, ◌≤◌, true, false}
 use Rattle.decimal_input.specs.declared.dec.Dec.{Dec}
-use Rattle.decimal_input.specs.{size, scaled, EnclosesSigned}
+use Rattle.decimal_input.specs.{size, scaled_ratio, EnclosesSigned}
 use Rattle.decimal_input.specs.Ratios.{AtMost}
 use Rattle.scaled_decimal.specs.declared.decimal.Sd.{Sd}
-use Rattle.scaled_decimal.specs.{Lower, Upper, IsSd, HasSize, rounded, value}
+use Rattle.scaled_decimal.specs.{Lower, Upper, IsSd, HasSize, rounded_decimal, value}
 use Rattle.model_types.specs.declared.entry.Given.{Given}
 use Rattle.model_types.specs.declared.face.Axis.{Axis}
 use Rattle.model_types.specs.declared.face.Axis.TheVariants.{Row, Column, Vertical}
 use Rattle.model_types.specs.declared.model.FlowModel.{FlowModel}
 use Rattle.model_types.specs.declared.period.Period.{Period}
 use Rattle.model_types.specs.{stride, dec_at, delr_at, delc_at, thickness, bed_thickness, hk_at, hani_at, vka_at, is_ratio, vkcb_at, cell_count, conductance}
-use Rattle.model_types.specs.{between_heads, is_active, top_at, bottom_at, lowest, IsPositive, EvapSource, recharge_flow, evap_conductance, storage, passed}
-use Rattle.model_types.specs.{IsTimed}
+use Rattle.model_types.specs.{between_heads, is_active, top_at, bottom_at, lowest, IsPositive, EvapSource, recharge_flow, evap_conductance, storage}
+use Rattle.model_types.specs.{part_passed, IsTimed}
 use Rattle.conductance_bounds.specs.declared.span.Span.{Span}
 use Rattle.conductance_bounds.specs.Terms.{Term, Holds}
 use Rattle.conductance_bounds.specs.Terms.Term.{Number, Within, Product, Quotient}
@@ -24,8 +24,8 @@ use Rattle.conductance_bounds.specs.Branches.{recharge_formula, evap_formula}
 -- the decimals of the thickness between two elevations: from their floors and ceilings in units of 10 ^ -18, rounded to 18 digits
 unfoldable pub span : Dec → Dec → Span
 span top bottom = record {
-  lo = rounded Lower (scaled (unsigned_abs (units_at Lower top 18 -ℤ units_at Upper bottom 18)) (neg_ℤ (pos 18)));
-  hi = rounded Upper (scaled (unsigned_abs (units_at Upper top 18 -ℤ units_at Lower bottom 18)) (neg_ℤ (pos 18)));
+  lo = rounded_decimal Lower (scaled_ratio (unsigned_abs (units_at Lower top 18 -ℤ units_at Upper bottom 18)) (neg_ℤ (pos 18)));
+  hi = rounded_decimal Upper (scaled_ratio (unsigned_abs (units_at Upper top 18 -ℤ units_at Lower bottom 18)) (neg_ℤ (pos 18)));
 }
 
 module _ (m : FlowModel) where
@@ -123,4 +123,4 @@ EvapsEnclose m = (x : EvapSource) (c s : ℕ) → IsPositive x.depth → PairEnc
 abbrev pub HeadsEnclose : Type 0
 HeadsEnclose =
     (p : Period) (n : ℕ) (x : Given) → IsTimed p → 1 ≤ n → n ≤ p.nstp →
-    EnclosesSigned (given_pair x.shead x.ehead (part p n)).lo (given_pair x.shead x.ehead (part p n)).hi 9 (between_heads x (passed p n))
+    EnclosesSigned (given_pair x.shead x.ehead (part p n)).lo (given_pair x.shead x.ehead (part p n)).hi 9 (between_heads x (part_passed p n))

@@ -15,9 +15,9 @@ pub use Rattle.conductance_bounds.specs.Formulas.{area_term, bed_span, column_k_
 unfoldable pub use Rattle.conductance_bounds.specs.Formulas.{span}
 pub use Rattle.conductance_bounds.specs.Intervals.{AreBounds, IsOrdered}
 unfoldable pub use Rattle.conductance_bounds.specs.Intervals.{reach}
-pub use Rattle.conductance_bounds.specs.Pairs.{FlowEncloses, PairEncloses, below, flow, signed_pair, small_flow, small_pair}
-unfoldable pub use Rattle.conductance_bounds.specs.Pairs.{capped, capped_flow, head_pair, pair, units_at}
-pub use Rattle.conductance_bounds.specs.Parts.{AreFactors, IsHeadUnits, IsMultiplier, IsPassed, IsSlow, IsUsable, blend, ceiling_of, floor_of, is_whole}
+pub use Rattle.conductance_bounds.specs.Pairs.{FlowEncloses, PairEncloses, flow, pair_below, signed_pair, small_flow, small_pair}
+unfoldable pub use Rattle.conductance_bounds.specs.Pairs.{capped_flow, capped_pair, head_pair, pair, units_at}
+pub use Rattle.conductance_bounds.specs.Parts.{AreFactors, IsHeadUnits, IsMultiplier, IsPassed, IsSlow, IsUsable, blend, ceiling_of, head_floor_of, is_whole}
 pub use Rattle.conductance_bounds.specs.Parts.{part_term}
 unfoldable pub use Rattle.conductance_bounds.specs.Parts.{factors_of, given_pair, part, power_term, sum_term}
 pub use Rattle.conductance_bounds.specs.Terms.{Holds, IsBetween, Term, exact, other}

@@ -17,15 +17,15 @@ abbrev pub PairEncloses : Term → ℕ → Ratio → Type 0
 PairEncloses t s r = Encloses (pair t s).lo (pair t s).hi s r
 
 -- a pair, or none where its upper bound is n or more
-abbrev pub below : ℕ → Pair → Option Pair
-below n p = if nat_lt p.hi n then Some p else None
+abbrev pub pair_below : ℕ → Pair → Option Pair
+pair_below n p = if nat_lt p.hi n then Some p else None
 
 abbrev pub small_pair : Term → ℕ → Option Pair
-small_pair t s = below (2 ^ 60) (pair t s)
+small_pair t s = pair_below (2 ^ 60) (pair t s)
 
 -- in a table a pair whose upper bound reaches 2 ^ 60 is kept as 1 and 2 ^ 60
-unfoldable pub capped : Term → ℕ → Pair
-capped t s = unwrap_or (small_pair t s) (record { lo = 1; hi = 2 ^ 60 })
+unfoldable pub capped_pair : Term → ℕ → Pair
+capped_pair t s = unwrap_or (small_pair t s) (record { lo = 1; hi = 2 ^ 60 })
 
 -- the bounds of a flow of either sign, by those of its magnitude: negated and exchanged where the flow is below 0
 abbrev pub signed_pair : Bool → Pair → FlowPair
@@ -40,7 +40,7 @@ FlowEncloses t neg s f = EnclosesSigned (flow t neg s).lo (flow t neg s).hi s f
 
 -- the same, or none where a magnitude is 2 ^ 126 or more
 abbrev pub small_flow : Term → Bool → ℕ → Option FlowPair
-small_flow t neg s = option_map (signed_pair neg) (below (2 ^ 126) (pair t s))
+small_flow t neg s = option_map (signed_pair neg) (pair_below (2 ^ 126) (pair t s))
 
 -- a flow with a magnitude that reaches 2 ^ 126 is kept as 2 ^ 109, so that the sum of its cell reaches the limit
 unfoldable pub capped_flow : Term → Bool → ℕ → FlowPair

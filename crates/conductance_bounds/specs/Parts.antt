@@ -89,11 +89,11 @@ abbrev pub IsHeadUnits : ℤ → Type 0
 IsHeadUnits z = IsNear z 4000000000000000000
 
 -- x over 10 ^ 18 as a whole number: the floor, and the ceiling
-abbrev pub floor_of : ℤ → ℤ
-floor_of x = int_div_euclid x (pos (10 ^ 18))
+abbrev pub head_floor_of : ℤ → ℤ
+head_floor_of x = int_div_euclid x (pos (10 ^ 18))
 
 abbrev pub ceiling_of : ℤ → ℤ
-ceiling_of x = neg_ℤ (floor_of (neg_ℤ x))
+ceiling_of x = neg_ℤ (head_floor_of (neg_ℤ x))
 
 -- The bounds of a head, in units of 10 ^ -9, where the part of the period that has passed lies within `passed`: the floor
 -- of the lesser blend of the floors of Shead and Ehead, and the ceiling of the greater blend of their ceilings.
@@ -102,6 +102,6 @@ given_pair shead ehead passed =
     let start = head_pair shead in
     let end = head_pair ehead in
     record {
-      lo = floor_of (int_min (blend start.lo end.lo passed.lo) (blend start.lo end.lo passed.hi));
+      lo = head_floor_of (int_min (blend start.lo end.lo passed.lo) (blend start.lo end.lo passed.hi));
       hi = ceiling_of (int_max (blend start.hi end.hi passed.lo) (blend start.hi end.hi passed.hi));
     }

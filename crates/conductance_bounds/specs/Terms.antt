@@ -3,7 +3,7 @@ use Rattle.std.specs.Prelude.{◌<◌}
 use Rattle.decimal_input.specs.{Ratio, over}
 use Rattle.decimal_input.specs.Ratios.{plus, times, AtMost}
 use Rattle.scaled_decimal.specs.declared.decimal.Sd.{Sd}
-use Rattle.scaled_decimal.specs.{Side, Lower, Upper, value, rounded}
+use Rattle.scaled_decimal.specs.{Side, Lower, Upper, value, rounded_decimal}
 
 -- exact numbers, numbers that are known to lie between two decimals, and operations on them
 pub data Term : Type 0 where
@@ -32,11 +32,11 @@ end Upper lo hi = hi
 -- the formula's bound on a side: each number and each single operation is rounded to this side, and a divisor is bounded on the
 -- other one; where the bound of a divisor is 0 it says nothing
 unfoldable pub bound : Term → Side → Sd
-bound (Number f) side = rounded side f
+bound (Number f) side = rounded_decimal side f
 bound (Within lo hi f) side = end side lo hi
-bound (Sum t u) side = rounded side (plus (value (bound t side)) (value (bound u side)))
-bound (Product t u) side = rounded side (times (value (bound t side)) (value (bound u side)))
-bound (Quotient t u) side = rounded side (over (value (bound t side)) (value (bound u (other side))))
+bound (Sum t u) side = rounded_decimal side (plus (value (bound t side)) (value (bound u side)))
+bound (Product t u) side = rounded_decimal side (times (value (bound t side)) (value (bound u side)))
+bound (Quotient t u) side = rounded_decimal side (over (value (bound t side)) (value (bound u (other side))))
 
 -- f lies between two decimals
 pub record IsBetween (lo hi : Sd) (f : Ratio) : Type 0 where

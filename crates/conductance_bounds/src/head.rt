@@ -5,7 +5,7 @@ ghost use Rattle.decimal_input.specs.{IsDec, number, EnclosesSigned, IsSignedFlo
 ghost use Rattle.model_types.specs.declared.entry.Given.{Given};
 ghost use Rattle.model_types.specs.{IsHeadNumber, between_heads};
 ghost use Rattle.scaled_decimal.specs.{IsNear};
-ghost use Rattle.conductance_bounds.specs.{IsPassed, IsHeadUnits, blend, ceiling_of, floor_of, given_pair, head_pair};
+ghost use Rattle.conductance_bounds.specs.{IsPassed, IsHeadUnits, blend, ceiling_of, head_floor_of, given_pair, head_pair};
 
 use crate::part::{Part, WHOLE};
 use decimal_input::dec::Dec;
@@ -92,7 +92,7 @@ fn share(head: i64, part: u64) -> i128
 /// A number in units of 10 ^ -27 as one in units of 10 ^ -9, rounded down.
 pub(crate) fn head_floor(x: i128) -> i64
     requires range { IsNear x (4 * 10 ^ 36) }
-    ensures floor { result ≡ floor_of x }
+    ensures floor { result ≡ head_floor_of x }
     ensures range { IsHeadUnits result }
 {
     x.div_euclid(WHOLE as i128) as i64

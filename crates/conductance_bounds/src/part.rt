@@ -3,7 +3,7 @@ ghost use Rattle.std.specs.Prelude.{◌≡◌, ℕ, ◌-◌, ◌<◌, ◌≤◌,
 ghost use Rattle.decimal_input.specs.Ratios.{AtMost};
 ghost use Rattle.decimal_input.specs.{IsFloor, IsCeiling};
 ghost use Rattle.scaled_decimal.specs.{IsSd, value};
-ghost use Rattle.model_types.specs.{one, multiplier, passed, IsTimed};
+ghost use Rattle.model_types.specs.{one, multiplier, part_passed, IsTimed};
 ghost use Rattle.conductance_bounds.specs.{sum_term, is_whole, part, IsPassed, IsOrdered, reach, AreBounds};
 
 use crate::span::Span;
@@ -33,7 +33,7 @@ pub fn time_part(period: &Period, step: u32) -> Part
     requires times { IsTimed period.now }
     requires step { (1 ≤ step) × (step ≤ period.now.nstp) }
     ensures rounded { result ≡ part period.now step }
-    ensures encloses { IsPassed (passed period.now step) result.lo result.hi }
+    ensures encloses { IsPassed (part_passed period.now step) result.lo result.hi }
 {
     if is_over(period, step) {
         return Part {

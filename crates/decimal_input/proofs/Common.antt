@@ -12,10 +12,10 @@ pub use Rattle.std.proofs.lemmas.Nat.{pow-add}
 pub use Rattle.std.specs.Int.{w128}
 pub use Rattle.decimal_input.specs.{AreDigits, Below, EnclosesSigned, Fraction, IsBetweenSigned, IsCanonical, IsCap, IsCapped, IsCeiling, IsCeilingPast, IsDec}
 pub use Rattle.decimal_input.specs.{IsExponent, IsFloor, IsFloorPast, IsInteger, IsOf, IsOver, IsPart, IsSign, IsSignedCeiling, IsSignedFloor, IsTested}
-pub use Rattle.decimal_input.specs.{IsTrimmed, IsUnits, Names, Passes, Ratio, Reaches, Spelling, Spells, behind, behind_part, ceiling, decimal, differ}
-pub use Rattle.decimal_input.specs.{digits_of, down, exponent_of, floor, integer_of, is_digit, is_mark, is_negative, is_sign, negated, number, number_from}
-pub use Rattle.decimal_input.specs.{part_of, signed_units, size, small, spelling, spelt, unsigned, up, whole_number, with_sign}
-unfoldable pub use Rattle.decimal_input.specs.{over, ratio, scaled, units_of}
+pub use Rattle.decimal_input.specs.{IsTrimmed, IsUnits, Names, Passes, Ratio, Reaches, Spelling, Spells, after_digits, behind_part, ceiling, decimal, differ}
+pub use Rattle.decimal_input.specs.{digits_after_point, digits_of, down, exponent_of, floor, integer_of, is_digit, is_mark, is_negative, is_sign, number}
+pub use Rattle.decimal_input.specs.{number_from, opposite, signed_units, size, small, spelling, spelling_of, up, whole_number, with_sign, without_sign}
+unfoldable pub use Rattle.decimal_input.specs.{over, ratio, scaled_ratio, units_of}
 pub use Rattle.decimal_input.specs.Ratios.{AtMost, Same, den}
 unfoldable pub use Rattle.decimal_input.specs.Ratios.{plus, times}
 pub use Rattle.decimal_input.specs.declared.dec.Dec.{Dec}

@@ -1,5 +1,5 @@
 use Rattle.decimal_input.proofs.Common.{◌≡◌, ℕ, ◌<◌, ◌^◌, arith, ℤ, pos, neg_ℤ, ◌*ℤ◌, ◌+ℤ◌, ◌≤ℤ◌, ◌<ℤ◌, ap, ◌∙◌, sym, suc, ◌*◌, ints, by_lt_z, Fraction}
-use Rattle.decimal_input.proofs.Common.{IsSignedFloor, IsSignedCeiling, EnclosesSigned, negated, IsOver, IsBetweenSigned, mul-le-mul_right, le_out}
+use Rattle.decimal_input.proofs.Common.{IsSignedFloor, IsSignedCeiling, EnclosesSigned, opposite, IsOver, IsBetweenSigned, mul-le-mul_right, le_out}
 use Rattle.decimal_input.specs.Fractions.{den, AtMost, Same}
 use Rattle.decimal_input.proofs.Differences.{diffs, as_diff, same_diff}
 
@@ -121,5 +121,5 @@ whole_signed lo hi s D f z h e =
     }
 
 -- With the other sign the bounds change their signs and places.
-pub negated_enclosed : (lo hi : ℤ) (s : ℕ) (f : Fraction) → EnclosesSigned lo hi s f → EnclosesSigned (neg_ℤ hi) (neg_ℤ lo) s (negated f)
+pub negated_enclosed : (lo hi : ℤ) (s : ℕ) (f : Fraction) → EnclosesSigned lo hi s f → EnclosesSigned (neg_ℤ hi) (neg_ℤ lo) s (opposite f)
 negated_enclosed lo hi s f h = grind (arith, neg_times, turned)

@@ -1,8 +1,8 @@
 use Rattle.decimal_input.proofs.Common.{nat_le, ◌≡◌, ℕ, suc, ◌+◌, ◌-◌, ◌*◌, ◌<◌, ◌≤◌, ◌^◌, inl, inr, refl, ap, sym, subst, ◌∙◌, arith, Bool, true, false, List}
 use Rattle.decimal_input.proofs.Common.{[], ◌∷◌, length, get_or, min, Option, Some, None, Result, Err, ℤ, pos, neg_ℤ, ◌+ℤ◌, ◌-ℤ◌, ints, cases_lt, le-leb}
-use Rattle.decimal_input.proofs.Common.{nat_tests, pow-add, mul-le-mul_left, mul-le-mul_right, pow-suc, Dec, NumFault, BadNumber, is_negative, unsigned}
-use Rattle.decimal_input.proofs.Common.{digits_of, behind, part_of, behind_part, exponent_of, spelling, spelt, is_digit, number_from, Spelling, with_sign}
-use Rattle.decimal_input.proofs.Common.{IsCap, IsCapped, IsOf, IsTrimmed, IsTested, IsCanonical}
+use Rattle.decimal_input.proofs.Common.{nat_tests, pow-add, mul-le-mul_left, mul-le-mul_right, pow-suc, Dec, NumFault, BadNumber, is_negative, without_sign}
+use Rattle.decimal_input.proofs.Common.{digits_of, after_digits, digits_after_point, behind_part, exponent_of, spelling, spelling_of, is_digit, number_from}
+use Rattle.decimal_input.proofs.Common.{Spelling, with_sign, IsCap, IsCapped, IsOf, IsTrimmed, IsTested, IsCanonical}
 use Rattle.decimal_input.proofs.Powers.{ten_pos}
 
 -- r is the canonical form of a reading, or its refusal
@@ -87,7 +87,7 @@ named neg whole part (Some f) e r h aw ap_ some near can =
     let ok : nat_le 1 (length whole + length part) ≡ true = le-leb 1 (length whole + length part) some in
     rw ok (canonical_capped neg (number_from (number_from 0 whole) part) (length part) e f r (coefficient_below whole part h aw ap_) (omega arith) near can)
 
-pub joined : (w body whole tail part rest : List ℕ) (neg : Bool) → neg ≡ is_negative w → body ≡ unsigned w → whole ≡ digits_of body → tail ≡ behind body → part ≡ part_of tail → rest ≡ behind_part tail → spelling neg whole part (exponent_of rest) ≡ spelt w
+pub joined : (w body whole tail part rest : List ℕ) (neg : Bool) → neg ≡ is_negative w → body ≡ without_sign w → whole ≡ digits_of body → tail ≡ after_digits body → part ≡ digits_after_point tail → rest ≡ behind_part tail → spelling neg whole part (exponent_of rest) ≡ spelling_of w
 joined w body whole tail part rest neg e₁ e₂ e₃ e₄ e₅ e₆ = rw (e₆, e₅, e₃, e₄, e₂, e₁) refl
 
 -- no digits yet

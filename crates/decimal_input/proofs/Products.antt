@@ -1,5 +1,5 @@
 use Rattle.decimal_input.proofs.Common.{◌≡◌, ℕ, suc, ◌+◌, ◌*◌, arith, refl, sym, ap, ◌∙◌, Bool, true, false, ℤ, pos, neg_ℤ, ◌*ℤ◌, ◌+ℤ◌, Result, Ok, Err, IfOk}
-use Rattle.decimal_input.proofs.Common.{List, length, inl, inr, ◌^◌, subst, ints, by_lt_z, cases_lt, Dec, NumFault, Fraction, scaled, with_sign, decimal}
+use Rattle.decimal_input.proofs.Common.{List, length, inl, inr, ◌^◌, subst, ints, by_lt_z, cases_lt, Dec, NumFault, Fraction, scaled_ratio, with_sign, decimal}
 use Rattle.decimal_input.proofs.Common.{number, Spelling, Spells, IsCanonical, Names, differ, Ratio, Same}
 use Rattle.std.proofs.Math.IntN.{*ℤ_comm}
 use Rattle.decimal_input.specs.Fractions.{times as times_signed, Same as SameSigned}
@@ -15,7 +15,7 @@ same_signed neg f g h = record { same = sign_times neg f.num (suc g.less) ∙ ap
 
 -- zeros behind the digits are a power of ten
 pub trimmed_value : (neg : Bool) (c d z : ℕ) (e : ℤ) → c ≡ d * 10 ^ z → SameSigned (decimal neg d (e +ℤ pos z)) (decimal neg c e)
-trimmed_value neg c d z e h = rw h (Same-sym (same_signed neg (scaled (d * 10 ^ z) e) (scaled d (e +ℤ pos z)) (scaled_shift d z e)))
+trimmed_value neg c d z e h = rw h (Same-sym (same_signed neg (scaled_ratio (d * 10 ^ z) e) (scaled_ratio d (e +ℤ pos z)) (scaled_shift d z e)))
 
 zeros : (neg : Bool) (m n x y : ℕ) → m ≡ 0 → n ≡ 0 → with_sign false m *ℤ pos y ≡ with_sign neg n *ℤ pos x
 zeros true m n x y p q = rw (p, q) (omega (arith, ints))
@@ -55,9 +55,9 @@ sign_product false false m n = pos_times m n
 -- The value of the product's digits and exponent is the product of the values.
 pub product_value : (a b : Dec) → SameSigned (decimal (differ a.neg b.neg) (a.digits * b.digits) (a.exp +ℤ b.exp)) (times_signed (number a) (number b))
 product_value a b =
-    let f = scaled a.digits a.exp in
-    let g = scaled b.digits b.exp in
-    let h = scaled (a.digits * b.digits) (a.exp +ℤ b.exp) in
+    let f = scaled_ratio a.digits a.exp in
+    let g = scaled_ratio b.digits b.exp in
+    let h = scaled_ratio (a.digits * b.digits) (a.exp +ℤ b.exp) in
     let cross = (scaled_times a.digits b.digits a.exp b.exp).cross in
     let whole : f.num * g.num * suc h.less ≡ h.num * (suc f.less * suc g.less) = rw (num_times f g, den_times f g) at cross in
     record {

@@ -1,8 +1,8 @@
 use Rattle.decimal_input.proofs.Common.{◌≡◌, ℕ, zero, suc, ◌+◌, ◌-◌, ◌*◌, ◌≤◌, ◌<◌, ◌^◌, arith, inl, inr, ap, ◌∙◌, Bool, true, false, ℤ, pos, neg_ℤ, ◌+ℤ◌, ◌*ℤ◌}
 use Rattle.decimal_input.proofs.Common.{◌≤ℤ◌, ◌<ℤ◌, ◌/◌, Option, Some, None, IfNone, refl, sym, subst, ints, cases_lt, Dec, with_sign, size, number, IsFloor}
-use Rattle.decimal_input.proofs.Common.{IsCeiling, IsSignedFloor, IsSignedCeiling, Ratio, scaled, IsFloorPast, IsCeilingPast, lt-mul-div-succ, div-mul-le_self}
-use Rattle.decimal_input.proofs.Common.{div-lt_iff_lt-mul, IsUnits, Fraction, IfSome, not, den, differ, nat_le, floor, ceiling, signed_units, small, FitsSigned}
-use Rattle.decimal_input.proofs.Common.{w128, units_of, lt-ltb, leb_tells, le-div_iff_mul-le}
+use Rattle.decimal_input.proofs.Common.{IsCeiling, IsSignedFloor, IsSignedCeiling, Ratio, scaled_ratio, IsFloorPast, IsCeilingPast, lt-mul-div-succ}
+use Rattle.decimal_input.proofs.Common.{div-mul-le_self, div-lt_iff_lt-mul, IsUnits, Fraction, IfSome, not, den, differ, nat_le, floor, ceiling, signed_units}
+use Rattle.decimal_input.proofs.Common.{small, FitsSigned, w128, units_of, lt-ltb, leb_tells, le-div_iff_mul-le}
 use Rattle.std.specs.Prelude.{unsigned_abs}
 use Rattle.std.specs.Option.{option_map}
 use Rattle.std.specs.Bool.{beq}
@@ -125,7 +125,7 @@ sign_fits false n lt = omega (arith, ints, lt)
 sign_fits true n lt = omega (arith, ints, lt)
 
 -- the same of a number with its sign, where its exponent is written g
-pub signed_are : (up : Bool) (a : Dec) (s : ℕ) (g : ℤ) (r : Option ℕ) → g ≡ a.exp → IsUnits (not (beq up a.neg)) (scaled a.digits g) s r → option_map (with_sign a.neg) r ≡ signed_units up a s
+pub signed_are : (up : Bool) (a : Dec) (s : ℕ) (g : ℤ) (r : Option ℕ) → g ≡ a.exp → IsUnits (not (beq up a.neg)) (scaled_ratio a.digits g) s r → option_map (with_sign a.neg) r ≡ signed_units up a s
 signed_are up a s g r e h = grind (arith, units_are, signs_differ)
 
 -- what is known of a whole number k with a sign, of which small ones are kept

@@ -1,7 +1,7 @@
 use Rattle.decimal_input.proofs.Common.{◌≡◌, ℕ, ◌+◌, ◌-◌, ◌*◌, ◌≤◌, ◌<◌, inl, inr, ◌↔◌, List, [], ◌∷◌, ◌++◌, length, Bool, false, nat_le, arith, refl, sym, ap}
 use Rattle.decimal_input.proofs.Common.{subst, ◌∙◌, ℤ, pos, ◌-ℤ◌, Option, Some, None, Result, Err, le-leb, lt-leb, leb-true, cases_Bool, Dec, NumFault}
-use Rattle.decimal_input.proofs.Common.{BadNumber, number_from, AreDigits, IsSign, IsPart, IsInteger, Spelling, Spells, is_negative, unsigned, digits_of}
-use Rattle.decimal_input.proofs.Common.{behind, part_of, behind_part, exponent_of, integer_of, spelling, spelt, IsCapped, Names}
+use Rattle.decimal_input.proofs.Common.{BadNumber, number_from, AreDigits, IsSign, IsPart, IsInteger, Spelling, Spells, is_negative, without_sign, digits_of}
+use Rattle.decimal_input.proofs.Common.{after_digits, digits_after_point, behind_part, exponent_of, integer_of, spelling, spelling_of, IsCapped, Names}
 use Rattle.decimal_input.proofs.Named.{IsNumber, joined}
 use Rattle.decimal_input.proofs.Parts.{HasNoSign, digit_first, digits_front, behind_front, sign_read, part_read, exponent_read, whole_read, sign_cut}
 use Rattle.decimal_input.proofs.Parts.{front_digits, front_cut, part_cut, exponent_cut, spelling_cut, whole_cut}
@@ -11,38 +11,38 @@ number_append c [] ys = refl
 number_append c (x ∷ xs) ys = number_append (c * 10 + (x - 48)) xs ys
 
 -- what follows the sign begins with a digit or a point
-body_first : (whole part point behind : List ℕ) → AreDigits whole → IsPart part point → 1 ≤ length whole + length part → HasNoSign (whole ++ (point ++ behind))
-body_first [] part point behind all (inl (e, _)) h = rw e (refl, refl)
-body_first [] part point behind all (inr (_, e)) h = absurd (let k : length part ≡ 0 = ap length e in omega (arith, k, h))
-body_first (b ∷ bs) part point behind all p h = digit_first b (bs ++ (point ++ behind)) (all 0 0 (omega arith))
+body_first : (whole part point after_digits : List ℕ) → AreDigits whole → IsPart part point → 1 ≤ length whole + length part → HasNoSign (whole ++ (point ++ after_digits))
+body_first [] part point after_digits all (inl (e, _)) h = rw e (refl, refl)
+body_first [] part point after_digits all (inr (_, e)) h = absurd (let k : length part ≡ 0 = ap length e in omega (arith, k, h))
+body_first (b ∷ bs) part point after_digits all p h = digit_first b (bs ++ (point ++ after_digits)) (all 0 0 (omega arith))
 
 spelling_is : (neg : Bool) (whole part : List ℕ) (e : ℤ) (n : Spelling) → n.neg ≡ neg → 1 ≤ length whole + length part → n.coefficient ≡ number_from 0 (whole ++ part) → n.exp ≡ e -ℤ pos (length part) → spelling neg whole part (Some e) ≡ Some n
 spelling_is neg whole part e n sign h c x = grind (arith, le-leb, number_append)
 
 -- A word that spells a number is read as that number.
-pub reads_spelt : (w : List ℕ) (n : Spelling) → Spells w n → spelt w ≡ Some n
+pub reads_spelt : (w : List ℕ) (n : Spelling) → Spells w n → spelling_of w ≡ Some n
 reads_spelt w n s =
     let body = s.whole ++ (s.point ++ s.behind) in
     let tail = s.point ++ s.behind in
     let sign = sign_read n.neg s.sign body s.is_sign (body_first s.whole s.part s.point s.behind s.are_digits s.is_part s.some) in
     let rest = part_read s.part s.point s.behind s.power s.is_part s.is_exponent in
     let neg_is : n.neg ≡ is_negative w = sym (ap is_negative s.cut ∙ sign.0) in
-    let body_is : body ≡ unsigned w = sym (ap unsigned s.cut ∙ sign.1) in
+    let body_is : body ≡ without_sign w = sym (ap without_sign s.cut ∙ sign.1) in
     let word = joined w body s.whole tail s.part s.behind n.neg neg_is body_is (sym (digits_front s.whole tail s.are_digits rest.0)) (sym (behind_front s.whole tail s.are_digits rest.0)) (sym rest.1.0) (sym rest.1.1) in
     sym word ∙ ap (λ (X : Option ℤ). spelling n.neg s.whole s.part X) (exponent_read s.power s.behind s.is_exponent) ∙ spelling_is n.neg s.whole s.part s.power n refl s.some s.coefficient s.exp
 
 -- A word that is read as a number spells it.
-pub spells_read : (w : List ℕ) (n : Spelling) → spelt w ≡ Some n → Spells w n
+pub spells_read : (w : List ℕ) (n : Spelling) → spelling_of w ≡ Some n → Spells w n
 spells_read w n h =
-    let body = unsigned w in
-    let tail = behind body in
+    let body = without_sign w in
+    let tail = after_digits body in
     let (s, signed, cut) = sign_cut w in
     let (pt, pointed, tail_cut) = part_cut tail in
-    let (e, read, some, is) = spelling_cut (is_negative w) (digits_of body) (part_of tail) (exponent_of (behind_part tail)) n h in
+    let (e, read, some, is) = spelling_cut (is_negative w) (digits_of body) (digits_after_point tail) (exponent_of (behind_part tail)) n h in
     record {
       sign = s;
       whole = digits_of body;
-      part = part_of tail;
+      part = digits_after_point tail;
       point = pt;
       behind = behind_part tail;
       power = e;
@@ -52,19 +52,19 @@ spells_read w n h =
       is_part = pointed;
       some = some;
       is_exponent = exponent_cut (behind_part tail) e read;
-      coefficient = ap (λ (m : Spelling). m.coefficient) is ∙ sym (number_append 0 (digits_of body) (part_of tail));
+      coefficient = ap (λ (m : Spelling). m.coefficient) is ∙ sym (number_append 0 (digits_of body) (digits_after_point tail));
       exp = ap (λ (m : Spelling). m.exp) is;
     }
 
-by_spelt : (w : List ℕ) (r : Result Dec NumFault) (X : Option Spelling) → spelt w ≡ X → IsNumber X r → ((n : Spelling) → Spells w n → ⊥) → r ≡ Err BadNumber
+by_spelt : (w : List ℕ) (r : Result Dec NumFault) (X : Option Spelling) → spelling_of w ≡ X → IsNumber X r → ((n : Spelling) → Spells w n → ⊥) → r ≡ Err BadNumber
 by_spelt w r None e h none = h
 by_spelt w r (Some n) e h none = absurd (none n (spells_read w n e))
 
 -- The reading of a short word is what the word names.
-pub names_read : (w : List ℕ) (r : Result Dec NumFault) → length w ≤ 64 → IsNumber (spelt w) r → Names w r
+pub names_read : (w : List ℕ) (r : Result Dec NumFault) → length w ≤ 64 → IsNumber (spelling_of w) r → Names w r
 names_read w r short h = record {
   long = λ lt. absurd (omega (arith, lt, short));
-  no_number = by_spelt w r (spelt w) refl h;
+  no_number = by_spelt w r (spelling_of w) refl h;
   number = λ _ n s. let P : Option Spelling → Type 0 = λ X. IsNumber X r in subst P (reads_spelt w n s) h;
 }
 
@@ -92,10 +92,10 @@ reads_integer w z i = grind (arith, sign_read, none_alone, le-leb, whole_read)
 
 -- A word that is read as an integer is it.
 pub integer_read : (w : List ℕ) (z : ℤ) → integer_of w ≡ Some z → IsInteger w z
-integer_read w z h = elim (cases_Bool (nat_le (length (unsigned w)) 18)) [
+integer_read w z h = elim (cases_Bool (nat_le (length (without_sign w)) 18)) [
   | inl k ↦ (let (s, signed, cut) = sign_cut w in
-      let r = whole_cut (is_negative w) (unsigned w) z (rw k at h) in
-      record { neg = is_negative w; sign = s; digits = unsigned w; cut = cut; is_sign = signed; are_digits = r.0; some = r.1.0; few = leb-true _ _ k; value = r.1.1 })
+      let r = whole_cut (is_negative w) (without_sign w) z (rw k at h) in
+      record { neg = is_negative w; sign = s; digits = without_sign w; cut = cut; is_sign = signed; are_digits = r.0; some = r.1.0; few = leb-true _ _ k; value = r.1.1 })
   | inr k ↦ absurd (let m : None ≡ Some z = rw k at h in cc)
 ]
 

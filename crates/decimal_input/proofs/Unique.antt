@@ -1,6 +1,6 @@
 use Rattle.decimal_input.proofs.Common.{◌≡◌, ℕ, suc, ◌+◌, ◌-◌, ◌*◌, ◌%◌, ◌≤◌, ◌<◌, ◌^◌, inl, inr, arith, refl, sym, ap, subst, ◌∙◌, Bool, List, length, ℤ, pos}
 use Rattle.decimal_input.proofs.Common.{◌+ℤ◌, Option, Some, None, Result, ◌⊎◌, true, false, by_lt_z, ints, pow-add, cases_lt, mul-le-mul, pow-suc, Dec}
-use Rattle.decimal_input.proofs.Common.{NumFault, IsTrimmed, Spelling, Spells, spelt, IsTested, IsCanonical, Names, up, down, with_sign, number, IsDec}
+use Rattle.decimal_input.proofs.Common.{NumFault, IsTrimmed, Spelling, Spells, spelling_of, IsTested, IsCanonical, Names, up, down, with_sign, number, IsDec}
 use Rattle.decimal_input.proofs.Common.{eq_of_mul-eq-mul_right}
 use Rattle.decimal_input.proofs.Powers.{ten_pos, cross_of, up_down}
 use Rattle.decimal_input.proofs.Spelled.{reads_spelt, spells_read}
@@ -52,13 +52,13 @@ canonical_one neg c e r q (inr (d, z, s, a)) (inr (f, y, t, b)) =
 pub names_one : (w : List ℕ) (r q : Result Dec NumFault) → Names w r → Names w q → r ≡ q
 names_one w r q a b = elim (cases_lt 64 (length w)) [
   | inl long ↦ a.long long ∙ sym (b.long long)
-  | inr short ↦ by (spelt w) refl short
+  | inr short ↦ by (spelling_of w) refl short
 ]
   where
-    none_is_some : (n : Spelling) → spelt w ≡ None → spelt w ≡ Some n → ⊥
+    none_is_some : (n : Spelling) → spelling_of w ≡ None → spelling_of w ≡ Some n → ⊥
     none_is_some n e f = let k : None ≡ Some n = sym e ∙ f in cc
 
-    by : (X : Option Spelling) → spelt w ≡ X → length w ≤ 64 → r ≡ q
+    by : (X : Option Spelling) → spelling_of w ≡ X → length w ≤ 64 → r ≡ q
     by None e short =
         let none : (n : Spelling) → Spells w n → ⊥ = λ n s. none_is_some n e (reads_spelt w n s) in
         a.no_number none ∙ sym (b.no_number none)

@@ -1,6 +1,6 @@
 use Rattle.decimal_input.proofs.Common.{◌≡◌, ℕ, zero, suc, ◌+◌, ◌*◌, ◌-◌, ◌/◌, ◌≤◌, ◌<◌, ◌^◌, ap, arith, ℤ, pos, ◌+ℤ◌, Option, Some, None, MatchOption, ints}
-use Rattle.decimal_input.proofs.Common.{mul-le-mul, mul-le-mul_right, lt-mul-div-succ, div-mul-le_self, div-lt_iff_lt-mul, Ratio, scaled, up, down, IsFloor}
-use Rattle.decimal_input.proofs.Common.{IsCeiling, Reaches, Passes, IsUnits, Bool, true, false, min, cases_lt, inl, inr, ◌∙◌}
+use Rattle.decimal_input.proofs.Common.{mul-le-mul, mul-le-mul_right, lt-mul-div-succ, div-mul-le_self, div-lt_iff_lt-mul, Ratio, scaled_ratio, up, down}
+use Rattle.decimal_input.proofs.Common.{IsFloor, IsCeiling, Reaches, Passes, IsUnits, Bool, true, false, min, cases_lt, inl, inr, ◌∙◌}
 use Rattle.decimal_input.proofs.Cross.{lt_right, lt_cancel, le_cancel}
 use Rattle.decimal_input.proofs.Powers.{ten_pos, ten_more, num_scaled, den_scaled, up_down, pow_three}
 
@@ -12,7 +12,7 @@ pub below_ten : (n k j : ℕ) → n < 10 ^ 18 → k ≡ 18 + j → n < 10 ^ k
 below_ten n k j h e = rw e (omega (arith, ten_more 18 j))
 
 -- a decimal with the exponent k, from 0 on, in units of 10 ^ -s
-pub whole_units : (m s k : ℕ) (e : ℤ) → e +ℤ pos s ≡ pos k → (scaled m e).num * 10 ^ s ≡ (m * 10 ^ k) * suc (scaled m e).less
+pub whole_units : (m s k : ℕ) (e : ℤ) → e +ℤ pos s ≡ pos k → (scaled_ratio m e).num * 10 ^ s ≡ (m * 10 ^ k) * suc (scaled_ratio m e).less
 whole_units m s k e h = rw (num_scaled, den_scaled) (regroup m (10 ^ up e) (10 ^ s) (10 ^ k) (10 ^ down e) (pow_three (up e) s 0 k (down e) 0 (whole_balance e s k h)))
   where
     regroup : (m a b x y : ℕ) → a * b * 1 ≡ x * y * 1 → m * a * b ≡ (m * x) * y
@@ -22,7 +22,7 @@ cut_balance : (e : ℤ) (s k : ℕ) → e +ℤ pos s +ℤ pos k ≡ pos 0 → up
 cut_balance e s k h = omega (arith, ints, h, up_down e)
 
 -- a decimal with the exponent -k in units of 10 ^ -s
-pub cut_units : (m s k : ℕ) (e : ℤ) → e +ℤ pos s +ℤ pos k ≡ pos 0 → ((scaled m e).num * 10 ^ s) * 10 ^ k ≡ m * suc (scaled m e).less
+pub cut_units : (m s k : ℕ) (e : ℤ) → e +ℤ pos s +ℤ pos k ≡ pos 0 → ((scaled_ratio m e).num * 10 ^ s) * 10 ^ k ≡ m * suc (scaled_ratio m e).less
 cut_units m s k e h = rw (num_scaled, den_scaled) (regroup m (10 ^ up e) (10 ^ s) (10 ^ k) (10 ^ down e) (pow_three (up e) s k (down e) 0 0 (cut_balance e s k h)))
   where
     regroup : (m a b c x : ℕ) → a * b * c ≡ x * 1 * 1 → ((m * a) * b) * c ≡ m * x
@@ -51,7 +51,7 @@ floor_quotient f m s k t few ht h = elim (cases_lt k 18) [
 floor_zero : (f : Ratio) (s : ℕ) → f.num ≡ 0 → IsFloor 0 f s
 floor_zero f s h = record { at_most = omega arith; next = rw h (omega arith) }
 
-pub num_nothing : (m : ℕ) (e : ℤ) → m ≡ 0 → (scaled m e).num ≡ 0
+pub num_nothing : (m : ℕ) (e : ℤ) → m ≡ 0 → (scaled_ratio m e).num ≡ 0
 num_nothing m e h = rw (num_scaled, h) (omega arith)
 
 ceiling_zero : (f : Ratio) (s : ℕ) → f.num ≡ 0 → IsCeiling 0 f s
@@ -89,12 +89,12 @@ past_units m k h lt = by_more (k - 39) (omega arith)
     by_more j e = rw e (omega (arith, mul-le-mul h (ten_more 39 j)))
 
 -- a whole number of units is its own floor and ceiling
-pub whole_are : (up : Bool) (r : Option ℕ) (m s k : ℕ) (e : ℤ) → e +ℤ pos s ≡ pos k → MatchOption r (2 ^ 126 ≤ m * 10 ^ k) (λ n. (n ≡ m * 10 ^ k) × (n < 2 ^ 126)) → IsUnits up (scaled m e) s r
-whole_are false None m s k e h p = reaches_whole (scaled m e) _ (m * 10 ^ k) s (whole_units m s k e h) p
-whole_are false (Some n) m s k e h (is, p) = (floor_whole (scaled m e) n s (rw is (whole_units m s k e h)), p)
-whole_are true None m s k e h p = passes_whole (scaled m e) _ (m * 10 ^ k) s (whole_units m s k e h) (omega (arith, p))
-whole_are true (Some n) m s k e h (is, p) = (ceiling_whole (scaled m e) n s (rw is (whole_units m s k e h)), p)
+pub whole_are : (up : Bool) (r : Option ℕ) (m s k : ℕ) (e : ℤ) → e +ℤ pos s ≡ pos k → MatchOption r (2 ^ 126 ≤ m * 10 ^ k) (λ n. (n ≡ m * 10 ^ k) × (n < 2 ^ 126)) → IsUnits up (scaled_ratio m e) s r
+whole_are false None m s k e h p = reaches_whole (scaled_ratio m e) _ (m * 10 ^ k) s (whole_units m s k e h) p
+whole_are false (Some n) m s k e h (is, p) = (floor_whole (scaled_ratio m e) n s (rw is (whole_units m s k e h)), p)
+whole_are true None m s k e h p = passes_whole (scaled_ratio m e) _ (m * 10 ^ k) s (whole_units m s k e h) (omega (arith, p))
+whole_are true (Some n) m s k e h (is, p) = (ceiling_whole (scaled_ratio m e) n s (rw is (whole_units m s k e h)), p)
 
-pub nothing_is : (up : Bool) (m s : ℕ) (e : ℤ) → m ≡ 0 → IsUnits up (scaled m e) s (Some 0)
+pub nothing_is : (up : Bool) (m s : ℕ) (e : ℤ) → m ≡ 0 → IsUnits up (scaled_ratio m e) s (Some 0)
 nothing_is false m s e h = (floor_zero _ s (num_nothing m e h), omega arith)
 nothing_is true m s e h = (ceiling_zero _ s (num_nothing m e h), omega arith)

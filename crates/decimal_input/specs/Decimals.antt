@@ -14,8 +14,8 @@ down (pos n) = 0
 down (negsuc n) = suc n
 
 -- The fraction m * 10 ^ e.
-unfoldable pub scaled : ℕ → ℤ → Ratio
-scaled m e = ratio (m * 10 ^ up e) (10 ^ down e)
+unfoldable pub scaled_ratio : ℕ → ℤ → Ratio
+scaled_ratio m e = ratio (m * 10 ^ up e) (10 ^ down e)
 
 -- n, or -n where there is a minus sign.
 abbrev pub with_sign : Bool → ℕ → ℤ
@@ -29,11 +29,11 @@ differ false b = b
 
 -- The fraction m * 10 ^ e, with a sign.
 abbrev pub decimal : Bool → ℕ → ℤ → Fraction
-decimal neg m e = record { num = with_sign neg (scaled m e).num; less = (scaled m e).less }
+decimal neg m e = record { num = with_sign neg (scaled_ratio m e).num; less = (scaled_ratio m e).less }
 
 -- The magnitude of a number of the input: digits * 10 ^ exp.
 abbrev pub size : Dec → Ratio
-size d = scaled d.digits d.exp
+size d = scaled_ratio d.digits d.exp
 
 -- The value of a number of the input, with its sign.
 abbrev pub number : Dec → Fraction

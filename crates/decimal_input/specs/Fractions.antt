@@ -15,12 +15,12 @@ abbrev pub whole : ℤ → Fraction
 whole z = record { num = z; less = 0 }
 
 -- A fraction that isn't negative, as a fraction.
-abbrev pub signed : Ratio → Fraction
-signed r = record { num = pos r.num; less = r.less }
+abbrev pub as_fraction : Ratio → Fraction
+as_fraction r = record { num = pos r.num; less = r.less }
 
 -- f with the other sign.
-abbrev pub negated : Fraction → Fraction
-negated f = record { num = neg_ℤ f.num; less = f.less }
+abbrev pub opposite : Fraction → Fraction
+opposite f = record { num = neg_ℤ f.num; less = f.less }
 
 -- f + g
 abbrev pub plus : Fraction → Fraction → Fraction

@@ -93,27 +93,27 @@ is_negative [] = false
 is_negative (b ∷ bs) = b == 45
 
 -- the word without its sign
-abbrev pub unsigned : List ℕ → List ℕ
-unsigned [] = []
-unsigned (b ∷ bs) = if is_sign b then bs else b ∷ bs
+abbrev pub without_sign : List ℕ → List ℕ
+without_sign [] = []
+without_sign (b ∷ bs) = if is_sign b then bs else b ∷ bs
 
 -- the leading digits
 abbrev pub digits_of : List ℕ → List ℕ
 digits_of bs = take_while is_digit bs
 
 -- what follows the leading digits
-abbrev pub behind : List ℕ → List ℕ
-behind bs = drop (prefix_len is_digit bs) bs
+abbrev pub after_digits : List ℕ → List ℕ
+after_digits bs = drop (prefix_len is_digit bs) bs
 
 -- the digits after a point, where there is one
-abbrev pub part_of : List ℕ → List ℕ
-part_of [] = []
-part_of (b ∷ bs) = if b == 46 then digits_of bs else []
+abbrev pub digits_after_point : List ℕ → List ℕ
+digits_after_point [] = []
+digits_after_point (b ∷ bs) = if b == 46 then digits_of bs else []
 
 -- what follows the point and its digits
 abbrev pub behind_part : List ℕ → List ℕ
 behind_part [] = []
-behind_part (b ∷ bs) = if b == 46 then behind bs else b ∷ bs
+behind_part (b ∷ bs) = if b == 46 then after_digits bs else b ∷ bs
 
 -- digits alone, and at least one
 abbrev pub whole_number : Bool → List ℕ → Option ℤ
@@ -121,12 +121,12 @@ whole_number neg bs = if nat_le 1 (length bs) && nat_le (length bs) (prefix_len 
 
 -- the integer that a word spells, if any: a sign, or none, and 1 to 18 digits
 abbrev pub integer_of : List ℕ → Option ℤ
-integer_of w = if nat_le (length (unsigned w)) 18 then whole_number (is_negative w) (unsigned w) else None
+integer_of w = if nat_le (length (without_sign w)) 18 then whole_number (is_negative w) (without_sign w) else None
 
 -- the exponent after a mark, or 0 where nothing is written
 abbrev pub exponent_of : List ℕ → Option ℤ
 exponent_of [] = Some (pos 0)
-exponent_of (b ∷ bs) = if is_mark b then whole_number (is_negative bs) (unsigned bs) else None
+exponent_of (b ∷ bs) = if is_mark b then whole_number (is_negative bs) (without_sign bs) else None
 
 -- the number of the digits before the point, those after it, and the exponent
 abbrev pub spelling : Bool → List ℕ → List ℕ → Option ℤ → Option Spelling
@@ -140,8 +140,8 @@ spelling neg whole part (Some e) =
     }) else None
 
 -- the number that a word spells by the grammar, if any
-abbrev pub spelt : List ℕ → Option Spelling
-spelt w =
-    let body = unsigned w in
-    let tail = behind body in
-    spelling (is_negative w) (digits_of body) (part_of tail) (exponent_of (behind_part tail))
+abbrev pub spelling_of : List ℕ → Option Spelling
+spelling_of w =
+    let body = without_sign w in
+    let tail = after_digits body in
+    spelling (is_negative w) (digits_of body) (digits_after_point tail) (exponent_of (behind_part tail))

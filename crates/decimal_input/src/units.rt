@@ -1,7 +1,7 @@
 // A number of the input as whole units.
 ghost use Rattle.std.specs.Prelude.{◌<◌, ◌^◌, Bool, IfNone, IfSome, unsigned_abs, ◌≡◌, ◌*◌, ◌≤◌, MatchOption};
-ghost use Rattle.decimal_input.specs.{IsDec, number, scaled, IsCeilingPast, IsFloorPast, IsSignedCeiling, IsSignedFloor, IsUnits, ceiling, floor, signed_units};
-ghost use Rattle.decimal_input.specs.{with_sign};
+ghost use Rattle.decimal_input.specs.{IsDec, number, scaled_ratio, IsCeilingPast, IsFloorPast, IsSignedCeiling, IsSignedFloor, IsUnits, ceiling, floor};
+ghost use Rattle.decimal_input.specs.{signed_units, with_sign};
 
 use crate::dec::Dec;
 
@@ -69,7 +69,7 @@ fn multiple(m: u64, places: u64) -> Option<u128>
 /// one not above it; None where that is 2 ^ 126 or more.
 pub fn units_of(m: u64, e: i16, s: u32, up: bool) -> Option<u128>
     requires digits { m < 10 ^ 18 }
-    ensures value { IsUnits up (scaled m e) s result }
+    ensures value { IsUnits up (scaled_ratio m e) s result }
 {
     if m == 0 {
         return Some(0);

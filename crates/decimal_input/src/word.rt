@@ -1,12 +1,12 @@
 // The parts of a number's word.
 ghost use Rattle.std.specs.Prelude.{◌≡◌, ℕ, ◌+◌, ◌<◌, ◌≤◌, length, slice_index, true, min, ℤ, pos, neg_ℤ, ◌≤ℤ◌, IfSome, ◌↔◌, ◌^◌, Some};
-ghost use Rattle.decimal_input.specs.{is_negative, unsigned, digits_of, behind, part_of, behind_part, is_digit, is_mark, exponent_of, number_from, IsInteger};
-ghost use Rattle.decimal_input.specs.{integer_of, IsCapped};
+ghost use Rattle.decimal_input.specs.{is_negative, without_sign, digits_of, after_digits, digits_after_point, behind_part, is_digit, is_mark, exponent_of};
+ghost use Rattle.decimal_input.specs.{number_from, IsInteger, integer_of, IsCapped};
 
 // The sign, and what follows it.
 pub fn split_sign(word: &[u8]) -> (bool, &[u8])
     ensures sign { result.0 ≡ is_negative word.now }
-    ensures rest { result.1.now ≡ unsigned word.now }
+    ensures rest { result.1.now ≡ without_sign word.now }
     ensures len { length result.1.now ≤ length word.now }
 {
     match word {
@@ -20,7 +20,7 @@ pub fn split_sign(word: &[u8]) -> (bool, &[u8])
 #[tactic(auto, using(crate::proofs::Parts::front_is, crate::proofs::Parts::front_taken, crate::proofs::Parts::front_dropped))]
 pub fn split_digits(word: &[u8]) -> (&[u8], &[u8])
     ensures digits { result.0.now ≡ digits_of word.now }
-    ensures rest { result.1.now ≡ behind word.now }
+    ensures rest { result.1.now ≡ after_digits word.now }
     ensures all { (i : ℕ) → i < length result.0.now → is_digit (slice_index result.0.now i) ≡ true }
     ensures len { length result.0.now + length result.1.now ≡ length word.now }
 {
@@ -34,7 +34,7 @@ pub fn split_digits(word: &[u8]) -> (&[u8], &[u8])
 
 // The digits after a point, and what follows them.
 pub fn split_part(word: &[u8]) -> (&[u8], &[u8])
-    ensures digits { result.0.now ≡ part_of word.now }
+    ensures digits { result.0.now ≡ digits_after_point word.now }
     ensures rest { result.1.now ≡ behind_part word.now }
     ensures all { (i : ℕ) → i < length result.0.now → is_digit (slice_index result.0.now i) ≡ true }
     ensures len { length result.0.now + length result.1.now ≤ length word.now }
@@ -53,7 +53,7 @@ pub fn digit_byte(b: u8) -> bool
     48 <= b && b <= 57
 }
 
-pub fn mark_byte(b: u8) -> bool
+pub fn is_exponent_letter(b: u8) -> bool
     ensures { result ≡ is_mark b }
 {
     b == b'E' || b == b'e' || b == b'D' || b == b'd'
@@ -84,7 +84,7 @@ pub fn exponent(tail: &[u8]) -> Option<i32>
     match tail {
         [] => Some(0),
         [mark, rest @ ..] => {
-            if !mark_byte(*mark) {
+            if !is_exponent_letter(*mark) {
                 return None;
             }
             let (neg, body) = split_sign(rest);

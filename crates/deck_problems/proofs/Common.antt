@@ -8,7 +8,7 @@ pub use Rattle.decimal_input.specs.{EnclosesSigned, Fraction}
 pub use Rattle.deck_problems.specs.{AreConstantHeadsFor, AreDecks, AreHullBounds, AreStartHeadsFor, AreStartHulls, AreStartsBy, ConstantPairEncloses}
 pub use Rattle.deck_problems.specs.{ConstantPairFits, ConstantPairIsOne, EachMember, EnclosesSteps, HasCellsOf, HoldsOf, IsConstantHull, IsFaultFor}
 pub use Rattle.deck_problems.specs.{IsHullBound, IsHullRefusal, IsMember, IsOf, IsPairOf, IsProblemBy, IsProblemFor, IsSecond, ProblemEncloses, ProblemFits}
-pub use Rattle.deck_problems.specs.{ProblemsAreAlike, StartHeadsAreOne, StartHeadsEnclose, StartHeadsFit, hulled, one_deck, problem_by}
+pub use Rattle.deck_problems.specs.{ProblemsAreAlike, StartHeadsAreOne, StartHeadsEnclose, StartHeadsFit, hull_or_refusal, one_deck, problem_by}
 pub use Rattle.deck_problems.specs.declared.decks.Decks.{Decks}
 pub use Rattle.deck_span.proofs.AlikeBetween.{alike_between}
 pub use Rattle.deck_span.proofs.HullBounds.{hull_of_numbers}
@@ -22,9 +22,9 @@ pub use Rattle.model_types.specs.declared.time_steps.TimeStep.{TimeStep}
 pub use Rattle.problem_builder.proofs.CellFits.{item_is, starts_enclose, starts_fit}
 pub use Rattle.problem_builder.proofs.Steps.{cells_of, unless_parts}
 pub use Rattle.problem_builder.proofs.TimesOf.{time_of}
-pub use Rattle.problem_builder.specs.{AreConstantHeads, AreGridHeads, AreStartHeads, HeadsEnclose, IsActive, IsBuildFault, IsBuilt, IsProblemOf, bound_at}
-pub use Rattle.problem_builder.specs.{constant_bound, each_cell, known_bound, problem_of, start_bound, unless_refused, whole_cell, whole_drain, whole_evap}
-pub use Rattle.problem_builder.specs.{whole_fixed, whole_flow, whole_link, whole_river}
+pub use Rattle.problem_builder.specs.{AreConstantHeads, AreGridHeads, AreStartHeads, HeadsEnclose, IsActive, IsBuildFault, IsBuilt, IsCellNamed, IsProblemOf}
+pub use Rattle.problem_builder.specs.{bound_at, constant_bound, each_cell, known_bound, problem_of, start_bound, unless_refused, whole_cell, whole_drain}
+pub use Rattle.problem_builder.specs.{whole_evap, whole_fixed, whole_flow, whole_link, whole_river}
 pub use Rattle.problem_hull.proofs.Fits.{is_problem, lower_head, upper_head}
 pub use Rattle.problem_hull.proofs.Hulls.{hull_at, hull_count, hull_keeps, same_lengths, zip_at, zip_left}
 pub use Rattle.problem_hull.specs.{IsHull, cell_hull, cell_shape, drain_shape, evap_shape, first_refusal, fixed_hull, fixed_shape, flow_shape, river_shape}

@@ -5,9 +5,8 @@ use Rattle.deck_problems.proofs.Common.{fixed_shape, fixed_hull, cell_shape, zip
 use Rattle.deck_problems.proofs.Common.{Decks, AreConstantHeadsFor, IsSecond, AreDecks, AreHullBounds, HasCellsOf, IsHullRefusal, IsProblemFor, IsFaultFor}
 use Rattle.deck_problems.proofs.Common.{AreConstantHeads, entries_at, get_or-map, none, Bool, false, cond, cell_count, is_constant, no_bound, bound_at}
 use Rattle.deck_problems.proofs.Common.{known_bound, constant_bound, item_is, IsHullBound, Result, Ok, Err, option_to_list, NoBound, problem_of, unless_refused}
-use Rattle.deck_problems.proofs.Common.{cell_hull, first_refusal, hulled, problem_by}
+use Rattle.deck_problems.proofs.Common.{cell_hull, first_refusal, hull_or_refusal, problem_by, IsCellNamed}
 use Rattle.step_problem.specs.declared.entry.Fixed.{Fixed}
-use Rattle.problem_builder.specs.GridHeads.{IsNamed}
 use Rattle.problem_builder.specs.declared.fault.BuildFault.{BuildFault}
 use Rattle.std.specs.Prelude.{true}
 use Rattle.problem_hull.proofs.Refusals.{no_refusal}
@@ -25,7 +24,7 @@ named_fixed p q same c (x, (i, lt, e), source) =
     let of_first = ap (λ (y : Fixed). y.source) (sym e ∙ get_or_default r i x (fixed_hull x x) lt ∙ zip_at fixed_hull p q i x x same) in
     (get_or p i x, (i, inside, get_or_default p i (get_or p i x) x inside), source ∙ of_first)
 
-hull_named : (p q r : List Entries) → IsHull p q r → (c : ℕ) → IsNamed r c → IsNamed p c
+hull_named : (p q r : List Entries) → IsHull p q r → (c : ℕ) → IsCellNamed r c → IsCellNamed p c
 hull_named p q r h c (k, lt, by) =
     let here = hull_at p q r h k in
     let inside : k < length p = omega (arith, lt, hull_count p q r h) in
@@ -85,8 +84,8 @@ module _ (d : Decks) (b : FlowModel) (is : d.second ≡ Some b) where
 
   module _ (s : ℕ) (at : TimeStep) (old : List Bound) where
     -- the step's result, by those of the two models
-    both : (x y r : Result (List Entries) NoBound) → problem_of d.first s at old ≡ x → problem_of b s at old ≡ y → hulled x y ≡ r → problem_by d.first d.second s at old ≡ r
-    both x y r h k e = ap (λ (o : Option FlowModel). problem_by d.first o s at old) is ∙ (λ t. hulled (h t) (k t)) ∙ e
+    both : (x y r : Result (List Entries) NoBound) → problem_of d.first s at old ≡ x → problem_of b s at old ≡ y → hull_or_refusal x y ≡ r → problem_by d.first d.second s at old ≡ r
+    both x y r h k e = ap (λ (o : Option FlowModel). problem_by d.first o s at old) is ∙ (λ t. hull_or_refusal (h t) (k t)) ∙ e
 
     pub problem_of_hull : (p q r : List Entries) → IsProblemOf d.first s at old p → IsProblemOf b s at old q → IsHull p q r → IsProblem r → IsProblemFor d s at old r
     problem_of_hull p q r h k hull fits =

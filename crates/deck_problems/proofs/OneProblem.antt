@@ -3,7 +3,7 @@ use Rattle.deck_problems.proofs.Common.{◌≡◌, ℕ, Option, Some, None, List
 use Rattle.deck_problems.proofs.Common.{IsModel, cell_count, is_variable, is_constant, index_of, is_active, IsProblemOf, IsActive, HeadsEnclose, IsHull}
 use Rattle.deck_problems.proofs.Common.{IsProblemBy, one_deck, AreDecks, IsOf, IsMember, HoldsOf, zip_with, ap, [], EachMember, ◌&&◌, not, Fraction, IsBetween}
 use Rattle.deck_problems.proofs.Common.{count_is, active_is, variable_same, index_is, times_are, Decks, unless_parts, Result, Ok, Err, option_to_list, NoBound}
-use Rattle.deck_problems.proofs.Common.{problem_of, cell_hull, first_refusal, AreAlike, hulled}
+use Rattle.deck_problems.proofs.Common.{problem_of, cell_hull, first_refusal, AreAlike, hull_or_refusal}
 use Rattle.deck_problems.proofs.ProblemsAlike.{problems_alike}
 
 -- the problem of two models is the hull of their problems, and no sum of it is too large
@@ -22,7 +22,7 @@ none_listed (Some x) e = absurd cc
 pub hull_parts : (a b : FlowModel) (s : ℕ) (at : TimeStep) (old : List Bound) (r : List Entries) → IsModel a → AreAlike a b → IsProblemBy a (Some b) s at old r → IsHullProblem a b s at old r
 hull_parts a b s at old r valid alike = parts (problem_of a s at old) (problem_of b s at old) refl refl
   where
-    parts : (x y : Result (List Entries) NoBound) → problem_of a s at old ≡ x → problem_of b s at old ≡ y → hulled x y ≡ Ok r → IsHullProblem a b s at old r
+    parts : (x y : Result (List Entries) NoBound) → problem_of a s at old ≡ x → problem_of b s at old ≡ y → hull_or_refusal x y ≡ Ok r → IsHullProblem a b s at old r
     parts (Err n) y i j e = absurd cc
     parts (Ok p) (Err n) i j e = absurd cc
     parts (Ok p) (Ok q) i j e =

@@ -8,7 +8,7 @@ use Rattle.model_types.specs.declared.face.Axis.{Axis}
 use Rattle.model_types.specs.declared.face.Axis.TheVariants.{Row, Column, Vertical}
 use Rattle.model_types.specs.declared.face.Face.{Face}
 use Rattle.model_types.specs.declared.period.Period.{Period}
-use Rattle.conductance_bounds.specs.{face_term, capped}
+use Rattle.conductance_bounds.specs.{face_term, capped_pair}
 use Rattle.deck_span.proofs.SourcesBetween.{IsFlowSourceBetween, IsFixedSourceBetween, IsRiverSourceBetween, IsDrainSourceBetween, IsEvapSourceBetween, framed}
 use Rattle.deck_span.proofs.SourcesBetween.{cells_are, faces_are, three_flows, three_fixed, three_rivers, three_drains, three_evaps}
 use Rattle.deck_span.proofs.SourcesBetween.IsFlowSourceBetween.{pumped, received}
@@ -52,7 +52,7 @@ module _ (f : FlowModel) (s₁ s₃ : List Dec) (ps rs : List Period) (periods :
   same_link : (y : Face) → whole_link B s at old y ≡ whole_link A s at old y
   same_link y =
       let cell = ap length (cells_are f s₁ s₁ s₃ ps ps rs periods at.period y.end).1 in
-      let pair = ap (λ t. capped t s) (term_is y.axis y.first) in
+      let pair = ap (λ t. capped_pair t s) (term_is y.axis y.first) in
       λ i. record { cell = cell i; lo = (pair i).lo; hi = (pair i).hi }
 
   same_shape : (c : ℕ) → cell_shape (whole_cell B s at old c) ≡ cell_shape (whole_cell A s at old c)

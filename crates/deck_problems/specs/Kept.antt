@@ -3,7 +3,7 @@ use Rattle.std.specs.Prelude.{◌≡◌, ℕ, ◌<◌, List, length, map, ℤ, t
 use Rattle.model_types.specs.declared.model.FlowModel.{FlowModel}
 use Rattle.model_types.specs.{given_heads, variable_cells, cell_count, is_constant, IsModel}
 use Rattle.problem_builder.specs.{AreTables, ArePeriodTables, AreEvenStorages, BothOrNone, AreConstantHeads, HeadsEnclose, IsActive, IsProblemOf}
-use Rattle.problem_builder.specs.{IsConstantPair, AreStartHeads, bound_at, Filled, each_cell, start_bound, constant_bound}
+use Rattle.problem_builder.specs.{IsConstantPair, AreStartHeads, bound_at, Filled, each_cell, start_bound, constant_bound, IsCellNamed}
 use Rattle.deck_problems.specs.declared.decks.Decks.{Decks}
 use Rattle.deck_problems.specs.declared.kept.RunTables.{RunTables}
 use Rattle.deck_problems.specs.declared.problem.DeckTables.{DeckTables}
@@ -13,7 +13,6 @@ use Rattle.step_problem.specs.Entries.{Entries}
 use Rattle.cell_balance.specs.{EnclosesStep}
 use Rattle.model_types.specs.declared.time_steps.TimeStep.{TimeStep}
 use Rattle.flow_equations.specs.{exact_step}
-use Rattle.problem_builder.specs.GridHeads.{IsNamed}
 use Rattle.problem_builder.specs.declared.fault.BuildFault.{BuildFault}
 use Rattle.problem_builder.specs.declared.fault.BuildFault.TheVariants.{NoBound as Refused, Memory}
 use Rattle.problem_hull.specs.{IsTooLarge, IsHullPair}
@@ -50,7 +49,7 @@ EnclosesSteps s at old p m = (before : ℕ → Fraction) → HeadsEnclose m old 
 -- the variable cells of a problem are those of a model, and each cell that it names is active
 pub record HasCellsOf (m : FlowModel) (at : TimeStep) (p : List Entries) : Type 0 where
   pub cells : map (λ e. e.id) p ≡ variable_cells m at.period
-  pub named : (c : ℕ) → IsNamed p c → IsActive m c
+  pub named : (c : ℕ) → IsCellNamed p c → IsActive m c
 
 -- the problem and the constant heads of one model
 pub record IsModelProblem (m : FlowModel) (s : ℕ) (at : TimeStep) (old : List Bound) (x : DeckProblem) : Type 0 where

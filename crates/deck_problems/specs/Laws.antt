@@ -19,16 +19,16 @@ use Rattle.problem_builder.specs.declared.fault.BuildFault.TheVariants.{NoBound 
 
 -- The results of two models that are alike, as one: the refusal of the first one, or of the second; or the hull of their problems, or
 -- the refusal of its first cell that has a sum too large.
-abbrev pub hulled : Result (List Entries) NoBound → Result (List Entries) NoBound → Result (List Entries) NoBound
-hulled (Err n) second = Err n
-hulled (Ok p) (Err n) = Err n
-hulled (Ok p) (Ok q) = unless_refused (option_to_list (first_refusal (zip_with cell_hull p q))) (zip_with cell_hull p q)
+abbrev pub hull_or_refusal : Result (List Entries) NoBound → Result (List Entries) NoBound → Result (List Entries) NoBound
+hull_or_refusal (Err n) second = Err n
+hull_or_refusal (Ok p) (Err n) = Err n
+hull_or_refusal (Ok p) (Ok q) = unless_refused (option_to_list (first_refusal (zip_with cell_hull p q))) (zip_with cell_hull p q)
 
 -- The problem of a time step of one model or of two, with s digits of conductances, where `old` are the heads of all cells before it;
 -- or its refusal.
 abbrev pub problem_by : FlowModel → Option FlowModel → ℕ → TimeStep → List Bound → Result (List Entries) NoBound
 problem_by a None s at old = problem_of a s at old
-problem_by a (Some b) s at old = hulled (problem_of a s at old) (problem_of b s at old)
+problem_by a (Some b) s at old = hull_or_refusal (problem_of a s at old) (problem_of b s at old)
 
 abbrev pub IsProblemBy : FlowModel → Option FlowModel → ℕ → TimeStep → List Bound → List Entries → Type 0
 IsProblemBy a o s at old p = problem_by a o s at old ≡ Ok p

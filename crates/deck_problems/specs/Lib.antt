@@ -5,4 +5,4 @@ pub use Rattle.deck_problems.specs.Kept.{AreStartsBy, AreTablesOf, EachMember, E
 pub use Rattle.deck_problems.specs.Kept.{IsConstantPairFor, IsHullBound, IsHullRefusal, IsMember, IsModelProblem, IsOf, IsPairOf, IsSecond, digits_of, one_deck}
 pub use Rattle.deck_problems.specs.Laws.{ConstantPairEncloses, ConstantPairFits, ConstantPairIsOne, HasNoProblemFor, IsBefore, IsFaultFor, IsProblemBy}
 pub use Rattle.deck_problems.specs.Laws.{IsProblemFor, ProblemEncloses, ProblemFits, ProblemsAreAlike, StartHeadsAreOne, StartHeadsEnclose, StartHeadsFit}
-pub use Rattle.deck_problems.specs.Laws.{hulled, problem_by}
+pub use Rattle.deck_problems.specs.Laws.{hull_or_refusal, problem_by}

@@ -14,7 +14,8 @@ pub use Rattle.cell_balance.specs.{CellEncloses, DrainEncloses, EnclosesStep, Ev
 pub use Rattle.cell_balance.specs.{ExactRiver, FixedEncloses, FlowEncloses, HasEqualEnds, HasLinkBack, LinkEncloses, RiverEncloses, cell_at}
 pub use Rattle.decimal_input.proofs.FloorLaws.{cross_trans_signed, le-add, mul_mono_right, neg_times}
 pub use Rattle.decimal_input.proofs.Orders.{AtMost-refl, AtMost-trans, den_plus, num_plus, over-AtMost, times-AtMost}
-pub use Rattle.decimal_input.specs.{Encloses, EnclosesSigned, Fraction, IsOver, Ratio, decimal, down, negated, number, over, scaled, signed, size, up}
+pub use Rattle.decimal_input.specs.{Encloses, EnclosesSigned, Fraction, IsOver, Ratio, as_fraction, decimal, down, number, opposite, over, scaled_ratio, size}
+pub use Rattle.decimal_input.specs.{up}
 pub use Rattle.decimal_input.specs.Fractions.{AtMost, den, plus}
 pub use Rattle.decimal_input.specs.declared.dec.Dec.{Dec}
 pub use Rattle.deck_span.specs.{AllThree, AreAlike, AreArraysSame, AreEntriesAlike, AreGivenAlike, ArePeriodsAlike, AreRatesAlike, AreSame, Finds, InOrder}
@@ -22,8 +23,8 @@ pub use Rattle.deck_span.specs.{IsBetween, IsCell, IsCellBetween, IsCellIn, IsDe
 pub use Rattle.deck_span.specs.{IsFirstDifference, IsFirstOfLayers, IsFixedBetween, IsFlowBetween, IsFound, IsFractionBetween, IsGivenAtMost, IsGivenBetween}
 pub use Rattle.deck_span.specs.{IsHeadCell, IsLayerCell, IsListCell, IsPeriodBetween, IsPeriodCell, IsRateBetween, IsRatioBetween, IsRiverBetween}
 pub use Rattle.deck_span.specs.{IsSizeBetween, IsStepBetween, LiesBetween, Shares, SharesBounds, SharesEvaporation, SharesGrid, SharesIn, SharesOptions}
-pub use Rattle.deck_span.specs.{SharesProperties, SharesSizes, SharesTimes, apart, array_at, bottoms, drains, earlier, frame, generals, named, next, none}
-pub use Rattle.deck_span.specs.{period_frame, properties, reading_order, rivers, wells}
+pub use Rattle.deck_span.specs.{SharesProperties, SharesSizes, SharesTimes, apart, array_at, bottoms, cell_in_grid, drains, earlier, frame, generals, next}
+pub use Rattle.deck_span.specs.{none, period_frame, properties, reading_order, rivers, wells}
 pub use Rattle.flow_equations.proofs.TurnedFlows.{own_share}
 pub use Rattle.flow_equations.specs.{exact_cell, exact_drain, exact_evap, exact_fixed, exact_flow, exact_link, exact_river, exact_step}
 pub use Rattle.model_types.specs.{DrainSource, EvapSource, FixedSource, FlowSource, FromStorage, IsEvapValid, IsModel, Pumped, Received, RiverSource}
@@ -32,7 +33,7 @@ pub use Rattle.model_types.specs.{constant_faces, dec_at, drain_sources, entries
 pub use Rattle.model_types.specs.{head_or_kept, index_of, int_at, is_active, is_chosen, is_variable, kept_head, last_given, layer_size, local_entries}
 pub use Rattle.model_types.specs.{multiplier, no_number, no_period, no_stresses, one, period_at, place_in_layer, power, recharge_at, river_sources, start_head}
 pub use Rattle.model_types.specs.{storage_at, through, variable_cells, variable_faces}
-unfoldable pub use Rattle.model_types.specs.{area, column_conductance, constant_head, entries_of, geometric, given_in, passed, row_conductance, storage}
+unfoldable pub use Rattle.model_types.specs.{area, column_conductance, constant_head, entries_of, geometric, given_in, part_passed, row_conductance, storage}
 unfoldable pub use Rattle.model_types.specs.{variable_below, vertical_conductance, vertical_half}
 pub use Rattle.model_types.specs.declared.entry.Entry.{Entry}
 pub use Rattle.model_types.specs.declared.entry.Given.{Given}

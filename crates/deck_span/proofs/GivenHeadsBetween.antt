@@ -1,7 +1,7 @@
 -- A given head lies between those of the other two decks at each step.
 use Rattle.deck_span.proofs.Common.{◌≡◌, ℕ, zero, suc, ◌+◌, ◌*◌, ◌-◌, ◌≤◌, arith, subst, Bool, true, false, cond, ℤ, pos, neg_ℤ, ◌+ℤ◌, ◌*ℤ◌, mul-pos, ints}
 use Rattle.deck_span.proofs.Common.{◌==◌, ◌||◌, number, Ratio, AtMost, mul_mono_right, le_over, over_le, own_share, AtMost-refl, num_plus, den_plus, Period}
-use Rattle.deck_span.proofs.Common.{Given, one, power, geometric, multiplier, passed, between_heads, IsFractionBetween, IsGivenAtMost, IsGivenBetween}
+use Rattle.deck_span.proofs.Common.{Given, one, power, geometric, multiplier, part_passed, between_heads, IsFractionBetween, IsGivenAtMost, IsGivenBetween}
 use Rattle.deck_span.proofs.Common.{AtMost-trans, le-add}
 use Rattle.decimal_input.specs.{over as size_over, ratio as size_ratio}
 use Rattle.decimal_input.proofs.Differences.{diffs, as_diff, same_diff}
@@ -54,8 +54,8 @@ one_whole : one.num ≤ size_den one
 unfolding size_ratio
 one_whole = omega arith
 
-pub part_of : (p : Period) (n : ℕ) → n ≤ p.nstp → (passed p n).num ≤ size_den (passed p n)
-unfolding passed
+pub part_of : (p : Period) (n : ℕ) → n ≤ p.nstp → (part_passed p n).num ≤ size_den (part_passed p n)
+unfolding part_passed
 part_of p n h = by (n == p.nstp || p.perlen.digits == 0)
   where
     by : (b : Bool) → (cond b one (size_over (geometric (multiplier p) n) (geometric (multiplier p) p.nstp))).num ≤ size_den (cond b one (size_over (geometric (multiplier p) n) (geometric (multiplier p) p.nstp)))

@@ -1,7 +1,8 @@
 -- A number between two enclosed ones lies between the outer bounds.
-use Rattle.deck_span.proofs.Common.{◌≡◌, ℕ, ◌*◌, ◌^◌, ◌≤◌, ◌<◌, ◌⊎◌, inl, inr, refl, arith, ℤ, pos, ◌*ℤ◌, ◌≤ℤ◌, ◌+ℤ◌, ints, clamps, Ratio, Fraction, signed}
-use Rattle.deck_span.proofs.Common.{Encloses, EnclosesSigned, IsOver, den, AtMost, plus, mul_mono_right, IsFractionBetween, IsRatioBetween, LiesBetween, min}
-use Rattle.deck_span.proofs.Common.{max, IsHullPair, AtMost-refl, times-AtMost, over-AtMost, le_over, over_le, mul-pos, own_share, cross_trans_signed}
+use Rattle.deck_span.proofs.Common.{◌≡◌, ℕ, ◌*◌, ◌^◌, ◌≤◌, ◌<◌, ◌⊎◌, inl, inr, refl, arith, ℤ, pos, ◌*ℤ◌, ◌≤ℤ◌, ◌+ℤ◌, ints, clamps, Ratio, Fraction}
+use Rattle.deck_span.proofs.Common.{as_fraction, Encloses, EnclosesSigned, IsOver, den, AtMost, plus, mul_mono_right, IsFractionBetween, IsRatioBetween}
+use Rattle.deck_span.proofs.Common.{LiesBetween, min, max, IsHullPair, AtMost-refl, times-AtMost, over-AtMost, le_over, over_le, mul-pos, own_share}
+use Rattle.deck_span.proofs.Common.{cross_trans_signed}
 use Rattle.decimal_input.specs.{over as size_over}
 use Rattle.decimal_input.specs.Fractions.{times}
 use Rattle.cell_balance.proofs.Deep.{le_trans_z}
@@ -58,13 +59,13 @@ over_all f g h k =
     }
 
 -- a product with a fraction that isn't negative
-pub times_keeps : (r : Ratio) (f g : Fraction) → AtMost f g → AtMost (times f (signed r)) (times g (signed r))
+pub times_keeps : (r : Ratio) (f g : Fraction) → AtMost f g → AtMost (times f (as_fraction r)) (times g (as_fraction r))
 times_keeps r f g h =
     let o = over_all f g f g in
     let d = den_of f g f g in
     let share = IsOver-signed (ratio_den r) r r.num (own_share r) in
-    le_over (d * ratio_den r) (times f (signed r)) (times g (signed r)) (o.a *ℤ pos r.num) (o.b *ℤ pos r.num) (mul-pos o.some (omega arith))
-    (IsOver-times d (ratio_den r) f (signed r) o.a (pos r.num) o.f_over share) (IsOver-times d (ratio_den r) g (signed r) o.b (pos r.num) o.g_over share)
+    le_over (d * ratio_den r) (times f (as_fraction r)) (times g (as_fraction r)) (o.a *ℤ pos r.num) (o.b *ℤ pos r.num) (mul-pos o.some (omega arith))
+    (IsOver-times d (ratio_den r) f (as_fraction r) o.a (pos r.num) o.f_over share) (IsOver-times d (ratio_den r) g (as_fraction r) o.b (pos r.num) o.g_over share)
     (mul_mono_right r.num o.a o.b (over_le d f g o.a o.b o.f_over o.g_over h))
 
 -- a sum with a fraction
@@ -108,18 +109,18 @@ numbers_enclose {a} {b} {c} {d} s f g h p q m = by_order m.lies
 pub hull_of_numbers : (a b c d lo hi : ℤ) (s : ℕ) (f g h : Fraction) → IsHullPair a b c d lo hi → EnclosesSigned a b s f → EnclosesSigned c d s h → IsFractionBetween f g h → EnclosesSigned lo hi s g
 hull_of_numbers a b c d lo hi s f g h is p q m = rw (is.low, is.high) (numbers_enclose s f g h p q m)
 
-signed_at_most : (f g : Ratio) → IsRatioAtMost f g → AtMost (signed f) (signed g)
+signed_at_most : (f g : Ratio) → IsRatioAtMost f g → AtMost (as_fraction f) (as_fraction g)
 signed_at_most f g h = record { at_most = omega (arith, ints, h.cross) }
 
-signed_between : (f g h : Ratio) → IsRatioBetween f g h → IsFractionBetween (signed f) (signed g) (signed h)
-signed_between f g h = between_image IsRatioAtMost AtMost signed signed_at_most f g h
+signed_between : (f g h : Ratio) → IsRatioBetween f g h → IsFractionBetween (as_fraction f) (as_fraction g) (as_fraction h)
+signed_between f g h = between_image IsRatioAtMost AtMost as_fraction signed_at_most f g h
 
 -- the same of numbers that aren't negative
 pub sizes_enclose : {a b c d : ℕ} (s : ℕ) (f g h : Ratio) → Encloses a b s f → Encloses c d s h → IsRatioBetween f g h → Encloses (min a c) (max b d) s g
 sizes_enclose {a} {b} {c} {d} s f g h p q m =
-    let first : EnclosesSigned (pos a) (pos b) s (signed f) = record { lower = omega (arith, ints, p.lower); upper = omega (arith, ints, p.upper) } in
-    let second : EnclosesSigned (pos c) (pos d) s (signed h) = record { lower = omega (arith, ints, q.lower); upper = omega (arith, ints, q.upper) } in
+    let first : EnclosesSigned (pos a) (pos b) s (as_fraction f) = record { lower = omega (arith, ints, p.lower); upper = omega (arith, ints, p.upper) } in
+    let second : EnclosesSigned (pos c) (pos d) s (as_fraction h) = record { lower = omega (arith, ints, q.lower); upper = omega (arith, ints, q.upper) } in
     let low : pos (min a c) ≡ int_min (pos a) (pos c) = omega (arith, ints, clamps) in
     let high : pos (max b d) ≡ int_max (pos b) (pos d) = omega (arith, ints, clamps) in
-    let e : EnclosesSigned (pos (min a c)) (pos (max b d)) s (signed g) = rw (low, high) (numbers_enclose s (signed f) (signed g) (signed h) first second (signed_between f g h m)) in
+    let e : EnclosesSigned (pos (min a c)) (pos (max b d)) s (as_fraction g) = rw (low, high) (numbers_enclose s (as_fraction f) (as_fraction g) (as_fraction h) first second (signed_between f g h m)) in
     record { lower = omega (arith, ints, e.lower); upper = omega (arith, ints, e.upper) }

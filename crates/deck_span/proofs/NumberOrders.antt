@@ -1,6 +1,6 @@
 -- The order of two magnitudes, from their digits and exponents.
 use Rattle.deck_span.proofs.Common.{◌≡◌, ℕ, ◌+◌, ◌*◌, ◌^◌, ◌<◌, ◌≤◌, ℤ, pos, ◌+ℤ◌, Bool, true, false, arith, ◌⊎◌, inl, inr, leb, MatchBool, cases_lt, le-leb}
-use Rattle.deck_span.proofs.Common.{lt-leb, ints, Dec, suc, zero, refl, size, down, up, number, decimal, scaled, AtMost, neg_times}
+use Rattle.deck_span.proofs.Common.{lt-leb, ints, Dec, suc, zero, refl, size, down, up, number, decimal, scaled_ratio, AtMost, neg_times}
 use Rattle.std.proofs.Math.Nat.{mul-le-mul_right, mul-pos}
 use Rattle.decimal_input.proofs.Powers.{cross_of, power_within, ten_pos, up_down, num_scaled}
 use Rattle.std.proofs.lemmas.Nat.{pow-add}
@@ -62,22 +62,22 @@ module _ (a b : Dec) (p : ℕ) where
 module _ (m n : ℕ) (d e : ℤ) where
   zeros : (m ≡ 0) × (n ≡ 0) → AtMost (decimal false m d) (decimal true n e)
   zeros none =
-      let top : (scaled m d).num * suc (scaled n e).less ≡ 0 = rw (num_scaled, none.0) (omega arith) in
-      let bottom : (scaled n e).num * suc (scaled m d).less ≡ 0 = rw (num_scaled, none.1) (omega arith) in
+      let top : (scaled_ratio m d).num * suc (scaled_ratio n e).less ≡ 0 = rw (num_scaled, none.0) (omega arith) in
+      let bottom : (scaled_ratio n e).num * suc (scaled_ratio m d).less ≡ 0 = rw (num_scaled, none.1) (omega arith) in
       record { at_most = rw neg_times (omega (arith, ints, top, bottom)) }
 
   zeros_back : AtMost (decimal false m d) (decimal true n e) → (m ≡ 0) × (n ≡ 0)
   zeros_back h =
       let k = rw neg_times at h.at_most in
-      let top : (scaled m d).num * suc (scaled n e).less ≡ 0 = omega (arith, ints, k) in
-      let bottom : (scaled n e).num * suc (scaled m d).less ≡ 0 = omega (arith, ints, k) in
-      (no_digits m d (scaled n e).less top, no_digits n e (scaled m d).less bottom)
+      let top : (scaled_ratio m d).num * suc (scaled_ratio n e).less ≡ 0 = omega (arith, ints, k) in
+      let bottom : (scaled_ratio n e).num * suc (scaled_ratio m d).less ≡ 0 = omega (arith, ints, k) in
+      (no_digits m d (scaled_ratio n e).less top, no_digits n e (scaled_ratio m d).less bottom)
     where
-      no_digits : (i : ℕ) (f : ℤ) (j : ℕ) → (scaled i f).num * suc j ≡ 0 → i ≡ 0
+      no_digits : (i : ℕ) (f : ℤ) (j : ℕ) → (scaled_ratio i f).num * suc j ≡ 0 → i ≡ 0
       no_digits zero f j e = refl
       no_digits (suc i) f j e =
-          let more : 0 < (scaled (suc i) f).num = rw num_scaled (mul-pos (omega arith) (ten_pos (up f))) in
-          let most : 0 < (scaled (suc i) f).num * suc j = mul-pos more (omega arith) in
+          let more : 0 < (scaled_ratio (suc i) f).num = rw num_scaled (mul-pos (omega arith) (ten_pos (up f))) in
+          let most : 0 < (scaled_ratio (suc i) f).num * suc j = mul-pos more (omega arith) in
           absurd (omega (arith, most, e))
 
 module _ (a b : Dec) where

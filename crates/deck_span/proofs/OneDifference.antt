@@ -1,7 +1,7 @@
 -- Two models have at most one first difference.
 use Rattle.deck_span.proofs.Common.{◌≡◌, ℕ, ◌<◌, List, [], ◌∷◌, Option, Some, None, take, subst, sym, ap, ◌∙◌, arith, inl, inr, Dec, Package, Dis, Lpf, Bas}
 use Rattle.deck_span.proofs.Common.{Wel, Riv, Drn, Ghb, Rch, Chd, Evt, FlowModel, Period, cell_count, layer_size, cell_of, AreSame, IsFirst, InOrder}
-use Rattle.deck_span.proofs.Common.{IsFirstOfLayers, IsLayerCell, IsListCell, named, SharesIn, IsCellIn, IsHeadCell, IsPeriodCell, AreGivenAlike}
+use Rattle.deck_span.proofs.Common.{IsFirstOfLayers, IsLayerCell, IsListCell, cell_in_grid, SharesIn, IsCellIn, IsHeadCell, IsPeriodCell, AreGivenAlike}
 use Rattle.deck_span.proofs.Common.{AreEntriesAlike, AreRatesAlike, IsCell, bottoms, properties, array_at, Shares, reading_order, IsFirstDifference}
 use Rattle.deck_span.proofs.Common.{cases_order, CellId, All-head, All-tail, slice_get}
 use Rattle.std.specs.Prelude.{All, ◌/◌, ◌⊎◌, zero, suc, ◌≤◌}
@@ -26,8 +26,8 @@ second_one R xs ys k l f g = same_some f.second g.second (sym f.of_second ∙ ap
 
 list_one : {X : Type 0} (R : X → X → Type 0) (number : ℕ → X → ℕ) (cells : ℕ) (xs ys : List X) (c d : Option CellId) → IsListCell R number cells xs ys c → IsListCell R number cells xs ys d → c ≡ d
 list_one R number cells xs ys c d = in_order (none_one c d) (λ f g.
-    f.names ∙ ap (λ k. named cells (number k f.first.second)) (first_is_one R xs ys f.place g.place f.first g.first)
-    ∙ ap (λ y. named cells (number g.place y)) (second_one R xs ys f.place g.place f.first g.first) ∙ sym g.names)
+    f.names ∙ ap (λ k. cell_in_grid cells (number k f.first.second)) (first_is_one R xs ys f.place g.place f.first g.first)
+    ∙ ap (λ y. cell_in_grid cells (number g.place y)) (second_one R xs ys f.place g.place f.first g.first) ∙ sym g.names)
 
 layers_one : (size : ℕ) (xss yss : List (List Dec)) (k l : ℕ) → IsFirstOfLayers size xss yss k → IsFirstOfLayers size xss yss l → k ≡ l
 layers_one size xss yss k l f g = by_order (f.others g.array l g.first) (g.others f.array k f.first)
@@ -42,7 +42,7 @@ layers_one size xss yss k l f g = by_order (f.others g.array l g.first) (g.other
     by_order (inr a) (inr b) = same_array (omega (arith, a.1, b.1))
 
 layer_one : (size cells : ℕ) (xss yss : List (List Dec)) (c d : Option CellId) → IsLayerCell size cells xss yss c → IsLayerCell size cells xss yss d → c ≡ d
-layer_one size cells xss yss c d f g = f.names ∙ ap (named cells) (layers_one size xss yss f.place g.place f.first g.first) ∙ sym g.names
+layer_one size cells xss yss c d f g = f.names ∙ ap (cell_in_grid cells) (layers_one size xss yss f.place g.place f.first g.first) ∙ sym g.names
 
 -- The cell of a package.
 

@@ -1,13 +1,13 @@
 -- Each exact step of a model between two others lies between theirs.
 use Rattle.deck_span.proofs.Common.{◌≡◌, ℕ, zero, suc, ◌-◌, ◌≤◌, ◌<◌, refl, sym, ap, ◌∙◌, subst, arith, true, Option, List, [], ◌∷◌, length, map, All, int_lt}
-use Rattle.deck_span.proofs.Common.{not, ◌==◌, unsigned_abs, negsuc, Dec, number, size, Ratio, over, Fraction, signed, negated, plus, AtMost, ExactEvap}
+use Rattle.deck_span.proofs.Common.{not, ◌==◌, unsigned_abs, negsuc, Dec, number, size, Ratio, over, Fraction, as_fraction, opposite, plus, AtMost, ExactEvap}
 use Rattle.deck_span.proofs.Common.{FlowModel, Period, Given, Face, cell_count, no_number, is_active, area, int_at, conductance, row_conductance}
-use Rattle.deck_span.proofs.Common.{column_conductance, vertical_conductance, vertical_half, period_at, passed, is_variable, variable_below, variable_cells}
-use Rattle.deck_span.proofs.Common.{start_head, kept_head, head_or_kept, constant_head, between_heads, EvapSource, FixedSource, FlowSource, variable_faces}
-use Rattle.deck_span.proofs.Common.{evap_sources, storage, IsModel, IsEvapValid, AllThree, none, next, IsFractionBetween, IsRatioBetween, IsDecBetween}
-use Rattle.deck_span.proofs.Common.{IsFlowBetween, IsFixedBetween, IsRiverBetween, IsDrainBetween, IsEvapBetween, IsCellBetween, IsStepBetween, IsGivenBetween}
-use Rattle.deck_span.proofs.Common.{IsPeriodBetween, IsBetween, IsGivenAtMost, frame, period_frame, get_or_default, and_parts, exact_river, exact_drain}
-use Rattle.deck_span.proofs.Common.{exact_link, exact_fixed, exact_flow, exact_evap, exact_cell, exact_step, All-head, All-tail}
+use Rattle.deck_span.proofs.Common.{column_conductance, vertical_conductance, vertical_half, period_at, part_passed, is_variable, variable_below}
+use Rattle.deck_span.proofs.Common.{variable_cells, start_head, kept_head, head_or_kept, constant_head, between_heads, EvapSource, FixedSource, FlowSource}
+use Rattle.deck_span.proofs.Common.{variable_faces, evap_sources, storage, IsModel, IsEvapValid, AllThree, none, next, IsFractionBetween, IsRatioBetween}
+use Rattle.deck_span.proofs.Common.{IsDecBetween, IsFlowBetween, IsFixedBetween, IsRiverBetween, IsDrainBetween, IsEvapBetween, IsCellBetween, IsStepBetween}
+use Rattle.deck_span.proofs.Common.{IsGivenBetween, IsPeriodBetween, IsBetween, IsGivenAtMost, frame, period_frame, get_or_default, and_parts, exact_river}
+use Rattle.deck_span.proofs.Common.{exact_drain, exact_link, exact_fixed, exact_flow, exact_evap, exact_cell, exact_step, All-head, All-tail}
 use Rattle.std.specs.Prelude.{pos, ℤ}
 use Rattle.decimal_input.specs.Fractions.{times}
 use Rattle.decimal_input.specs.Ratios.{times as size_times, AtMost as IsRatioAtMost}
@@ -52,9 +52,9 @@ storage_is : (f : FlowModel) (s t : List Dec) (ps qs : List Period) (p q : Perio
 unfolding storage
 storage_is f s t ps qs p q n c e = ap (λ (x : Period). storage f x n c) e
 
-passed_is : (p q : Period) (n : ℕ) → period_frame q ≡ period_frame p → passed q n ≡ passed p n
-unfolding passed
-passed_is p q n e = ap (λ (x : Period). passed x n) e
+passed_is : (p q : Period) (n : ℕ) → period_frame q ≡ period_frame p → part_passed q n ≡ part_passed p n
+unfolding part_passed
+passed_is p q n e = ap (λ (x : Period). part_passed x n) e
 
 size_same : (f g h : Ratio) → g ≡ f → h ≡ f → IsRatioBetween f g h
 size_same f g h e d = rw (e, d) (size_itself f)
@@ -87,9 +87,9 @@ module _ (f : FlowModel) (s₁ s₂ s₃ : List Dec) (ps qs rs : List Period) (s
   given_or_kept : (c : ℕ) (o q r : Option Given) → OptionThree IsGivenBetween o q r → IsFractionBetween (head_or_kept A p n o c) (head_or_kept M p n q c) (head_or_kept B p n r c)
   given_or_kept c o q r nothing = kept c _ _ _ (last_three c (p - 1) ps qs rs periods)
   given_or_kept c o q r (something {x = x} {y = y} {z = z} h) =
-      subst (λ (F : Ratio). IsFractionBetween (between_heads x (passed (period_at A p) n)) (between_heads y F) (between_heads z (passed (period_at B p) n))) (sym (passed_is _ _ n here.same))
-      (subst (λ (F : Ratio). IsFractionBetween (between_heads x (passed (period_at A p) n)) (between_heads y (passed (period_at A p) n)) (between_heads z F)) (sym (passed_is _ _ n here.alike))
-      (heads_between (passed (period_at A p) n) (part_of (period_at A p) n few) x y z h))
+      subst (λ (F : Ratio). IsFractionBetween (between_heads x (part_passed (period_at A p) n)) (between_heads y F) (between_heads z (part_passed (period_at B p) n))) (sym (passed_is _ _ n here.same))
+      (subst (λ (F : Ratio). IsFractionBetween (between_heads x (part_passed (period_at A p) n)) (between_heads y (part_passed (period_at A p) n)) (between_heads z F)) (sym (passed_is _ _ n here.alike))
+      (heads_between (part_passed (period_at A p) n) (part_of (period_at A p) n few) x y z h))
 
   pub constant_between : (c : ℕ) → IsFractionBetween (constant_head A p n c) (constant_head M p n c) (constant_head B p n c)
   unfolding constant_head
@@ -101,7 +101,7 @@ module _ (f : FlowModel) (s₁ s₂ s₃ : List Dec) (ps qs rs : List Period) (s
   flow c x y z (pumped h) = record { kind = refl; flow = h }
   flow c x y z (received {q₁ = a} {q₂ = m} {q₃ = b} h) = record {
     kind = refl;
-    flow = rw (area_is f s₁ ps c, area_is f s₂ qs c, area_is f s₃ rs c) (between_image AtMost AtMost (λ r. times r (signed (area f c))) (times_keeps (area f c)) (number a) (number m) (number b) h);
+    flow = rw (area_is f s₁ ps c, area_is f s₂ qs c, area_is f s₃ rs c) (between_image AtMost AtMost (λ r. times r (as_fraction (area f c))) (times_keeps (area f c)) (number a) (number m) (number b) h);
   }
 
   through_face : (x : Face) → IsRatioBetween (conductance A x.axis x.first) (conductance M x.axis x.first) (conductance B x.axis x.first)
@@ -122,7 +122,7 @@ module _ (f : FlowModel) (s₁ s₂ s₃ : List Dec) (ps qs rs : List Period) (s
     conductance = rw (area_is f s₁ ps c, area_is f s₂ qs c, area_is f s₃ rs c, h.depth, h.ends)
         (between_image IsRatioAtMost IsRatioAtMost (λ r. over (size_times r (area f c)) (size x.depth)) (rate_keeps (area f c) (size x.depth) some) (size x.rate) (size y.rate) (size z.rate) h.rate);
     surface = h.surface;
-    extinction = rw (h.depth, h.ends) (between_image AtMost AtMost (λ r. plus r (negated (number x.depth))) (plus_keeps (negated (number x.depth))) (number x.surface) (number y.surface) (number z.surface) h.surface);
+    extinction = rw (h.depth, h.ends) (between_image AtMost AtMost (λ r. plus r (opposite (number x.depth))) (plus_keeps (opposite (number x.depth))) (number x.surface) (number y.surface) (number z.surface) h.surface);
   }
 
   link : (x : Face) → exact_link M p n old x ≡ exact_link A p n old x

@@ -28,20 +28,20 @@ Finds Shared Cell (Ok shared) = Shared
 Finds Shared Cell (Err cell) = (Shared → ⊥) × Cell cell
 
 -- the cell of this number in a grid of this many cells
-abbrev pub named : ℕ → ℕ → Option CellId
-named cells c = cond (nat_lt c cells) (Some (record { 0 = c })) None
+abbrev pub cell_in_grid : ℕ → ℕ → Option CellId
+cell_in_grid cells c = cond (nat_lt c cells) (Some (record { 0 = c })) None
 
 -- what a walk gives that has found this place, or none
 abbrev pub apart : ℕ → Option ℕ → Result (Unit {0}) (Option CellId)
 apart cells None = Ok tt
-apart cells (Some place) = Err (named cells place)
+apart cells (Some place) = Err (cell_in_grid cells place)
 
 -- A list's cell: that of the second deck's item at the first place that isn't alike. Its length is read before its
 -- items, so lists of other lengths name no cell.
 pub record IsItemNamed {X : Type 0} (Alike : X → X → Type 0) (number : ℕ → X → ℕ) (cells : ℕ) (xs ys : List X) (cell : Option CellId) : Type 0 where
   pub place : ℕ
   pub first : IsFirst Alike xs ys place
-  pub names : cell ≡ named cells (number place first.second)
+  pub names : cell ≡ cell_in_grid cells (number place first.second)
 
 abbrev pub IsListCell : {X : Type 0} → (X → X → Type 0) → (ℕ → X → ℕ) → ℕ → List X → List X → Option CellId → Type 0
 IsListCell Alike number cells xs ys cell = InOrder (length ys ≡ length xs) (cell ≡ None) (IsItemNamed Alike number cells xs ys cell)
@@ -66,7 +66,7 @@ pub record IsFirstOfLayers (layer_size : ℕ) (xss yss : List (List Dec)) (k : �
 pub record IsLayerCell (layer_size cells : ℕ) (xss yss : List (List Dec)) (cell : Option CellId) : Type 0 where
   pub place : ℕ
   pub first : IsFirstOfLayers layer_size xss yss place
-  pub names : cell ≡ named cells place
+  pub names : cell ≡ cell_in_grid cells place
 
 -- Which of two places is read first, and what a walk over arrays finds.
 -- of the first differences of two arrays, the first array's unless the other's lies in a layer above

@@ -1,12 +1,12 @@
 // The cells of places.
 ghost use Rattle.std.specs.Prelude.{◌≡◌, ◌<◌};
-ghost use Rattle.deck_span.specs.{apart, named, earlier};
+ghost use Rattle.deck_span.specs.{apart, cell_in_grid, earlier};
 
 use model_types::CellId;
 
 /// The cell of this number, in a grid of this many cells.
 pub fn numbered_cell(cells: u32, number: usize) -> Option<CellId>
-    ensures { result ≡ named cells number }
+    ensures { result ≡ cell_in_grid cells number }
 {
     if number < cells as usize {
         Some(CellId(number as u32))

@@ -12,8 +12,8 @@ pub use Rattle.array_text.proofs.ArrayForms.{array_is, item_is, value_is}
 pub use Rattle.array_text.proofs.NumberForms.{integer_is, multiplied_is, number_is}
 pub use Rattle.array_text.specs.{IsShort}
 pub use Rattle.decimal_input.specs.{IsDec, size}
-pub use Rattle.dis_package.specs.{IsBegun, IsFrame, IsGridWithin, IsNewPeriod, IsOfBeds, IsSize, IsTime, begun, inside, is_growth, is_time, kind_of, known}
-pub use Rattle.dis_package.specs.{period_of}
+pub use Rattle.dis_package.specs.{IsBegun, IsFrame, IsGridWithin, IsNewPeriod, IsOfBeds, IsSize, IsTime, inside, is_growth, is_time, kind_of, kind_or_refusal}
+pub use Rattle.dis_package.specs.{model_of_grid, period_of}
 unfoldable pub use Rattle.dis_package.specs.{beds_of, bottom_at, bottoms_of, count_at, dis_of, frame_of, grid_of, head_of, period_at, periods_of, size_at}
 unfoldable pub use Rattle.dis_package.specs.{time_of, widths}
 pub use Rattle.dis_package.specs.declared.frame.Frame.{Frame}
@@ -31,5 +31,5 @@ pub use Rattle.record_lines.proofs.Forward.{begun_held, leaves, line_held}
 pub use Rattle.record_lines.proofs.Loops.{ends_all, ends_text, is_done, step_goes_on, steps_done, steps_stop, with_front}
 pub use Rattle.record_lines.proofs.Readings.{counted_gives, done, goes_on, if_clear, if_passed, refused, repeated_are, repeated_gives, repeated_held, some_give}
 pub use Rattle.record_lines.proofs.Readings.{then_, weaker}
-pub use Rattle.record_lines.specs.{GivesOnly, Left, LineMay, LinesMay, Numbered, Stops, StopsText, Taking, beginning, counted, is_word, left_from, line_at}
-pub use Rattle.record_lines.specs.{repeated, without_comments}
+pub use Rattle.record_lines.specs.{GivesOnly, Left, LineMay, LinesMay, Numbered, Stops, StopsText, Taking, beginning, each_number, is_word, left_from, line_at}
+pub use Rattle.record_lines.specs.{repeated_reading, without_comments}

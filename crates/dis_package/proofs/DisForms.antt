@@ -1,10 +1,11 @@
 -- What a file of the discretization gives.
 use Rattle.dis_package.proofs.Common.{◌≡◌, ℕ, ℤ, List, length, All, refl, ◌≤◌, sum_by, sym, subst, arith, suc, ◌+◌, nat_le, ◌&&◌, ◌∷◌, IsDec, FileSet, refusal}
 use Rattle.dis_package.proofs.Common.{words, Left, left_from, without_comments, line_at, number_at, number, FlowModel, item_is, GivesOnly, IsShort, done}
-use Rattle.dis_package.proofs.Common.{goes_on, then_, if_passed, weaker, repeated_gives, All-nil, All-cons, Period, begun, dis_of, IsNewPeriod, periods_of}
-use Rattle.dis_package.proofs.Common.{IsTime, known, is_time, time_of, period_of, period_at, IsBegun, kind_of, Limits, and_parts, leb-true, BadGrid, number_is}
-use Rattle.dis_package.proofs.Common.{IsGridWithin, All-weaker, IsTimed, Bool, true, false, not, ◌||◌, ◌⊎◌, inl, inr, ◌∙◌, if◌then◌else◌, size, is_growth}
-use Rattle.dis_package.proofs.Common.{IsGrowing, number_one, not-true, is_at_most, is_at_least, is_one, is_positive, positive_of, one_of}
+use Rattle.dis_package.proofs.Common.{goes_on, then_, if_passed, weaker, repeated_gives, All-nil, All-cons, Period, model_of_grid, dis_of, IsNewPeriod}
+use Rattle.dis_package.proofs.Common.{periods_of, IsTime, kind_or_refusal, is_time, time_of, period_of, period_at, IsBegun, kind_of, Limits, and_parts}
+use Rattle.dis_package.proofs.Common.{leb-true, BadGrid, number_is, IsGridWithin, All-weaker, IsTimed, Bool, true, false, not, ◌||◌, ◌⊎◌, inl, inr, ◌∙◌}
+use Rattle.dis_package.proofs.Common.{if◌then◌else◌, size, is_growth, IsGrowing, number_one, not-true, is_at_most, is_at_least, is_one, is_positive}
+use Rattle.dis_package.proofs.Common.{positive_of, one_of}
 use Rattle.std.proofs.lemmas.List.Sums.{sum_by-cons}
 use Rattle.dis_package.proofs.FrameForms.{head_is, count_is}
 use Rattle.dis_package.proofs.GridForms.{grid_is}
@@ -69,7 +70,7 @@ module _ (file : List ℕ) where
   unfolding time_of
   time_is line ws =
       then_ _ (number_at_is line ws) (λ perlen a. then_ _ (count_is file line 100000 perlen.1) (λ nstp b. then_ _ (number_at_is line nstp.1)
-      (λ tsmult c. goes_on (known (kind_of tsmult.1) (refusal BadGrid file line)) _ (λ steady e. done (record { perlen = a; nstp = b; tsmult = c })))))
+      (λ tsmult c. goes_on (kind_or_refusal (kind_of tsmult.1) (refusal BadGrid file line)) _ (λ steady e. done (record { perlen = a; nstp = b; tsmult = c })))))
 
   period_is : (s : ℕ × Left) → GivesOnly (λ x. IsNewPeriod x.0 × (s.0 + x.0.nstp ≡ x.1.0) × (x.1.0 ≤ 100000)) (period_at file s)
   unfolding period_at

@@ -1,6 +1,6 @@
 -- A discretization, one item behind the other.
 use Rattle.dis_package.proofs.Common.{◌≡◌, refl, ℕ, ℤ, List, Ok, FileSet, Left, left_from, without_comments, Stops, StopsText, Period, grid_of, periods_of}
-use Rattle.dis_package.proofs.Common.{begun, beds_of, frame_of, head_of, dis_of, line_at, words, Frame, Limits, Numbered, input_fault, Grid, FlowModel}
+use Rattle.dis_package.proofs.Common.{model_of_grid, beds_of, frame_of, head_of, dis_of, line_at, words, Frame, Limits, Numbered, input_fault, Grid, FlowModel}
 use Rattle.outside.specs.declared.inputs.TextFault.{TextFault}
 use Rattle.outside.specs.declared.inputs.TextFault.TheVariants.{Refused, Memory}
 
@@ -15,7 +15,7 @@ pub dis_read : (limits : Limits) (files : FileSet) (file bytes : List ℕ) (left
     → head_of limits file left ≡ Ok head
     → grid_of files file head.0.0.size head.0.1 head.1 ≡ Ok grid
     → periods_of file head.0.0.periods grid.1 ≡ Ok periods
-    → m ≡ begun grid.0 head.0.0.lenuni periods
+    → m ≡ model_of_grid grid.0 head.0.0.lenuni periods
     → dis_of limits files file bytes ≡ Ok m
 unfolding dis_of
 dis_read limits files file bytes left head grid periods m from a b d is = rw (← from, a, b, d, is) refl

@@ -8,7 +8,7 @@ use Rattle.model_types.specs.declared.grid.Grid.{Grid}
 use Rattle.model_types.specs.declared.limits.Limits.{Limits}
 use Rattle.decimal_input.specs.declared.dec.Dec.{Dec}
 use Rattle.array_text.specs.{IsShort}
-use Rattle.dis_package.specs.Frames.{begun}
+use Rattle.dis_package.specs.Frames.{model_of_grid}
 use Rattle.dis_package.specs.declared.frame.Frame.{Frame}
 use Rattle.dis_package.specs.declared.frame.Size.{Size}
 use Rattle.dis_package.specs.declared.periods.Time.{Time}
@@ -67,4 +67,4 @@ pub record IsDiscretized (m : FlowModel) : Type 0 where
 pub record IsBegun (m : FlowModel) : Type 0 where
   pub discretized : IsDiscretized m
   pub periods : All IsNewPeriod m.periods
-  pub new : m ≡ begun m.grid m.lenuni m.periods
+  pub new : m ≡ model_of_grid m.grid m.lenuni m.periods

@@ -4,7 +4,7 @@ use Rattle.std.specs.Prelude.{◌&&◌, ◌||◌, codes, pos}
 use Rattle.outside.specs.{refusal, words, FileSet}
 use Rattle.outside.specs.declared.codes.Code.TheVariants.{BadGrid}
 use Rattle.outside.specs.declared.inputs.Refusal.{Refusal}
-use Rattle.record_lines.specs.{◌>>=◌, repeated, Left, beginning, is_word, line_at, left_from, without_comments}
+use Rattle.record_lines.specs.{◌>>=◌, repeated_reading, Left, beginning, is_word, line_at, left_from, without_comments}
 use Rattle.array_reader.specs.{number_at, integer, number, value_alone, zero_at}
 use Rattle.model_types.specs.declared.limits.Limits.{Limits}
 use Rattle.model_types.specs.{most_layers, most_in_row, most_cells, no_stresses}
@@ -50,7 +50,7 @@ frame_of limits file line words = do
 -- LAYCBD: an integer for each layer, not 0 where a confining bed lies below it; none lies below the last layer (TM 6-A16, DIS, item 2).
 unfoldable pub beds_of : List ℕ → ℕ → Left → Result (List ℤ × Left) Refusal
 beds_of file layers left = do
-  above ← repeated (layers - 1) (value_alone integer file) (beginning, left)
+  above ← repeated_reading (layers - 1) (value_alone integer file) (beginning, left)
   last ← zero_at file above.1
   Ok (above.0 ++ last.0 ∷ [], last.1.1)
 
@@ -60,9 +60,9 @@ abbrev pub kind_of : List (List ℕ) → Option Bool
 kind_of [] = None
 kind_of (w ∷ ws) = if is_word (codes "SS") w then Some true else (if is_word (codes "TR") w then Some false else None)
 
-abbrev pub known : Option Bool → Refusal → Result Bool Refusal
-known None r = Err r
-known (Some steady) r = Ok steady
+abbrev pub kind_or_refusal : Option Bool → Refusal → Result Bool Refusal
+kind_or_refusal None r = Err r
+kind_or_refusal (Some steady) r = Ok steady
 
 -- a transient period's TSMULT is 1, or it is from 0.001 to 1000 and NSTP is at most 1000
 abbrev pub is_growth : Time → Bool
@@ -78,7 +78,7 @@ time_of file line words = do
   perlen ← number_at number file line words
   nstp ← count_at file line 100000 perlen.1
   tsmult ← number_at number file line nstp.1
-  steady ← known (kind_of tsmult.1) (refusal BadGrid file line)
+  steady ← kind_or_refusal (kind_of tsmult.1) (refusal BadGrid file line)
   Ok (record { perlen = perlen.0; nstp = nstp.0; tsmult = tsmult.0; steady = steady })
 
 -- a period of these times, without stresses
@@ -93,12 +93,12 @@ period_at file s = do
   if is_time time && nat_le (s.0 + time.nstp) 100000 then Ok (period_of time, (s.0 + time.nstp, line.1)) else Err (refusal BadGrid file line.0.number)
 
 unfoldable pub periods_of : List ℕ → ℕ → Left → Result (List Period) Refusal
-periods_of file count left = repeated count (period_at file) (0, left) >>= λ x. Ok x.0
+periods_of file count left = repeated_reading count (period_at file) (0, left) >>= λ x. Ok x.0
 
 -- A file of the discretization, item by item (TM 6-A16, DIS).
 -- a model of which only this has been read
-abbrev pub begun : Grid → ℤ → List Period → FlowModel
-begun grid lenuni periods =
+abbrev pub model_of_grid : Grid → ℤ → List Period → FlowModel
+model_of_grid grid lenuni periods =
     record {
       grid = grid;
       lenuni = lenuni;
@@ -129,4 +129,4 @@ dis_of limits files file bytes = do
   head ← head_of limits file (without_comments (left_from 1 bytes))
   grid ← grid_of files file head.0.0.size head.0.1 head.1
   periods ← periods_of file head.0.0.periods grid.1
-  Ok (begun grid.0 head.0.0.lenuni periods)
+  Ok (model_of_grid grid.0 head.0.0.lenuni periods)

@@ -5,7 +5,7 @@ use Rattle.decimal_input.specs.declared.dec.Dec.{Dec}
 use Rattle.outside.specs.{FileSet, refusal}
 use Rattle.outside.specs.declared.codes.Code.TheVariants.{BadGrid}
 use Rattle.outside.specs.declared.inputs.Refusal.{Refusal}
-use Rattle.record_lines.specs.{Left, ◌>>=◌, counted}
+use Rattle.record_lines.specs.{Left, ◌>>=◌, each_number}
 use Rattle.array_reader.specs.{array_at, real_layer, layer_or, real}
 use Rattle.model_types.specs.declared.grid.Grid.{Grid}
 use Rattle.model_types.specs.{int_at, no_number, is_nonzero}
@@ -27,7 +27,7 @@ bottom_at files file size laycbd k s = do
   Ok (record { layers = s.0.layers ++ bottom.0; beds = s.0.beds ++ bed.0 }, bed.1)
 
 unfoldable pub bottoms_of : FileSet → List ℕ → Size → List ℤ → ℕ → Left → Result (Bottoms × Left) Refusal
-bottoms_of files file size laycbd count left = counted (bottom_at files file size laycbd) 0 count (record { layers = []; beds = [] }, left)
+bottoms_of files file size laycbd count left = each_number (bottom_at files file size laycbd) 0 count (record { layers = []; beds = [] }, left)
 
 -- DELR, DELC, the top of layer 1, and the bottoms
 unfoldable pub grid_of : FileSet → List ℕ → Size → List ℤ → Left → Result (Grid × Left) Refusal

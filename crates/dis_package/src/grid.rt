@@ -2,7 +2,7 @@
 ghost use Rattle.std.specs.Prelude.{◌≡◌, ◌-◌, IfOk, List};
 ghost use Rattle.outside.specs.{FileSet, ReadsOn, TextMay};
 ghost use Rattle.record_lines.specs.{LinesMay, Gives, Has};
-ghost use Rattle.dis_package.specs.{IsBegun, widths, grid_of, begun, dis_of};
+ghost use Rattle.dis_package.specs.{IsBegun, widths, grid_of, model_of_grid, dis_of};
 
 use crate::bottoms::bottoms_of;
 use crate::frame::{Size, beds_of, frame_of};
@@ -72,7 +72,7 @@ pub fn grid_of<F: Folder>(
 
 /// A model of which only this has been read.
 fn begun_model(alloc: Global, grid: Grid, lenuni: i64, periods: Vec<Period>) -> FlowModel
-    ensures { result ≡ begun grid lenuni periods.items }
+    ensures { result ≡ model_of_grid grid lenuni periods.items }
 {
     FlowModel {
         grid,

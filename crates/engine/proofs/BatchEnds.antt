@@ -2,7 +2,7 @@
 use Rattle.engine.proofs.Common.{[], Job, Text, ends_of_jobs, JobEnd, Wanted, AreDecks, AreTasks, Batch, IsJobEnd, IsRunText, defined, model_line, IsValidJob}
 use Rattle.engine.proofs.Common.{Run, Check, Write, Make, MayRead, files_of, files_if, refused_line, IsTask, Task, folder_name, WordsMay, Refusal, Err, IfOk}
 use Rattle.engine.proofs.Common.{List, None, Ok, Result, Some, ap, refl, subst, sym, ℕ, ◌++◌, ◌∙◌, ◌∷◌, ◌≡◌, Option, append-nil, All-weaker, All-head, All-tail}
-use Rattle.engine.proofs.Common.{AllZip, All, slice_get, option_to_list, Order, but_batch, wanted, IfOk-at_ok, IfOk-weaker, WordsFault, IsOrder}
+use Rattle.engine.proofs.Common.{AllZip, All, slice_get, option_to_list, Order, but_batch, wanted_by, IfOk-at_ok, IfOk-weaker, WordsFault, IsOrder}
 use Rattle.std.specs.Prelude.{IfSome, length}
 use Rattle.batch_book.specs.{AreJobEnds}
 use Rattle.command_line.specs.declared.order.BatchOrder.{BatchOrder}
@@ -72,21 +72,21 @@ module _ (may : List ℕ → Type 0) where
   files_may (Write limits name) h = All-head May name [] h
 
   -- the files of the order that was read
-  pub order_may : (words : Option Wanted) (read : Result Order WordsFault) → WordsMay may (files_if words) → IfOk read (λ o. words ≡ Some (wanted o)) → IfOk read (λ o. WordsMay may (files_of (wanted o)))
-  order_may words read h is = IfOk-weaker read (λ o. words ≡ Some (wanted o)) _ (λ o e. subst (λ (w : Option Wanted). WordsMay may (files_if w)) e h) is
+  pub order_may : (words : Option Wanted) (read : Result Order WordsFault) → WordsMay may (files_if words) → IfOk read (λ o. words ≡ Some (wanted_by o)) → IfOk read (λ o. WordsMay may (files_of (wanted_by o)))
+  order_may words read h is = IfOk-weaker read (λ o. words ≡ Some (wanted_by o)) _ (λ o e. subst (λ (w : Option Wanted). WordsMay may (files_if w)) e h) is
 
-  pub may_do : (read : Result Order WordsFault) (o p : Order) → IfOk read (λ o. WordsMay may (files_of (wanted o))) → read ≡ Ok o → o ≡ p → MayDo (wanted p)
-  may_do read o p h is same = files_may (wanted p) (subst (λ (x : Order). WordsMay may (files_of (wanted x))) same (IfOk-at_ok (λ o. WordsMay may (files_of (wanted o))) is h))
+  pub may_do : (read : Result Order WordsFault) (o p : Order) → IfOk read (λ o. WordsMay may (files_of (wanted_by o))) → read ≡ Ok o → o ≡ p → MayDo (wanted_by p)
+  may_do read o p h is same = files_may (wanted_by p) (subst (λ (x : Order). WordsMay may (files_of (wanted_by x))) same (IfOk-at_ok (λ o. WordsMay may (files_of (wanted_by o))) is h))
 
 -- what was read of the words has their order, but a batch
-pub is_order : (words : Option Wanted) (read : Result Order WordsFault) → IfOk read (λ o. words ≡ Some (wanted o)) → (read ≡ Err fault.Usage → words ≡ None) → IsOrder read (but_batch words)
-is_order words read is none = (IfOk-weaker read (λ o. words ≡ Some (wanted o)) _ (λ o e. ap but_batch e) is, λ e. ap but_batch (none e))
+pub is_order : (words : Option Wanted) (read : Result Order WordsFault) → IfOk read (λ o. words ≡ Some (wanted_by o)) → (read ≡ Err fault.Usage → words ≡ None) → IsOrder read (but_batch words)
+is_order words read is none = (IfOk-weaker read (λ o. words ≡ Some (wanted_by o)) _ (λ o e. ap but_batch e) is, λ e. ap but_batch (none e))
 
-pub order_read : (one : Option Wanted) (read : Result Order WordsFault) (o p : Order) → IfOk read (λ o. one ≡ but_batch (Some (wanted o))) → read ≡ Ok o → o ≡ p → one ≡ but_batch (Some (wanted p))
-order_read one read o p h is same = IfOk-at_ok (λ o. one ≡ but_batch (Some (wanted o))) is h ∙ ap (λ (x : Order). but_batch (Some (wanted x))) same
+pub order_read : (one : Option Wanted) (read : Result Order WordsFault) (o p : Order) → IfOk read (λ o. one ≡ but_batch (Some (wanted_by o))) → read ≡ Ok o → o ≡ p → one ≡ but_batch (Some (wanted_by p))
+order_read one read o p h is same = IfOk-at_ok (λ o. one ≡ but_batch (Some (wanted_by o))) is h ∙ ap (λ (x : Order). but_batch (Some (wanted_by x))) same
 
 -- an order that is for no batch
-pub not_a_batch : (o : Order) → ((b : BatchOrder) → o ≡ order.Batch b → ⊥) → but_batch (Some (wanted o)) ≡ Some (wanted o)
+pub not_a_batch : (o : Order) → ((b : BatchOrder) → o ≡ order.Batch b → ⊥) → but_batch (Some (wanted_by o)) ≡ Some (wanted_by o)
 not_a_batch (order.Batch b) other = absurd (other b refl)
 not_a_batch o other = refl
 

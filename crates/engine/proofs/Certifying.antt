@@ -1,9 +1,9 @@
 -- What a check that ended Ok says, and that a check has one end.
 use Rattle.engine.proofs.Common.{[], ◌≡◌, ℕ, List, ◌∷◌, Ok, map, subst, sym, ap, refl, inl, inr, ◌∙◌, ◌+◌, ◌<◌, ◌++◌, length, take, get_or, Result, IfOk}
-use Rattle.engine.proofs.Common.{FileSet, Put, Seen, PutsMake, taken, FlowModel, IsModel, place, ZonedListing, Text, Status, all_written, ListingVerdict, Fails}
-use Rattle.engine.proofs.Common.{VerdictIsOne, IsVerdict, AskedCheck, Checking, listing_read, named, steps_read, zones_read, IsCheck, certified_line}
-use Rattle.engine.proofs.Common.{verdict_line, verdict_status, Defines, OneVerdict, IsListed, IsStopped, AreTasks, AskedBatch, job_of, Limits, Decks, AreDecks}
-use Rattle.engine.proofs.Common.{one_deck, listing, IsTask, reads, map-append, take_more, All-push, Refusal, Task, Job, job_task, ◌>>=◌, false}
+use Rattle.engine.proofs.Common.{FileSet, Put, Seen, PutsMake, whole_put, FlowModel, IsModel, place, ZonedListing, Text, Status, all_written, ListingVerdict}
+use Rattle.engine.proofs.Common.{Fails, VerdictIsOne, IsVerdict, AskedCheck, Checking, listing_read, read_by_name, steps_read, zones_read, IsCheck}
+use Rattle.engine.proofs.Common.{certified_line, verdict_line, verdict_status, Defines, OneVerdict, IsListed, IsStopped, AreTasks, AskedBatch, job_of, Limits}
+use Rattle.engine.proofs.Common.{Decks, AreDecks, one_deck, listing, IsTask, reads, map-append, take_more, All-push, Refusal, Task, Job, job_task, ◌>>=◌, false}
 use Rattle.check_run.specs.declared.verdict.ListingVerdict.TheVariants.{Certified as Holds, Refused as Unbounded}
 use Rattle.engine.proofs.Readings.{named_read, zoned_parts}
 use Rattle.run_puts.specs.declared.puts.Status.TheVariants as status
@@ -38,8 +38,8 @@ verdict_is_no_fault other h = h
 pub check_is_no_fault : (limits : Limits) (m : Decks) (s : ℕ) (listing : ZonedListing) (end : Status) (pieces : List Text) → IsCheck limits m s listing end pieces → IsFault end → ⊥
 check_is_no_fault limits m s listing end pieces c h = verdict_is_no_fault c.verdict (subst IsFault c.status h)
 
-module _ (files : FileSet) (old new : Seen) (puts : List Put) (pieces : List Text) (asked : AskedCheck) (written : puts ≡ map taken pieces) (makes : PutsMake old puts new) where
-  pub certified_and_one : (f : FlowModel) (listing : ZonedListing) → IsModel f → named asked.name (reads asked.limits files) ≡ Ok f → listing_read false files asked f ≡ Ok listing → Defines (Checking asked.limits (one_deck f) asked.digits listing) status.Ok pieces → OneVerdict asked files old.written new.written
+module _ (files : FileSet) (old new : Seen) (puts : List Put) (pieces : List Text) (asked : AskedCheck) (written : puts ≡ map whole_put pieces) (makes : PutsMake old puts new) where
+  pub certified_and_one : (f : FlowModel) (listing : ZonedListing) → IsModel f → read_by_name asked.name (reads asked.limits files) ≡ Ok f → listing_read false files asked f ≡ Ok listing → Defines (Checking asked.limits (one_deck f) asked.digits listing) status.Ok pieces → OneVerdict asked files old.written new.written
   certified_and_one f listing model read listed d =
       let parts = zoned_parts (zones_read files asked.zones f) (steps_read false files asked f) listing listed in
       let is = named_read asked.name (reads asked.limits files) f read in
@@ -56,7 +56,7 @@ module _ (files : FileSet) (old new : Seen) (puts : List Put) (pieces : List Tex
           zoned = parts.0;
           steps = listing.steps;
           listed = parts.1;
-          written = all_written (certified_line ∷ []) old new puts (written ∙ ap (map taken) (subst L holds d.are)) makes;
+          written = all_written (certified_line ∷ []) old new puts (written ∙ ap (map whole_put) (subst L holds d.are)) makes;
           encloses = d.encloses holds;
           solvable = history.solvable;
           one = history.one;

@@ -12,8 +12,8 @@ pub use Rattle.std.specs.declared.vec.Vec.{Vec}
 pub use Rattle.check_run.specs.{IsReadable, IsVerdict, ListingEncloses, RunIsCertified, RunIsReadAgain, VerdictIsOne, as_listed}
 pub use Rattle.check_run.specs.declared.verdict.ListingVerdict.{ListingVerdict}
 pub use Rattle.check_run.specs.declared.verdict.ListingVerdict.TheVariants.{Certified, Fails}
-pub use Rattle.command_line.specs.{Asked, AskedBatch, AskedCheck, Batch, Check, Make, Run, Wanted, Write, asked_of, batch_of, check_of, text_if, usage_line}
-pub use Rattle.command_line.specs.{wanted, wanted_of}
+pub use Rattle.command_line.specs.{AskedBatch, AskedCheck, Batch, Check, ListingOrder, Make, Run, Wanted, Write, asked_of, batch_of, check_of, order_of_words}
+pub use Rattle.command_line.specs.{text_if, usage_line, wanted_by}
 pub use Rattle.command_line.specs.declared.order.Order.{Order}
 pub use Rattle.command_line.specs.declared.order.WordsFault.{WordsFault}
 pub use Rattle.deck_problems.proofs.OneProblem.{one_valid}
@@ -22,15 +22,15 @@ pub use Rattle.deck_problems.specs.declared.decks.Decks.{Decks}
 pub use Rattle.deck_span.specs.{AreAlike, DifferenceIsOne}
 pub use Rattle.deck_span.specs.declared.difference.Difference.{Difference}
 pub use Rattle.engine.specs.{Answers, AnswersBeside, AreDecksAs, AreDecksOf, AreItsSteps, ArePairOf, ArePutInTurn, AreTasks, AreViews, AreWatched, Case}
-pub use Rattle.engine.specs.{Checking, ChecksWritten, Comes, Comparing, CutOf, Decided, Defines, Due, GoesThrough, GoesWell, HasEnded, HasNoList, HeadlineOf}
-pub use Rattle.engine.specs.{IsCheck, IsDeck, IsDecksRefusal, IsDue, IsJobEnd, IsJobListing, IsListed, IsListingOf, IsMade, IsNamedFault, IsNoSecond, IsOrder}
-pub use Rattle.engine.specs.{IsPlain, IsPlainJob, IsReadingEnd, IsRunOf, IsRunResult, IsRunText, IsStopNumber, IsStopped, IsUnlikeFault, IsValid, IsValidJob}
-pub use Rattle.engine.specs.{IsView, IsWatched, JobDefines, Jobs, Listing, Making, MayRead, NoWords, OneDeck, OneOf, OneSpan, OneSummary, OneVerdict}
-pub use Rattle.engine.specs.{ReadsFolder, ReadsNothing, Refuses, Second, Shows, SidePuts, SpanVerdict, StorageHolds, ViewPutsOf, Writing, WrittenIsCertified}
-pub use Rattle.engine.specs.{broken_off, but_batch, case_decks, case_named, case_of, case_read, certified_line, decks_task, defined, files_if, files_of, job_of}
-pub use Rattle.engine.specs.{job_task, jobs_read, lines_of, listing_read, made_fault, made_model, made_task, model_line, named, names_read, not_alike, of_both}
-pub use Rattle.engine.specs.{of_first, of_second, second_by, span_task_of, steps_read, summed_text, task_of, unread, verdict_line, verdict_status, views_in}
-pub use Rattle.engine.specs.{zones_read}
+pub use Rattle.engine.specs.{Checking, ChecksWritten, Comparing, CutOf, Defines, Due, EndIsDefined, EndsOk, GoesThrough, GoesWell, HasEnded, HasNoList}
+pub use Rattle.engine.specs.{HeadlineOf, IsCheck, IsDeck, IsDecksRefusal, IsDue, IsJobEnd, IsJobListing, IsListed, IsListingOf, IsMade, IsNamedFault}
+pub use Rattle.engine.specs.{IsNoSecond, IsOrder, IsPlain, IsPlainJob, IsReadingEnd, IsRunOf, IsRunResult, IsRunText, IsStopNumber, IsStopped, IsUnlikeFault}
+pub use Rattle.engine.specs.{IsValid, IsValidJob, IsView, IsWatched, JobDefines, Jobs, Listing, Making, MayRead, NoWords, OneDeck, OneOf, OneSpan, OneSummary}
+pub use Rattle.engine.specs.{OneVerdict, ReadsFolder, ReadsNothing, Refuses, Second, Shows, SidePuts, SpanVerdict, StorageHolds, ViewPutsOf, Writing}
+pub use Rattle.engine.specs.{WrittenIsCertified, broken_off, but_batch, case_decks, case_named, case_of, case_read, certified_line, decks_task, defined}
+pub use Rattle.engine.specs.{files_if, files_of, job_of, job_task, jobs_read, lines_of, listing_read, made_fault, made_model, made_task, model_line, names_read}
+pub use Rattle.engine.specs.{not_alike, of_both, of_first, of_second, read_by_name, second_by, span_task_of, steps_read, summed_text, task_of, unread}
+pub use Rattle.engine.specs.{verdict_line, verdict_status, views_in, zones_read}
 unfoldable pub use Rattle.engine.specs.{second_in}
 pub use Rattle.engine.specs.Batched.{Batched}
 pub use Rattle.engine.specs.OneListing.{OneListing}
@@ -43,9 +43,8 @@ pub use Rattle.listing_run.proofs.Lines.{ends_by}
 pub use Rattle.listing_run.proofs.Pieces.{alone, beside, beside_by, line_not_ok, wanting_not_ok}
 pub use Rattle.listing_run.proofs.Settled.{IsWhole, is_whole, whole_listing}
 pub use Rattle.listing_run.specs.{AllSteps, HasLargeFlow, IsCutListing, IsListing, IsListingBeside, IsSettledBy, IsStep, IsTask, ListingExcludesRefusal}
-pub use Rattle.listing_run.specs.{ListingIsOne, PairEncloses, Reaches, ReachesFirst, RefusalIsOne, RestsOrSettles, faces_of, last_line, left, listed, listing}
-pub use Rattle.listing_run.specs.{no_budget, no_heads, no_zones, rests, settled, status_of}
-pub use Rattle.listing_run.specs.Settlers.{begun}
+pub use Rattle.listing_run.specs.{ListingIsOne, PairEncloses, Reaches, ReachesFirst, RefusalIsOne, RestsOrSettles, begun, faces_of, last_line, left, listed}
+pub use Rattle.listing_run.specs.{listing, no_budget, no_heads, no_zones, rests, settled, status_of}
 pub use Rattle.listing_run.specs.declared.solving.Step.{Step}
 pub use Rattle.listing_run.specs.declared.steps.Task.{Task}
 pub use Rattle.listing_run.specs.declared.text.ListingEnd.{ListingEnd}
@@ -60,8 +59,8 @@ pub use Rattle.model_types.specs.declared.limits.Limits.{Limits}
 pub use Rattle.model_types.specs.declared.limits.Limits.TheVariants.{Plain, Wide}
 pub use Rattle.model_types.specs.declared.model.FlowModel.{FlowModel}
 pub use Rattle.model_types.specs.declared.time_steps.TimeStep.{TimeStep}
-pub use Rattle.outside.specs.{FileSet, FolderState, InputCounts, IsGoodName, IsReading, Put, PutsMake, ReadsOn, Rose, Seen, WordsMay, file_at, file_refusal}
-pub use Rattle.outside.specs.{folder_name, input_fault, is_good_name, refused, taken, with_limit}
+pub use Rattle.outside.specs.{FileSet, FolderState, InputCounts, IsGoodName, IsReading, Put, PutsMake, ReadsOn, Rose, Seen, WordsMay, failed_put, file_at}
+pub use Rattle.outside.specs.{file_refusal, folder_name, input_fault, is_good_name, whole_put, with_limit}
 pub use Rattle.outside.specs.declared.inputs.InputFault.{InputFault}
 pub use Rattle.outside.specs.declared.inputs.Refusal.{Refusal}
 pub use Rattle.outside.specs.declared.traits.SinkError.{SinkError}
@@ -69,8 +68,8 @@ pub use Rattle.record_lines.specs.{Has, Stops, StopsText, ◌>>=◌}
 pub use Rattle.run_puts.proofs.Batches.{batch_run, batch_settles, batches_agree, ends_of_jobs}
 pub use Rattle.run_puts.proofs.Makes.{all_written, early_rose}
 pub use Rattle.run_puts.proofs.Pieces.{IsLate, lacks_at_first, late_not_read, lone, tail_late, weaker}
-pub use Rattle.run_puts.specs.{Agree, Begins, IsBatch, IsEnd, IsLast, IsRun, IsUnfinished, IsWanting, NeverCut, PutsMore, Text, all_due, code_of, cut, early}
-pub use Rattle.run_puts.specs.{end_line, failed, first_not_ok, memory_put, nothing, or_else, read_fault_line, status_after, texts, wanting, whole}
+pub use Rattle.run_puts.specs.{Agree, Begins, EndsOutOfMemory, IsBatch, IsEnd, IsLast, IsRun, IsUnfinished, NeverCut, PutsMore, Text, all_due, code_of, cut}
+pub use Rattle.run_puts.specs.{early, end_line, failed, first_not_ok, memory_put, nothing, or_else, read_fault_line, status_after, texts, wanting, whole}
 pub use Rattle.run_puts.specs.declared.job_end.JobEnd.{JobEnd}
 pub use Rattle.run_puts.specs.declared.puts.Status.{Status}
 pub use Rattle.settle_driver.specs.{AddsPhases, EnclosesPair}

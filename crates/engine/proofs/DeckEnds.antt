@@ -1,16 +1,16 @@
 -- The ends of a command that reads decks, one or two, and then lists them, checks a listing of them, or writes the first one.
 use Rattle.engine.proofs.Common.{reads, [], ◌≡◌, ℕ, List, ◌∷◌, Ok, Err, Result, Option, None, Some, sym, ap, refl, inl, inr, ◌∙◌, FileSet, Rose, InputCounts}
-use Rattle.engine.proofs.Common.{Put, InputFault, Refusal, FlowModel, refused_line, Text, IsEnd, IsRun, Status, Task, Asked, AskedCheck, Case, Refuses, Listing}
-use Rattle.engine.proofs.Common.{Checking, Writing, named, Due, decks_task, ReadsFolder, CutOf, AreDecksAs, Answers, IsReadingEnd, IsValid, defined, Decks}
-use Rattle.engine.proofs.Common.{Comparing, IsListingOf, Begins, all_due, cut, early, nothing, whole, Second, one_deck, Limits, of_both, of_first, of_second}
-use Rattle.engine.proofs.Common.{AreAlike, IfSome, option_map, is_some, unread, case_decks, IsDecksRefusal, listing_read, second_in, two, zones_read}
-use Rattle.engine.proofs.Common.{broken_off, case_named, case_read, Defines}
+use Rattle.engine.proofs.Common.{Put, InputFault, Refusal, FlowModel, refused_line, Text, IsEnd, IsRun, Status, Task, ListingOrder, AskedCheck, Case, Refuses}
+use Rattle.engine.proofs.Common.{Listing, Checking, Writing, read_by_name, Due, decks_task, ReadsFolder, CutOf, AreDecksAs, Answers, IsReadingEnd, IsValid}
+use Rattle.engine.proofs.Common.{defined, Decks, Comparing, IsListingOf, Begins, all_due, cut, early, nothing, whole, Second, one_deck, Limits, of_both}
+use Rattle.engine.proofs.Common.{of_first, of_second, AreAlike, IfSome, option_map, is_some, unread, case_decks, IsDecksRefusal, listing_read, second_in, two}
+use Rattle.engine.proofs.Common.{zones_read, broken_off, case_named, case_read, Defines}
 use Rattle.engine.proofs.Ends.{ends_without_words, lone_defined, refused, unreadable, of_case, read_reads}
 use Rattle.outside.specs.declared.inputs.InputFault.TheVariants as input
 use Rattle.run_puts.specs.declared.puts.Status.TheVariants as status
 
 -- what decks come to: they are listed, a listing of them is checked, or the first one is written
-abbrev pub to_list : FileSet → Asked → Decks → Case
+abbrev pub to_list : FileSet → ListingOrder → Decks → Case
 to_list files asked d = case_read (zones_read files asked.zones d.first) (λ zones. Listing (decks_task asked d zones))
 
 abbrev pub to_check : FileSet → AskedCheck → Option Text → Decks → Case
@@ -83,8 +83,8 @@ module _ (limits : Limits) (name : Text) (to : Option Text) (files : FileSet) (c
   Here = case_named files limits name to come
 
   module _ {n m : ℕ} {end : Status} {puts : List Put} where
-    refused_by : (refusal : Refusal) → IsDecksRefusal (named name (reads limits files)) (option_map (λ last. named last (second_in limits files)) to) refusal → IsEnd (refused_line refusal) (status.Refused refusal) end puts → Answers Here n m end puts
-    refused_by refusal (of_first h) e = of_case (Refuses refusal) (sym (ap (λ x. case_decks x (option_map (λ last. named last (second_in limits files)) to) come) h)) (refused refusal e)
+    refused_by : (refusal : Refusal) → IsDecksRefusal (read_by_name name (reads limits files)) (option_map (λ last. read_by_name last (second_in limits files)) to) refusal → IsEnd (refused_line refusal) (status.Refused refusal) end puts → Answers Here n m end puts
+    refused_by refusal (of_first h) e = of_case (Refuses refusal) (sym (ap (λ x. case_decks x (option_map (λ last. read_by_name last (second_in limits files)) to) come) h)) (refused refusal e)
     refused_by refusal (of_second a h k) e = of_case (Refuses refusal) (sym (λ i. case_decks (h i) (k i) come)) (refused refusal e)
     refused_by refusal (of_both a b d h k first never same) e =
         of_case (Comparing a b (come (two a b.model))) (sym (λ i. case_decks (h i) (k i) come)) (lone_defined (refused_line refusal) (status.Refused refusal)
@@ -93,7 +93,7 @@ module _ (limits : Limits) (name : Text) (to : Option Text) (files : FileSet) (c
     -- no decks were read
     pub ends_undecked : ((d : Decks) → ReadsFolder (come d)) → (fault : InputFault) → AreDecksAs limits name to files (Err fault) → InputCounts {T = Decks} n m (Err fault) → IsReadingEnd fault end puts → Answers Here n m end puts
     ends_undecked all (input.Refused refusal) p counts h = refused_by refusal p h
-    ends_undecked all input.ReadFault p counts h = unreadable (decks_reads (named name (reads limits files)) (option_map (λ last. named last (second_in limits files)) to) come all) counts h
+    ends_undecked all input.ReadFault p counts h = unreadable (decks_reads (read_by_name name (reads limits files)) (option_map (λ last. read_by_name last (second_in limits files)) to) come all) counts h
     ends_undecked all input.Memory p counts h = ends_without_words h
 
     -- decks were read

@@ -1,6 +1,6 @@
 -- How a run ended, by the pieces that are due: those that are defined of its end, the line of a read fault, or the first ones of a listing.
-use Rattle.engine.proofs.Common.{◌≡◌, List, map, refl, inl, inr, ◌⊎◌, Put, Seen, PutsMake, taken, Rose, Text, whole, early, IsRun, Status, IsLate, tail_late}
-use Rattle.engine.proofs.Common.{early_rose, late_not_read, IsUnfinished, Agree, IsStopped, IsDue, broken_off, defined, unread}
+use Rattle.engine.proofs.Common.{◌≡◌, List, map, refl, inl, inr, ◌⊎◌, Put, Seen, PutsMake, whole_put, Rose, Text, whole, early, IsRun, Status, IsLate}
+use Rattle.engine.proofs.Common.{tail_late, early_rose, late_not_read, IsUnfinished, Agree, IsStopped, IsDue, broken_off, defined, unread}
 use Rattle.run_puts.specs.declared.puts.Status.TheVariants as status
 
 pub late_stops : (end : Status) → IsLate end → IsStopped end
@@ -11,7 +11,7 @@ late_stops end (inr e) = inr (inr e)
 pub record Delivers (D : Status → List Text → Type 0) (end : Status) (puts : List Put) : Type 0 where
   pub pieces : List Text
   pub defines : D end pieces
-  pub written : puts ≡ map taken pieces
+  pub written : puts ≡ map whole_put pieces
 
 -- after a fault outside, because memory ran out, or as defined
 abbrev pub Ended : Type 0 → (Status → List Text → Type 0) → Status → Type 0
@@ -21,7 +21,7 @@ module _ (failed beside : Type 0) (D : Status → List Text → Type 0) (C : Lis
   abbrev Runs : Status → List Put → Type 0
   Runs = IsRun (IsDue failed beside D C) C
 
-  due_delivers : (end : Status) (pieces : List Text) → IsDue failed beside D C end pieces → (IsStopped end → ⊥) → Delivers D end (map taken pieces)
+  due_delivers : (end : Status) (pieces : List Text) → IsDue failed beside D C end pieces → (IsStopped end → ⊥) → Delivers D end (map whole_put pieces)
   due_delivers end pieces (defined meant all d) on = record { pieces = pieces; defines = d; written = refl }
   due_delivers end pieces (unread f) on = absurd (on (inl refl))
   due_delivers end pieces (broken_off all f c) on = absurd (on (inr (inl refl)))

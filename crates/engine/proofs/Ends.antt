@@ -1,8 +1,8 @@
 -- The ends of a run, by its words, its reading and its listing.
 use Rattle.engine.proofs.Common.{[], ◌≡◌, ℕ, List, ◌∷◌, Ok, Err, Result, IfOk, subst, sym, ap, refl, inl, inr, FileSet, Rose, Put, IsReading, with_limit}
-use Rattle.engine.proofs.Common.{Refusal, usage_line, FlowModel, IsModel, most_bytes, refused_line, read_fault_line, IsEnd, IsLast, IsWanting, wanting}
+use Rattle.engine.proofs.Common.{Refusal, usage_line, FlowModel, IsModel, most_bytes, refused_line, read_fault_line, IsEnd, IsLast, EndsOutOfMemory, wanting}
 use Rattle.engine.proofs.Common.{memory_put, status_after, Text, Status, tail_late, lone, lacks_at_first, weaker, Case, NoWords, Refuses, made_model, Due}
-use Rattle.engine.proofs.Common.{ReadsFolder, CutOf, IsMade, Answers, IsStopped, IsValid, defined, unread, named, made_task, summed_text, IsReadingEnd}
+use Rattle.engine.proofs.Common.{ReadsFolder, CutOf, IsMade, Answers, IsStopped, IsValid, defined, unread, read_by_name, made_task, summed_text, IsReadingEnd}
 use Rattle.engine.proofs.Common.{made_fault, InputFault, ListingEnd, last_line, listing, status_of, made_files, made_name, Plain, IsSummarized, reads, Defines}
 use Rattle.engine.proofs.Common.{InputCounts, IsRun, case_read, Making, PutsMore}
 use Rattle.engine.proofs.Dues.{late_stops}
@@ -14,7 +14,7 @@ use Rattle.run_puts.specs.declared.puts.Status.TheVariants as status
 pub puts_more : {S : Type 0} {old new : S} {P Q : List Put → Type 0} (leads : S → List Put → S → Type 0) → PutsMore leads old new P → ((more : List Put) → P more → Q more) → PutsMore leads old new Q
 puts_more leads put holds = λ start puts h. let m = put start puts h in (m.0, m.1, holds m.0 m.2)
 
-pub wanting_stops : (end : Status) (puts : List Put) → IsWanting end puts → IsStopped end
+pub wanting_stops : (end : Status) (puts : List Put) → EndsOutOfMemory end puts → IsStopped end
 wanting_stops end puts (answer, s, t) = let P : Status → Type 0 = IsStopped in subst P (sym s) (late_stops (status_after answer) (tail_late [] (status_after answer) (memory_put answer ∷ []) (wanting [] answer)))
 
 pub read_stops : (end : Status) (puts : List Put) → IsLast read_fault_line status.ReadFault end puts → IsStopped end
@@ -22,7 +22,7 @@ read_stops end puts (inl (e, t)) = inl e
 read_stops end puts (inr t) = late_stops end (tail_late (read_fault_line ∷ []) end puts t)
 
 module _ {case : Case} {n m : ℕ} {end : Status} {puts : List Put} where
-  pub ends_without_words : IsWanting end puts → Answers case n m end puts
+  pub ends_without_words : EndsOutOfMemory end puts → Answers case n m end puts
   ends_without_words h = record { run = lacks_at_first (Due (Rose n m) ⊥ case) (CutOf case) end puts h; valid = inl (wanting_stops end puts h) }
 
   -- one line, which the case defines
@@ -72,8 +72,8 @@ module _ (seed size : ℕ) where
       subst A (sym is) (lone_defined line meant due valid h)
 
   -- what a folder of these files reads as
-  pub made_reading : (files : FileSet) (answer : Result FlowModel InputFault) → files ≡ with_limit (most_bytes Plain) (made_files seed size) → IsReading (λ m. m) (named made_name (reads Plain files)) answer → IsReading (λ m. m) (made_model seed size) answer
-  made_reading files answer is h = subst (λ (fs : FileSet). IsReading (λ m. m) (named made_name (reads Plain fs)) answer) is h
+  pub made_reading : (files : FileSet) (answer : Result FlowModel InputFault) → files ≡ with_limit (most_bytes Plain) (made_files seed size) → IsReading (λ m. m) (read_by_name made_name (reads Plain files)) answer → IsReading (λ m. m) (made_model seed size) answer
+  made_reading files answer is h = subst (λ (fs : FileSet). IsReading (λ m. m) (read_by_name made_name (reads Plain fs)) answer) is h
 
   -- a listing of the made model ended so, of which this is the summary
   pub made_ended : (m : FlowModel) (s : Summary) (last : ListingEnd) (end : Status) (puts : List Put) → made_model seed size ≡ Ok m → IsModel m → IsSummarized (made_task m) s last → IsEnd (summed_text seed size m.grid s last) (status_of last) end puts → (n : ℕ) → Answers Made n n end puts

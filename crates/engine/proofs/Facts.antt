@@ -1,10 +1,10 @@
 -- The public clauses of a run, from all that it comes to.
 use Rattle.engine.proofs.Common.{[], Wanted, HasNoList, AskedBatch, Batch, Case, AnswersBeside, IsStopped, views_in, HasEnded, IsJobListing, Jobs, case_of}
 use Rattle.engine.proofs.Common.{job_of, job_task, names_read, CutOf, Defines, IsJobEnd, IsRunText, ReadsFolder, model_line, IsValid, IsValidJob, Rose, Put}
-use Rattle.engine.proofs.Common.{PutsMake, Seen, FileSet, taken, Text, end_line, Status, List, None, Option, Some, inl, inr, subst, sym, ℕ, ◌∙◌, ◌≡◌, ◌⊎◌, Err}
-use Rattle.engine.proofs.Common.{IfOk, Ok, Result, ap, map, refl, ◌++◌, ◌∷◌, texts, JobEnd, AreDecks, history_exists, history_is_one, IsWhole, whole_listing}
-use Rattle.engine.proofs.Common.{IsListing, listing, reads, FlowModel, Refusal, all_written, All-head, All-tail, AllZip, concat, All, ◌>>=◌, Batched, case_read}
-use Rattle.engine.proofs.Common.{IsRunResult, OneOf}
+use Rattle.engine.proofs.Common.{PutsMake, Seen, FileSet, whole_put, Text, end_line, Status, List, None, Option, Some, inl, inr, subst, sym, ℕ, ◌∙◌, ◌≡◌, ◌⊎◌}
+use Rattle.engine.proofs.Common.{Err, IfOk, Ok, Result, ap, map, refl, ◌++◌, ◌∷◌, texts, JobEnd, AreDecks, history_exists, history_is_one, IsWhole}
+use Rattle.engine.proofs.Common.{whole_listing, IsListing, listing, reads, FlowModel, Refusal, all_written, All-head, All-tail, AllZip, concat, All, ◌>>=◌}
+use Rattle.engine.proofs.Common.{Batched, case_read, IsRunResult, OneOf}
 use Rattle.engine.proofs.Outcomes.{complete, decided, put_rose, read_rose}
 use Rattle.engine.proofs.Certifying.{not_stopped}
 use Rattle.engine.proofs.OkRuns.{Laws, headline_of, one_of, valid_of}
@@ -46,7 +46,7 @@ module _ (laws : Laws) (b : AskedBatch) (files : FileSet) where
       ends = d.defines.ends;
       each = all_ended names d.defines.ends valid d.defines.each;
       status_is = d.defines.ended.status_is;
-      written = all_written (texts d.defines.ends ++ (end_line ∷ [])) old new puts (d.written ∙ ap (map taken) d.defines.ended.are) makes;
+      written = all_written (texts d.defines.ends ++ (end_line ∷ [])) old new puts (d.written ∙ ap (map whole_put) d.defines.ended.are) makes;
     }
 
     abbrev Of : Result (List Text) Refusal → Case

@@ -1,10 +1,10 @@
 -- What a run that ended Ok has put, by what its words ask for and its files are read as.
 use Rattle.engine.proofs.Common.{[], ◌≡◌, ℕ, List, ◌∷◌, Option, Some, None, Result, Ok, Err, map, subst, ◌∙◌, ap, refl, inl, inr, ◌⊎◌, append-nil, FileSet, Put}
-use Rattle.engine.proofs.Common.{Seen, PutsMake, taken, Refusal, FlowModel, IsModel, made_files, made_name, Text, end_line, whole, Status, all_written}
+use Rattle.engine.proofs.Common.{Seen, PutsMake, whole_put, Refusal, FlowModel, IsModel, made_files, made_name, Text, end_line, whole, Status, all_written}
 use Rattle.engine.proofs.Common.{one_deck, AreDecks, one_valid, ListingEnd, AllSteps, listing, IsWhole, is_whole, whole_listing, history_exists, history_is_one}
-use Rattle.engine.proofs.Common.{VerdictIsOne, Asked, Case, Run, Make, Check, Write, Listing, Making, Checking, case_of, listing_read, made_model, named}
-use Rattle.engine.proofs.Common.{task_of, zones_read, OneDeck, Defines, made_task, summed_text, OneSummary, IfOk, IsStopped, IsValid, Plain, Limits}
-use Rattle.engine.proofs.Common.{ListingIsOne, ListingExcludesRefusal, RefusalIsOne, Comparing, two, true, Second, not_alike, most_bytes, with_limit}
+use Rattle.engine.proofs.Common.{VerdictIsOne, ListingOrder, Case, Run, Make, Check, Write, Listing, Making, Checking, case_of, listing_read, made_model}
+use Rattle.engine.proofs.Common.{read_by_name, task_of, zones_read, OneDeck, Defines, made_task, summed_text, OneSummary, IfOk, IsStopped, IsValid, Plain}
+use Rattle.engine.proofs.Common.{Limits, ListingIsOne, ListingExcludesRefusal, RefusalIsOne, Comparing, two, true, Second, not_alike, most_bytes, with_limit}
 use Rattle.engine.proofs.Common.{case_decks, span_task_of, IsDeck, deck_text, deck_reads, summary_of, summary_text, HeadlineOf, OneOf, Wanted, AskedBatch}
 use Rattle.engine.proofs.Common.{Batch, second_in, reads, Decks, decks_task, Batched, case_read, OneListing, false, DifferenceIsOne}
 use Rattle.std.specs.Io.KnownBytes.{Appends}
@@ -29,7 +29,7 @@ pub record Laws : Type 0 where
   pub verdict : VerdictIsOne
   pub difference : DifferenceIsOne
 
-module _ (laws : Laws) (old new : Seen) (puts : List Put) (pieces : List Text) (written : puts ≡ map taken pieces) (makes : PutsMake old puts new) where
+module _ (laws : Laws) (old new : Seen) (puts : List Put) (pieces : List Text) (written : puts ≡ map whole_put pieces) (makes : PutsMake old puts new) where
   -- of a made model
   of_made : (seed size : ℕ) (read : Result FlowModel Refusal) → made_model seed size ≡ read → IfOk read IsModel → Defines (Making seed size read) status.Ok pieces →
       OneSummary seed size old.written new.written
@@ -43,7 +43,7 @@ module _ (laws : Laws) (old new : Seen) (puts : List Put) (pieces : List Text) (
       let T : ListingEnd → Type 0 = λ last. pieces ≡ summed_text seed size m.grid (summary_of m values) last ∷ [] in
       let text : pieces ≡ summary_text seed size (summary_of m values) ∷ [] = subst T whole x.are in
       let P : List ℕ → Type 0 = λ t. Appends old.written new.written t in
-      let all = subst P (append-nil (summary_text seed size (summary_of m values))) (all_written (summary_text seed size (summary_of m values) ∷ []) old new puts (written ∙ ap (map taken) text) makes) in
+      let all = subst P (append-nil (summary_text seed size (summary_of m values))) (all_written (summary_text seed size (summary_of m values) ∷ []) old new puts (written ∙ ap (map whole_put) text) makes) in
       let read = named_read made_name (reads Plain (with_limit (most_bytes Plain) (made_files seed size))) m is in
       record {
         made = record {
@@ -61,7 +61,7 @@ module _ (laws : Laws) (old new : Seen) (puts : List Put) (pieces : List Text) (
       }
 
   module _ (files : FileSet) where
-    of_listing : (asked : Asked) (m : FlowModel) (zones : Option (List ℕ)) → named asked.name (reads asked.limits files) ≡ Ok m → zones_read files asked.zones m ≡ Ok zones → AreDecks (one_deck m) → IsWhole (task_of asked m zones) pieces →
+    of_listing : (asked : ListingOrder) (m : FlowModel) (zones : Option (List ℕ)) → read_by_name asked.name (reads asked.limits files) ≡ Ok m → zones_read files asked.zones m ≡ Ok zones → AreDecks (one_deck m) → IsWhole (task_of asked m zones) pieces →
         OneListing asked files old.written new.written
     of_listing asked m zones read zoned valid v = record {
       headline = record {
@@ -71,7 +71,7 @@ module _ (laws : Laws) (old new : Seen) (puts : List Put) (pieces : List Text) (
         zones = zones;
         zoned = zoned;
         values = v.values;
-        written = all_written (listing (task_of asked m zones) v.values end_line) old new puts (written ∙ ap (map taken) v.are) makes;
+        written = all_written (listing (task_of asked m zones) v.values end_line) old new puts (written ∙ ap (map whole_put) v.are) makes;
         encloses = v.encloses;
         solvable = history_exists asked.limits m asked.digits zones asked.rounds asked.quick v.values valid.first v.steps;
         one = history_is_one asked.limits m asked.digits zones asked.rounds asked.quick v.values valid.first v.steps;
@@ -79,7 +79,7 @@ module _ (laws : Laws) (old new : Seen) (puts : List Put) (pieces : List Text) (
       values = record { steps = v.steps; only = λ plain others steps. laws.one (task_of asked m zones) v.values others valid plain v.steps steps; encloses = v.encloses };
     }
 
-    of_deck : (limits : Limits) (name : Text) (m : FlowModel) → named name (reads limits files) ≡ Ok m → IsModel m → IsDeck m status.Ok pieces → OneDeck limits name files old.written new.written
+    of_deck : (limits : Limits) (name : Text) (m : FlowModel) → read_by_name name (reads limits files) ≡ Ok m → IsModel m → IsDeck m status.Ok pieces → OneDeck limits name files old.written new.written
     of_deck limits name m is valid d =
         let P : List ℕ → Type 0 = λ t. Appends old.written new.written t in
         let read = named_read name (reads limits files) m is in
@@ -87,7 +87,7 @@ module _ (laws : Laws) (old new : Seen) (puts : List Put) (pieces : List Text) (
           model = m;
           read = read;
           valid = valid;
-          written = subst P (append-nil (deck_text m)) (all_written (deck_text m ∷ []) old new puts (written ∙ ap (map taken) d.1) makes);
+          written = subst P (append-nil (deck_text m)) (all_written (deck_text m ∷ []) old new puts (written ∙ ap (map whole_put) d.1) makes);
           again = deck_reads limits files name m read;
         }
 
@@ -115,17 +115,17 @@ module _ (laws : Laws) (old new : Seen) (puts : List Put) (pieces : List Text) (
 
     one_by : (order : Option Wanted) (end : Status) → ((b : AskedBatch) → order ≡ Some (Batch b) → Batched b files end old.written new.written) → AfterOk (case_of order files) (OneOf order files end old new)
     one_by None end batched = λ valid d. absurd (let bad : status.Ok ≡ status.Usage = d.0 in cc)
-    one_by (Some (Run asked None)) end batched = of_one (named asked.name (reads asked.limits files)) (to_list files asked) (λ m read. of_read (zones_read files asked.zones m) (λ zones. Listing (task_of asked m zones))
+    one_by (Some (Run asked None)) end batched = of_one (read_by_name asked.name (reads asked.limits files)) (to_list files asked) (λ m read. of_read (zones_read files asked.zones m) (λ zones. Listing (task_of asked m zones))
         (λ zones zoned valid d. of_listing asked m zones read zoned valid (whole_listing (task_of asked m zones) pieces d)))
-    one_by (Some (Run asked (Some to))) end batched = of_two (named asked.name (reads asked.limits files)) (named to (second_in asked.limits files)) (to_list files asked) (λ a b first second. of_read (zones_read files asked.zones a) (λ zones. Listing (decks_task asked (two a b.model) zones))
+    one_by (Some (Run asked (Some to))) end batched = of_two (read_by_name asked.name (reads asked.limits files)) (read_by_name to (second_in asked.limits files)) (to_list files asked) (λ a b first second. of_read (zones_read files asked.zones a) (λ zones. Listing (decks_task asked (two a b.model) zones))
         (λ zones zoned valid d. span_listed laws.one files old new puts pieces written makes a b asked to first second zones zoned valid (whole_listing (span_task_of asked a b.model zones) pieces d)))
     one_by (Some (Make seed size)) end batched = of_made seed size (made_model seed size) refl
-    one_by (Some (Check asked None)) end batched = of_one (named asked.name (reads asked.limits files)) (to_check files asked None) (λ m read. of_read (listing_read false files asked m) (Checking asked.limits (one_deck m) asked.digits)
+    one_by (Some (Check asked None)) end batched = of_one (read_by_name asked.name (reads asked.limits files)) (to_check files asked None) (λ m read. of_read (listing_read false files asked m) (Checking asked.limits (one_deck m) asked.digits)
         (λ listing listed valid d. certified_and_one files old new puts pieces asked written makes m listing valid.0.first read listed d))
-    one_by (Some (Check asked (Some to))) end batched = of_two (named asked.name (reads asked.limits files)) (named to (second_in asked.limits files)) (to_check files asked (Some to)) (λ a b first second. of_read (listing_read true files asked a) (Checking asked.limits (two a b.model) asked.digits)
+    one_by (Some (Check asked (Some to))) end batched = of_two (read_by_name asked.name (reads asked.limits files)) (read_by_name to (second_in asked.limits files)) (to_check files asked (Some to)) (λ a b first second. of_read (listing_read true files asked a) (Checking asked.limits (two a b.model) asked.digits)
         (λ listing listed valid d. span_checked laws.one files old new puts pieces written makes a b asked to first second listing listed valid.0 d))
     one_by (Some (Batch b)) end batched = λ valid d. batched b refl
-    one_by (Some (Write limits name)) end batched = of_one (named name (reads limits files)) to_write (λ m read valid d. of_deck limits name m read valid d)
+    one_by (Some (Write limits name)) end batched = of_one (read_by_name name (reads limits files)) to_write (λ m read valid d. of_deck limits name m read valid d)
 
 pub one_of : (laws : Laws) (order : Option Wanted) (files : FileSet) (end : Status) (puts : List Put) (old new : Seen) → PutsMake old puts new → end ≡ status.Ok → IsValid (case_of order files) → Delivers (Defines (case_of order files)) end puts →
     ((b : AskedBatch) → order ≡ Some (Batch b) → Batched b files end old.written new.written) → OneOf order files end old new

@@ -1,7 +1,7 @@
 -- The public clauses, from all that a run comes to.
 use Rattle.engine.proofs.Common.{◌≡◌, List, Option, Ok, subst, sym, ◌∙◌, ap, refl, inl, inr, ◌⊎◌, FileSet, Rose, Put, Seen, PutsMake, Text, Agree, Status}
 use Rattle.engine.proofs.Common.{one_valid, Case, Listing, Making, Checking, Writing, CutOf, Defines, made_task, GoesWell, IsRunOf, IsStopped, IsValid}
-use Rattle.engine.proofs.Common.{Difference, Comparing, not_alike, IsPlain, ReadsFolder, Comes, Decided, Wanted, Jobs, case_of}
+use Rattle.engine.proofs.Common.{Difference, Comparing, not_alike, IsPlain, ReadsFolder, EndsOk, EndIsDefined, Wanted, Jobs, case_of}
 use Rattle.engine.proofs.Certifying.{IsFault, certifies, check_is_no_fault, one_end, stopped_by_fault}
 use Rattle.engine.proofs.ListingEnds.{agree, goes_through, jobs_agree, jobs_end_ok, jobs_no_fault, listing_is_no_fault}
 use Rattle.engine.proofs.OkRuns.{Laws, valid_of}
@@ -64,8 +64,8 @@ module _ (read_fault beside : Type 0) (order : Option Wanted) (files : FileSet) 
   comes = run_ended (read_fault × ReadsFolder case) beside (Defines case) (CutOf case) goes Fault (λ f. inl f.0) old new (λ f. inr f) end puts run makes
 
   module _ (laws : Laws) (valid : IsStopped end ⊎ IsValid case) where
-    pub decided : Decided Fault order files end
+    pub decided : EndIsDefined Fault order files end
     decided = λ plain meant pieces x. end_decided Fault (Defines case) end meant (λ q y. decides laws case meant end pieces q plain (valid_of case end (goes end q y) valid) x y) comes
 
-    pub complete : Comes Fault order files end
+    pub complete : EndsOk Fault order files end
     complete = λ well. end_comes Fault (Defines case) end (λ q y. ends_well laws case well (valid_of case end (goes end q y) valid) end q y) comes

@@ -1,10 +1,10 @@
 -- What a reading gives, by the name and the files of the folder.
 use Rattle.engine.proofs.Common.{◌≡◌, ℕ, ◌≤◌, Bool, true, length, List, Option, None, Some, Result, Ok, Err, IfOk, sym, ap, refl, ◌∙◌, codes, if◌then◌else◌}
 use Rattle.engine.proofs.Common.{map, subst, ℤ, unsigned_abs, length-map, FileSet, IsReading, file_refusal, input_fault, IsGoodName, is_good_name, InputFault}
-use Rattle.engine.proofs.Common.{Refusal, Has, Stops, StopsText, FlowModel, IsModel, Text, ListedStep, AreZonesOf, ZonedListing, named, IsNamedFault, Limits}
-use Rattle.engine.proofs.Common.{◌>>=◌, model_of, Difference, one_deck, AreDecksAs, IsUnlikeFault, second_by, Second, of_both, of_first, of_second, InputCounts}
-use Rattle.engine.proofs.Common.{cell_count, AreDecks, Decks, AreDecksOf, IsNoSecond, IfErr, second_in, reads, ReadsOn, names_in, AreAlike, IfSome, option_map}
-use Rattle.engine.proofs.Common.{IsSecond, err_from_is_err_and, IsErrAnd}
+use Rattle.engine.proofs.Common.{Refusal, Has, Stops, StopsText, FlowModel, IsModel, Text, ListedStep, AreZonesOf, ZonedListing, read_by_name, IsNamedFault}
+use Rattle.engine.proofs.Common.{Limits, ◌>>=◌, model_of, Difference, one_deck, AreDecksAs, IsUnlikeFault, second_by, Second, of_both, of_first, of_second}
+use Rattle.engine.proofs.Common.{InputCounts, cell_count, AreDecks, Decks, AreDecksOf, IsNoSecond, IfErr, second_in, reads, ReadsOn, names_in, AreAlike, IfSome}
+use Rattle.engine.proofs.Common.{option_map, IsSecond, err_from_is_err_and, IsErrAnd}
 use Rattle.std.proofs.Common.{false, All}
 use Rattle.outside.specs.declared.codes.Code.TheVariants.{BadName}
 use Rattle.name_file.specs.Pairs.{Pairs}
@@ -24,19 +24,19 @@ not_good name bad = by_test (is_good_name name) refl
     by_test false e = e
 
 -- a name that isn't taken stands for its refusal, and another one for what its files read as
-pub bad_named : {T : Type 0} (name : Text) (read : Text → Result T Refusal) → (IsGoodName name → ⊥) → named name read ≡ Err (file_refusal BadName (codes "-"))
+pub bad_named : {T : Type 0} (name : Text) (read : Text → Result T Refusal) → (IsGoodName name → ⊥) → read_by_name name read ≡ Err (file_refusal BadName (codes "-"))
 bad_named name read bad = rw (not_good name bad) refl
 
-pub good_named : {T : Type 0} (name : Text) (read : Text → Result T Refusal) → IsGoodName name → named name read ≡ read name
+pub good_named : {T : Type 0} (name : Text) (read : Text → Result T Refusal) → IsGoodName name → read_by_name name read ≡ read name
 good_named name read good = rw (is_taken name good) refl
 
 -- what a reading of a name gave
 module _ {T V : Type 0} (view : V → T) (name : Text) (r : Result T Refusal) where
-  pub bad_reading : (fault : InputFault) → (IsGoodName name → ⊥) → IsNamedFault fault → IsReading view (named name (λ n. r)) (Err fault)
+  pub bad_reading : (fault : InputFault) → (IsGoodName name → ⊥) → IsNamedFault fault → IsReading view (read_by_name name (λ n. r)) (Err fault)
   bad_reading (input.Refused refusal) bad is = bad_named name (λ n. r) bad ∙ ap Err (sym is)
   bad_reading other bad is = tt
 
-  pub good_reading : (answer : Result V InputFault) → IsGoodName name → IsReading view r answer → IsReading view (named name (λ n. r)) answer
+  pub good_reading : (answer : Result V InputFault) → IsGoodName name → IsReading view r answer → IsReading view (read_by_name name (λ n. r)) answer
   good_reading answer good h = let P : Result T Refusal → Type 0 = λ x. IsReading view x answer in subst P (sym (good_named name (λ n. r) good)) h
 
 pub reading_of : {T V : Type 0} (view : V → T) (r : Result T Refusal) (answer : Result V InputFault) → Has view answer r → IsReading view r answer
@@ -67,7 +67,7 @@ text_read view read (texts.Refused refusal) h = h
 text_read view read texts.Memory h = tt
 
 -- what a name stands for that isn't refused, files under it read as
-pub named_read : {T : Type 0} (name : Text) (read : Text → Result T Refusal) (v : T) → named name read ≡ Ok v → read name ≡ Ok v
+pub named_read : {T : Type 0} (name : Text) (read : Text → Result T Refusal) (v : T) → read_by_name name read ≡ Ok v → read name ≡ Ok v
 named_read {T} name read v = by_test (is_good_name name)
   where
     by_test : (b : Bool) → (if b then read name else Err (file_refusal BadName (codes "-"))) ≡ Ok v → read name ≡ Ok v
@@ -108,7 +108,7 @@ module _ (limits : Limits) (files : FileSet) (name : Text) where
       by_names (Ok pairs) = by_model pairs (model_of limits files pairs)
       by_names (Err refusal) = refl
 
-  named_by : named name (reads limits files) ≡ model_by (named name (second_in limits files))
+  named_by : read_by_name name (reads limits files) ≡ model_by (read_by_name name (second_in limits files))
   named_by = by_test (is_good_name name)
     where
       by_test : (good : Bool) → (if good then reads limits files name else Err (file_refusal BadName (codes "-"))) ≡ model_by (if good then second_in limits files name else Err (file_refusal BadName (codes "-")))
@@ -118,32 +118,32 @@ module _ (limits : Limits) (files : FileSet) (name : Text) where
   pub second_parts : (b : Second) → second_in limits files name ≡ Ok b → reads limits files name ≡ Ok b.model
   second_parts b h = reads_by ∙ ap model_by h
 
-  named_second : (b : FlowModel) → named name (reads limits files) ≡ Ok b → (last : Second) × (named name (second_in limits files) ≡ Ok last) × (last.model ≡ b)
-  named_second b h = by_second (named name (second_in limits files)) refl (sym named_by ∙ h)
+  named_second : (b : FlowModel) → read_by_name name (reads limits files) ≡ Ok b → (last : Second) × (read_by_name name (second_in limits files) ≡ Ok last) × (last.model ≡ b)
+  named_second b h = by_second (read_by_name name (second_in limits files)) refl (sym named_by ∙ h)
     where
-      by_second : (r : Result Second Refusal) → named name (second_in limits files) ≡ r → model_by r ≡ Ok b → (last : Second) × (named name (second_in limits files) ≡ Ok last) × (last.model ≡ b)
+      by_second : (r : Result Second Refusal) → read_by_name name (second_in limits files) ≡ r → model_by r ≡ Ok b → (last : Second) × (read_by_name name (second_in limits files) ≡ Ok last) × (last.model ≡ b)
       by_second (Ok last) is e = (last, is, (let same : Path (Result FlowModel Refusal) (Ok last.model) (Ok b) = e in cc))
       by_second (Err refusal) is e = absurd (let bad : Path (Result FlowModel Refusal) (Err refusal) (Ok b) = e in cc)
 
 -- The decks.
 
 -- the first deck's fault
-pub unread_first : (limits : Limits) (name : Text) (to : Option Text) (fs : FileSet) (fault : InputFault) → IsReading {T = FlowModel} (λ m. m) (named name (reads limits fs)) (Err fault) → AreDecksAs limits name to fs (Err fault)
+pub unread_first : (limits : Limits) (name : Text) (to : Option Text) (fs : FileSet) (fault : InputFault) → IsReading {T = FlowModel} (λ m. m) (read_by_name name (reads limits fs)) (Err fault) → AreDecksAs limits name to fs (Err fault)
 unread_first limits name to fs (input.Refused refusal) h = of_first h
 unread_first limits name to fs other h = tt
 
-module _ (limits : Limits) (name : Text) (fs : FileSet) (a : FlowModel) (h : named name (reads limits fs) ≡ Ok a) where
+module _ (limits : Limits) (name : Text) (fs : FileSet) (a : FlowModel) (h : read_by_name name (reads limits fs) ≡ Ok a) where
   -- one deck was read
   pub one_read : AreDecksAs limits name None fs (Ok (one_deck a))
   one_read = record { last = None; is_first = h; is_second = refl; are = refl; alike = tt }
 
   -- the second deck's fault
-  pub unread_second : (to : Text) (fault : InputFault) → IsReading second_by (named to (second_in limits fs)) (Err fault) → AreDecksAs limits name (Some to) fs (Err fault)
+  pub unread_second : (to : Text) (fault : InputFault) → IsReading second_by (read_by_name to (second_in limits fs)) (Err fault) → AreDecksAs limits name (Some to) fs (Err fault)
   unread_second to (input.Refused refusal) k = of_second a h (ap (λ x. Some x) k)
   unread_second to other k = tt
 
   -- two were compared
-  pub compared_decks : (to : Text) (b : SecondBy) → named to (second_in limits fs) ≡ Ok (second_by b) → (r : Result Decks InputFault) → IfOk r (AreDecksOf a b.model) → IfErr r (IsNoSecond a (second_by b)) → AreDecksAs limits name (Some to) fs r
+  pub compared_decks : (to : Text) (b : SecondBy) → read_by_name to (second_in limits fs) ≡ Ok (second_by b) → (r : Result Decks InputFault) → IfOk r (AreDecksOf a b.model) → IfErr r (IsNoSecond a (second_by b)) → AreDecksAs limits name (Some to) fs r
   compared_decks to b k (Ok d) (is, alike) e =
       let P : Decks → Type 0 = λ x. AreDecksAs limits name (Some to) fs (Ok x) in
       subst P (sym is) (record { last = Some (second_by b); is_first = h; is_second = ap (λ x. Some x) k; are = refl; alike = alike })
@@ -151,14 +151,14 @@ module _ (limits : Limits) (name : Text) (fs : FileSet) (a : FlowModel) (h : nam
   compared_decks to b k (Err other) x e = tt
 
 -- One deck was read, or two that are alike.
-pub decks_read : (limits : Limits) (name : Text) (to : Option Text) (fs : FileSet) (a : FlowModel) (second : Option FlowModel) → named name (reads limits fs) ≡ Ok a →
-    option_map (λ last. named last (reads limits fs)) to ≡ option_map (λ m. Ok m) second → IfSome second (IsSecond a) → AreDecksAs limits name to fs (Ok (record { first = a; second = second }))
+pub decks_read : (limits : Limits) (name : Text) (to : Option Text) (fs : FileSet) (a : FlowModel) (second : Option FlowModel) → read_by_name name (reads limits fs) ≡ Ok a →
+    option_map (λ last. read_by_name last (reads limits fs)) to ≡ option_map (λ m. Ok m) second → IfSome second (IsSecond a) → AreDecksAs limits name to fs (Ok (record { first = a; second = second }))
 decks_read limits name None fs a None h k valid = one_read limits name fs a h
 decks_read limits name (Some to) fs a (Some b) h k valid =
-    let (last, is, same) = named_second limits fs to b (let same : Path (Option (Result FlowModel Refusal)) (Some (named to (reads limits fs))) (Some (Ok b)) = k in cc) in
+    let (last, is, same) = named_second limits fs to b (let same : Path (Option (Result FlowModel Refusal)) (Some (read_by_name to (reads limits fs))) (Some (Ok b)) = k in cc) in
     record { last = Some last; is_first = h; is_second = ap (λ (r : Result Second Refusal). Some r) is; are = ap (λ (m : FlowModel). Some m) (sym same); alike = subst (AreAlike a) (sym same) valid.alike }
 decks_read limits name None fs a (Some b) h k valid = absurd (let bad : Path (Option (Result FlowModel Refusal)) None (Some (Ok b)) = k in cc)
-decks_read limits name (Some to) fs a None h k valid = absurd (let bad : Path (Option (Result FlowModel Refusal)) (Some (named to (reads limits fs))) None = k in cc)
+decks_read limits name (Some to) fs a None h k valid = absurd (let bad : Path (Option (Result FlowModel Refusal)) (Some (read_by_name to (reads limits fs))) None = k in cc)
 
 pub compared_valid : (a b : FlowModel) (r : Result Decks InputFault) → IsModel a → IsModel b → IfOk r (AreDecksOf a b) → IfOk r AreDecks
 compared_valid a b (Ok d) first second (is, alike) = subst AreDecks (sym is) (record { first = first; second = record { model = second; alike = alike } })

@@ -1,15 +1,15 @@
 -- What a run of two decks, or the check of such a listing, that ended Ok says.
-use Rattle.engine.proofs.Common.{[], ◌≡◌, ℕ, List, ◌∷◌, Option, Ok, map, subst, ap, ◌∙◌, true, FileSet, Put, Seen, PutsMake, taken, FlowModel, ZonedListing}
-use Rattle.engine.proofs.Common.{Text, end_line, all_written, AreDecks, named, steps_read, zones_read, certified_line, Asked, AskedCheck, listing_read}
-use Rattle.engine.proofs.Common.{span_task_of, IsCheck, verdict_line, ArePairOf, OneSpan, SpanVerdict, Second, second_in, listing, ListingIsOne, have_one}
-use Rattle.engine.proofs.Common.{IsWhole, Limits, two, ListingVerdict, IsVerdict, reads}
+use Rattle.engine.proofs.Common.{[], ◌≡◌, ℕ, List, ◌∷◌, Option, Ok, map, subst, ap, ◌∙◌, true, FileSet, Put, Seen, PutsMake, whole_put, FlowModel, ZonedListing}
+use Rattle.engine.proofs.Common.{Text, end_line, all_written, AreDecks, read_by_name, steps_read, zones_read, certified_line, ListingOrder, AskedCheck}
+use Rattle.engine.proofs.Common.{listing_read, span_task_of, IsCheck, verdict_line, ArePairOf, OneSpan, SpanVerdict, Second, second_in, listing, ListingIsOne}
+use Rattle.engine.proofs.Common.{have_one, IsWhole, Limits, two, ListingVerdict, IsVerdict, reads}
 use Rattle.engine.proofs.Certifying.{is_certified}
 use Rattle.engine.proofs.Readings.{named_read, second_parts, zoned_parts}
 use Rattle.run_puts.specs.declared.puts.Status.TheVariants as status
 use Rattle.listing_run.specs.declared.text.ListingEnd.TheVariants as ends
 
 -- the files of two names that were read, and are alike
-abbrev pair_of : (limits : Limits) (files : FileSet) (name to : Text) (a : FlowModel) (b : Second) → named name (reads limits files) ≡ Ok a → named to (second_in limits files) ≡ Ok b → AreDecks (two a b.model) → ArePairOf limits files name to
+abbrev pair_of : (limits : Limits) (files : FileSet) (name to : Text) (a : FlowModel) (b : Second) → read_by_name name (reads limits files) ≡ Ok a → read_by_name to (second_in limits files) ≡ Ok b → AreDecks (two a b.model) → ArePairOf limits files name to
 pair_of limits files name to a b first second valid = record {
   first = a;
   read = named_read name (reads limits files) a first;
@@ -20,9 +20,9 @@ pair_of limits files name to a b first second valid = record {
   alike = valid.second.alike;
 }
 
-module _ (one : ListingIsOne) (files : FileSet) (old new : Seen) (puts : List Put) (pieces : List Text) (written : puts ≡ map taken pieces) (makes : PutsMake old puts new) (a : FlowModel) (b : Second) where
+module _ (one : ListingIsOne) (files : FileSet) (old new : Seen) (puts : List Put) (pieces : List Text) (written : puts ≡ map whole_put pieces) (makes : PutsMake old puts new) (a : FlowModel) (b : Second) where
   -- a run
-  pub span_listed : (s : Asked) (to : Text) → named s.name (reads s.limits files) ≡ Ok a → named to (second_in s.limits files) ≡ Ok b → (zones : Option (List ℕ)) → zones_read files s.zones a ≡ Ok zones →
+  pub span_listed : (s : ListingOrder) (to : Text) → read_by_name s.name (reads s.limits files) ≡ Ok a → read_by_name to (second_in s.limits files) ≡ Ok b → (zones : Option (List ℕ)) → zones_read files s.zones a ≡ Ok zones →
       AreDecks (two a b.model) → IsWhole (span_task_of s a b.model zones) pieces → OneSpan s to files old.written new.written
   span_listed s to first second zones zoned valid v =
       let k = span_task_of s a b.model zones in
@@ -32,7 +32,7 @@ module _ (one : ListingIsOne) (files : FileSet) (old new : Seen) (puts : List Pu
           zones = zones;
           zoned = zoned;
           values = v.values;
-          written = all_written (listing k v.values end_line) old new puts (written ∙ ap (map taken) v.are) makes;
+          written = all_written (listing k v.values end_line) old new puts (written ∙ ap (map whole_put) v.are) makes;
           encloses = v.encloses;
           choices = have_one k v.values valid v.steps;
         };
@@ -40,7 +40,7 @@ module _ (one : ListingIsOne) (files : FileSet) (old new : Seen) (puts : List Pu
       }
 
   -- a check
-  pub span_checked : (s : AskedCheck) (to : Text) → named s.name (reads s.limits files) ≡ Ok a → named to (second_in s.limits files) ≡ Ok b → (l : ZonedListing) → listing_read true files s a ≡ Ok l →
+  pub span_checked : (s : AskedCheck) (to : Text) → read_by_name s.name (reads s.limits files) ≡ Ok a → read_by_name to (second_in s.limits files) ≡ Ok b → (l : ZonedListing) → listing_read true files s a ≡ Ok l →
       AreDecks (two a b.model) → IsCheck s.limits (two a b.model) s.digits l status.Ok pieces → SpanVerdict s to files old.written new.written
   span_checked s to first second l listed valid d =
       let parts = zoned_parts (zones_read files s.zones a) (steps_read true files s a) l listed in
@@ -54,7 +54,7 @@ module _ (one : ListingIsOne) (files : FileSet) (old new : Seen) (puts : List Pu
           zoned = parts.0;
           steps = l.steps;
           listed = parts.1;
-          written = all_written (certified_line ∷ []) old new puts (written ∙ ap (map taken) (subst L holds d.are)) makes;
+          written = all_written (certified_line ∷ []) old new puts (written ∙ ap (map whole_put) (subst L holds d.are)) makes;
           encloses = d.encloses holds;
           choices = d.history holds;
         };

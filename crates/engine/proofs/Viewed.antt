@@ -1,7 +1,7 @@
 -- What a viewer put to its sink, by what it was told and shown.
 use Rattle.engine.proofs.Common.{◌≡◌, ◌∙◌, ◌⊎◌, ℕ, ◌+◌, ◌*◌, ◌<◌, List, [], ◌∷◌, ◌++◌, length, map, Bool, true, Option, Some, None, inl, inr, ap, sym, subst}
 use Rattle.engine.proofs.Common.{refl, arith, is_some, append_assoc, append-nil, map-append, All-append, All-cons, All-nil, All-weaker, Rose, Put, PutsMake}
-use Rattle.engine.proofs.Common.{Seen, refused, taken, SinkError, Bound, Entries, Edges, TimeStep, AddsPhases, EnclosesPair, Text, failed, AreAllShown}
+use Rattle.engine.proofs.Common.{Seen, failed_put, whole_put, SinkError, Bound, Entries, Edges, TimeStep, AddsPhases, EnclosesPair, Text, failed, AreAllShown}
 use Rattle.engine.proofs.Common.{IsStopPut, LeadOn, ViewPuts, no_lead, Task, Step, IsStep, IsSettledBy, PairEncloses, Reaches, ReachesFirst, begun, rests}
 use Rattle.engine.proofs.Common.{settled, AreViews, AreWatched, ArePutInTurn, IsView, IsWatched, Shows, ViewPutsOf, lines_of, edges_by, false, view_text}
 use Rattle.engine.proofs.Common.{early_rose}
@@ -11,9 +11,9 @@ use Rattle.model_types.specs.{times as times_of}
 use Rattle.outside.specs.declared.traits.SinkError.TheVariants as error
 use Rattle.run_puts.specs.declared.puts.Status.TheVariants as status
 
-pieces_of : (text : List Bound → List ℕ) (views : List (List Bound)) → map (λ heads. taken (text heads)) views ≡ map taken (map text views)
+pieces_of : (text : List Bound → List ℕ) (views : List (List Bound)) → map (λ heads. whole_put (text heads)) views ≡ map whole_put (map text views)
 pieces_of text [] = refl
-pieces_of text (v ∷ views) = ap (λ (ps : List Put). taken (text v) ∷ ps) (pieces_of text views)
+pieces_of text (v ∷ views) = ap (λ (ps : List Put). whole_put (text v) ∷ ps) (pieces_of text views)
 
 all_views : (k : Task) (at : TimeStep) (old : List Bound) (p : List Entries) (b : Edges) (text : List Bound → List ℕ) → PairEncloses k.limits k.decks at old p b → (views : List (List Bound)) → AreAllShown text (EnclosesPair p (edges_by k.limits b)) views → All (IsView k at old p (edges_by k.limits b)) views
 all_views k at old p b text encloses views h = All-weaker (EnclosesPair p (edges_by k.limits b)) (IsView k at old p (edges_by k.limits b)) (λ heads shown. record { pair = shown; solutions = encloses heads shown.pair }) views (each views h)
@@ -27,7 +27,7 @@ no_views [] e = refl
 no_views (v ∷ views) e = absurd (let no : ⊥ = omega (arith, e) in no)
 
 -- a sink of texts that were taken, and then of one whose write failed
-write_failed : (texts : List Text) (text : Text) (old new : Seen) → PutsMake old (map taken texts ++ (refused text error.Write ∷ [])) new → Rose old.faults new.faults
+write_failed : (texts : List Text) (text : Text) (old new : Seen) → PutsMake old (map whole_put texts ++ (failed_put text error.Write ∷ [])) new → Rose old.faults new.faults
 write_failed texts text old new makes = early_rose texts (text ∷ []) status.WriteFault _ old new (failed text []) refl makes
 
 not_whole : false ≡ true → ⊥
@@ -35,25 +35,25 @@ not_whole e = cc
 
 -- these puts end with one whose write failed
 abbrev IsWriteRefused : List Put → Type 0
-IsWriteRefused puts = (before : List Text) × (text : Text) × (puts ≡ map taken before ++ refused text error.Write ∷ [])
+IsWriteRefused puts = (before : List Text) × (text : Text) × (puts ≡ map whole_put before ++ failed_put text error.Write ∷ [])
 
 -- texts that were taken, before puts
-more_puts : (here before : List Text) (puts last : List Put) → puts ≡ map taken before ++ last → map taken here ++ puts ≡ map taken (here ++ before) ++ last
+more_puts : (here before : List Text) (puts last : List Put) → puts ≡ map whole_put before ++ last → map whole_put here ++ puts ≡ map whole_put (here ++ before) ++ last
 more_puts here before puts last e = grind (arith, append_assoc, map-append)
 
-more_in_turn : (whole : Bool) (here texts : List Text) (puts : List Put) → ArePutInTurn whole texts puts → ArePutInTurn whole (here ++ texts) (map taken here ++ puts)
-more_in_turn whole here texts puts (inl e) = inl (ap (λ (ps : List Put). map taken here ++ ps) e ∙ sym (map-append taken here texts))
+more_in_turn : (whole : Bool) (here texts : List Text) (puts : List Put) → ArePutInTurn whole texts puts → ArePutInTurn whole (here ++ texts) (map whole_put here ++ puts)
+more_in_turn whole here texts puts (inl e) = inl (ap (λ (ps : List Put). map whole_put here ++ ps) e ∙ sym (map-append whole_put here texts))
 more_in_turn whole here texts puts (inr (part, before, last, error, is, e)) = inr (
   part,
   here ++ before,
   last,
   error,
   ap (λ (ts : List Text). here ++ ts) is ∙ sym (append_assoc here before (last ∷ [])),
-  more_puts here before puts (refused last error ∷ []) e,
+  more_puts here before puts (failed_put last error ∷ []) e,
 )
 
-more_refused : (here : List Text) (puts : List Put) → IsWriteRefused puts → IsWriteRefused (map taken here ++ puts)
-more_refused here puts (before, text, e) = (here ++ before, text, more_puts here before puts (refused text error.Write ∷ []) e)
+more_refused : (here : List Text) (puts : List Put) → IsWriteRefused puts → IsWriteRefused (map whole_put here ++ puts)
+more_refused here puts (before, text, e) = (here ++ before, text, more_puts here before puts (failed_put text error.Write ∷ []) e)
 
 no_first_views : (whole : Bool) (k : Task) (n : ℕ) (old : List Bound) (times : List TimeStep) → (whole ≡ false) ⊎ (times ≡ []) → AreWatched whole k n old times []
 no_first_views whole k n old [] end = refl
@@ -135,22 +135,22 @@ module _ {V W : Type 0} (leads : W → List Put → W → Type 0) (sink : V → 
       pub in_turn : ArePutInTurn false (map text heads) puts
 
     abbrev pieces : List Put
-    pieces = map (λ heads. taken (text heads)) views_put.views
+    pieces = map (λ heads. whole_put (text heads)) views_put.views
 
-    ends_with : (last end : List Put) → last ≡ end → pieces ++ last ≡ map taken (map text views_put.views) ++ end
+    ends_with : (last end : List Put) → last ≡ end → pieces ++ last ≡ map whole_put (map text views_put.views) ++ end
     ends_with last end h = rw (h, pieces_of text views_put.views) refl
 
     all_taken : (last : List Put) → last ≡ [] → Here (pieces ++ last)
     all_taken last h =
-        let same : pieces ++ last ≡ map taken (map text views_put.views) = rw h (append-nil pieces ∙ pieces_of text views_put.views) in
+        let same : pieces ++ last ≡ map whole_put (map text views_put.views) = rw h (append-nil pieces ∙ pieces_of text views_put.views) in
         record { heads = views_put.views; enclose = all_here; in_turn = inl same }
 
-    one_refused : (heads : List Bound) (f : SinkError) (last : List Put) → EnclosesPair p e heads → last ≡ refused (text heads) f ∷ [] → Here (pieces ++ last)
+    one_refused : (heads : List Bound) (f : SinkError) (last : List Put) → EnclosesPair p e heads → last ≡ failed_put (text heads) f ∷ [] → Here (pieces ++ last)
     one_refused heads f last shown h =
         record {
           heads = views_put.views ++ heads ∷ [];
           enclose = All-append View views_put.views (heads ∷ []) all_here (All-cons View heads [] (record { pair = shown; solutions = by.encloses heads shown.pair }) (All-nil View));
-          in_turn = inr (refl, map text views_put.views, text heads, f, map-append text views_put.views (heads ∷ []), ends_with last (refused (text heads) f ∷ []) h);
+          in_turn = inr (refl, map text views_put.views, text heads, f, map-append text views_put.views (heads ∷ []), ends_with last (failed_put (text heads) f ∷ []) h);
         }
 
     here_put : (o : Option SinkError) (last : List Put) → IsStopPut text (EnclosesPair p e) None o last → Here (pieces ++ last)
@@ -158,7 +158,7 @@ module _ {V W : Type 0} (leads : W → List Put → W → Type 0) (sink : V → 
     here_put (Some f) last (inl (m, h)) = all_taken last h
     here_put (Some f) last (inr (heads, shown, h)) = one_refused heads f last shown h
 
-    last_failed : (o : Option SinkError) (last : List Put) → IsStopPut text (EnclosesPair p e) None o last → o ≡ Some error.Write → (text : Text) × (last ≡ refused text error.Write ∷ [])
+    last_failed : (o : Option SinkError) (last : List Put) → IsStopPut text (EnclosesPair p e) None o last → o ≡ Some error.Write → (text : Text) × (last ≡ failed_put text error.Write ∷ [])
     last_failed None last h wrote = absurd (let bad : Path (Option SinkError) None (Some error.Write) = wrote in cc)
     last_failed (Some error.Memory) last h wrote = absurd (let bad : Path (Option SinkError) (Some error.Memory) (Some error.Write) = wrote in cc)
     last_failed (Some error.Write) last (inl (m, h)) wrote = absurd (let bad : error.Write ≡ error.Memory = m in cc)
@@ -167,7 +167,7 @@ module _ {V W : Type 0} (leads : W → List Put → W → Type 0) (sink : V → 
     here_failed : stop done ≡ Some error.Write → IsWriteRefused (pieces ++ views_put.last)
     here_failed wrote =
         let r = last_failed (stop done) views_put.last views_put.stop wrote in
-        (map text views_put.views, r.0, ends_with views_put.last (refused r.0 error.Write ∷ []) r.1)
+        (map text views_put.views, r.0, ends_with views_put.last (failed_put r.0 error.Write ∷ []) r.1)
 
     -- they are views of this step, and no others
     some_viewed : (times : List TimeStep) → ViewedFrom false k n old (at ∷ times) s done
@@ -204,13 +204,13 @@ module _ {V W : Type 0} (leads : W → List Put → W → Type 0) (sink : V → 
         are = refl;
       }
 
-      step_led : LeadOn leads (sink s) (sink done) (map taken (map text views_put.views))
+      step_led : LeadOn leads (sink s) (sink done) (map whole_put (map text views_put.views))
       step_led =
           let L : List Put → Type 0 = LeadOn leads (sink told) (sink done) in
-          let Q : W → Type 0 = λ w. LeadOn leads w (sink done) (map taken (map text views_put.views)) in
+          let Q : W → Type 0 = λ w. LeadOn leads w (sink done) (map whole_put (map text views_put.views)) in
           let O : Option SinkError → Type 0 = λ o. IsStopPut text (EnclosesPair p e) None o views_put.last in
           let nothing : views_put.last ≡ [] = subst O goes views_put.stop in
-          let same : pieces ++ views_put.last ≡ map taken (map text views_put.views) = rw nothing (append-nil pieces ∙ pieces_of text views_put.views) in
+          let same : pieces ++ views_put.last ≡ map whole_put (map text views_put.views) = rw nothing (append-nil pieces ∙ pieces_of text views_put.views) in
           subst Q told_is.0 (subst L same views_put.led)
 
       done_fits : text_of done ≡ lines_of k.decks.first.grid
@@ -220,7 +220,7 @@ module _ {V W : Type 0} (leads : W → List Put → W → Type 0) (sink : V → 
       all_viewed part times v t is later = record {
         texts = map text views_put.views ++ later.texts;
         views = inr (v, map text views_put.views, later.texts, is, step_views, refl, later.views);
-        puts = map taken (map text views_put.views) ++ later.puts;
+        puts = map whole_put (map text views_put.views) ++ later.puts;
         in_turn = more_in_turn part (map text views_put.views) later.texts later.puts later.in_turn;
         led = lead_more leads (sink s) (sink done) (sink t) _ _ step_led later.led;
         failed = λ wrote. more_refused (map text views_put.views) later.puts (later.failed wrote);

@@ -1,10 +1,10 @@
 -- What a run wrote is certified.
 use Rattle.engine.proofs.Common.{[], ◌≡◌, ℕ, Bool, List, ◌∷◌, map, Option, None, Some, Result, Ok, Err, refl, sym, ap, ◌∙◌, subst, arith, ℤ, unsigned_abs}
-use Rattle.engine.proofs.Common.{concat, FileSet, Refusal, FlowModel, Wanted, wanted_of, pairs_in, AreNumbers, ListedStep, all_lines, listing_at}
+use Rattle.engine.proofs.Common.{concat, FileSet, Refusal, FlowModel, Wanted, order_of_words, pairs_in, AreNumbers, ListedStep, all_lines, listing_at}
 use Rattle.engine.proofs.Common.{or_bad_listing, one_valid, Text, end_line, IsListing, listing, IsWhole, whole_listing, ZonedListing, Case, Checking, case_of}
 use Rattle.engine.proofs.Common.{listing_read, steps_read, task_of, zones_read, IsCheck, certified_line, Defines, Limits, unit_is_short, IsReadable}
 use Rattle.engine.proofs.Common.{RunIsCertified, RunIsReadAgain, as_listed, Step, ChecksWritten, WrittenIsCertified, Task, reads, AreDecks, is_some, listing_in}
-use Rattle.engine.proofs.Common.{◌>>=◌, case_read, option_map, Asked, Decks, named, OneSpan, span_task_of, have_one, AreItsSteps, OneListing}
+use Rattle.engine.proofs.Common.{◌>>=◌, case_read, option_map, ListingOrder, Decks, read_by_name, OneSpan, span_task_of, have_one, AreItsSteps, OneListing}
 use Rattle.zone_file.specs.{zones_of}
 use Rattle.check_run.proofs.FlowPairs.{run_encloses}
 use Rattle.command_line.proofs.DigitLemmas.{check_digits}
@@ -68,11 +68,11 @@ module _ (certified : RunIsCertified) (again : RunIsReadAgain) (k : Task) (piece
 
   has_second : is_some h.to ≡ between
   has_second =
-      let read_named : Text → Result FlowModel Refusal = λ last. named last (reads h.asked.limits files) in
+      let read_named : Text → Result FlowModel Refusal = λ last. read_by_name last (reads h.asked.limits files) in
       let was_read : FlowModel → Result FlowModel Refusal = λ m. Ok m in
       sym (some_mapped read_named h.to) ∙ ap (λ (o : Option (Result FlowModel Refusal)). is_some o) h.read_to ∙ some_mapped was_read k.decks.second
 
-  pub check_defines : Defines (case_of (wanted_of words) files) status.Ok (certified_line ∷ [])
+  pub check_defines : Defines (case_of (order_of_words words) files) status.Ok (certified_line ∷ [])
   check_defines =
       let p = decks_read h.asked.limits h.asked.name h.to files k.decks.first k.decks.second h.read h.read_to decks.second in
       let come : Decks → Case = to_check files h.asked h.to in
@@ -98,22 +98,22 @@ read_numbers files (Some name) m zones h = by_zones (zones_of files m.grid name)
     by_zones (Err refusal) is e = absurd (let bad : Path (Result (Option (List ℕ)) Refusal) (Err refusal) (Ok zones) = e in cc)
 
 -- The bytes of a listing of all steps, which enclose their histories.
-module _ (written : WrittenIsCertified) (asked : Asked) (files : FileSet) (bytes : List ℕ) (checks : List Text) (others : FileSet) where
+module _ (written : WrittenIsCertified) (asked : ListingOrder) (files : FileSet) (bytes : List ℕ) (checks : List Text) (others : FileSet) where
   whole_is_certified : (k : Task) (values : List Step) (a : FlowModel) → AreDecks k.decks → zones_read files asked.zones a ≡ Ok k.zones → AreItsSteps k values → bytes ≡ concat (listing k values end_line) →
-      ChecksWritten checks others k bytes → Defines (case_of (wanted_of checks) others) status.Ok (certified_line ∷ [])
+      ChecksWritten checks others k bytes → Defines (case_of (order_of_words checks) others) status.Ok (certified_line ∷ [])
   whole_is_certified k values a decks zoned all is check =
       let C : List ℕ → Type 0 = λ bs. ChecksWritten checks others k bs in
       let one : IsListing k status.Ok (listing k values end_line) = record { last = ends.Whole; status = refl; values = values; steps = all.steps; encloses = λ e. all.encloses; are = refl } in
       written k (listing k values end_line) checks others decks (read_numbers files asked.zones a k.zones zoned) one (subst C is check)
 
   pub one_listing_is_certified : (h : OneListing asked files (Some []) (Some bytes)) → ChecksWritten checks others (task_of asked h.headline.model h.headline.zones) bytes →
-      Defines (case_of (wanted_of checks) others) status.Ok (certified_line ∷ [])
+      Defines (case_of (order_of_words checks) others) status.Ok (certified_line ∷ [])
   one_listing_is_certified h =
       let x = h.headline in
       whole_is_certified (task_of asked x.model x.zones) x.values x.model (one_valid x.model x.valid) x.zoned h.values x.written
 
   pub one_span_is_certified : (to : Text) (h : OneSpan asked to files (Some []) (Some bytes)) →
-      ChecksWritten checks others (span_task_of asked h.headline.decks.first h.headline.decks.second h.headline.zones) bytes → Defines (case_of (wanted_of checks) others) status.Ok (certified_line ∷ [])
+      ChecksWritten checks others (span_task_of asked h.headline.decks.first h.headline.decks.second h.headline.zones) bytes → Defines (case_of (order_of_words checks) others) status.Ok (certified_line ∷ [])
   one_span_is_certified to h =
       let x = h.headline in
       let both = x.decks in

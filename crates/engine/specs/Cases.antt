@@ -5,7 +5,7 @@ use Rattle.record_lines.specs.{◌>>=◌}
 use Rattle.model_types.specs.{most_bytes}
 use Rattle.outside.specs.declared.codes.Code.TheVariants.{BadName}
 use Rattle.outside.specs.declared.inputs.Refusal.{Refusal}
-use Rattle.command_line.specs.{Asked, AskedBatch, AskedCheck, Batch, Check, Make, Run, Wanted, Write, wanted}
+use Rattle.command_line.specs.{ListingOrder, AskedBatch, AskedCheck, Batch, Check, Make, Run, Wanted, Write, wanted_by}
 use Rattle.command_line.specs.declared.order.Order.{Order}
 use Rattle.command_line.specs.declared.order.WordsFault.{WordsFault}
 use Rattle.command_line.specs.declared.order.WordsFault.TheVariants as fault
@@ -37,7 +37,7 @@ but_batch order = order
 
 -- the order for one model, by what was read of the words; it isn't known if memory ran out
 abbrev pub IsOrder : Result Order WordsFault → Option Wanted → Type 0
-IsOrder read one = IfOk read (λ order. one ≡ but_batch (Some (wanted order))) × (read ≡ Err fault.Usage → one ≡ None)
+IsOrder read one = IfOk read (λ order. one ≡ but_batch (Some (wanted_by order))) × (read ≡ Err fault.Usage → one ≡ None)
 
 -- no file of the folder is read: without a command, and to make a model
 abbrev pub ReadsNothing : Option Wanted → Type 0
@@ -46,14 +46,14 @@ ReadsNothing (Some (Make seed size)) = Unit {0}
 ReadsNothing asked = ⊥
 
 -- what is listed of a model, with the zones of its cells if there is a zone file
-abbrev pub task_of : Asked → FlowModel → Option (List ℕ) → Task
+abbrev pub task_of : ListingOrder → FlowModel → Option (List ℕ) → Task
 task_of asked m zones = one_task asked.limits m asked.digits zones asked.rounds asked.quick
 
 -- what is listed of decks, and of all models between two
-abbrev pub decks_task : Asked → Decks → Option (List ℕ) → Task
+abbrev pub decks_task : ListingOrder → Decks → Option (List ℕ) → Task
 decks_task asked d zones = deck_task asked.limits d asked.digits zones asked.rounds asked.quick
 
-abbrev pub span_task_of : Asked → (first second : FlowModel) → Option (List ℕ) → Task
+abbrev pub span_task_of : ListingOrder → (first second : FlowModel) → Option (List ℕ) → Task
 span_task_of asked first second zones = decks_task asked (two first second) zones
 
 -- The case of a run: the words aren't accepted; this is the first refusal; this is listed; a model is made from this
@@ -77,12 +77,12 @@ IsListingOf task (Comparing a b case) = AreAlike a b.model × IsListingOf task c
 IsListingOf task other = ⊥
 
 -- what a name means, by this reading of the files under it; a bad name is refused before any file
-abbrev pub named : {T : Type 0} → Text → (Text → Result T Refusal) → Result T Refusal
-named name read = if is_good_name name then read name else Err (file_refusal BadName (codes "-"))
+abbrev pub read_by_name : {T : Type 0} → Text → (Text → Result T Refusal) → Result T Refusal
+read_by_name name read = if is_good_name name then read name else Err (file_refusal BadName (codes "-"))
 
 -- the model of the files of a made model
 abbrev pub made_model : ℕ → ℕ → Result FlowModel Refusal
-made_model seed size = named made_name (reads Plain (with_limit (most_bytes Plain) (made_files seed size)))
+made_model seed size = read_by_name made_name (reads Plain (with_limit (most_bytes Plain) (made_files seed size)))
 
 -- the zones of the named zone file, if there is one, as unsigned numbers
 abbrev pub zones_read : FileSet → Option Text → FlowModel → Result (Option (List ℕ)) Refusal
@@ -93,7 +93,7 @@ zones_read files (Some name) m = zones_of files m.grid name >>= λ zones. Ok (So
 -- tested once the model and the zone file are read
 abbrev pub steps_read : Bool → FileSet → AskedCheck → FlowModel → Option (List ℕ) → Result (List ListedStep) Refusal
 steps_read between files asked m zones =
-    named asked.listing (file_at files) >>= listing_in between m asked.digits (pairs_in m zones) asked.listing
+    read_by_name asked.listing (file_at files) >>= listing_in between m asked.digits (pairs_in m zones) asked.listing
 
 -- the listing that a check names, with the zones of its zone file, if there is one, which is read first
 abbrev pub listing_read : Bool → FileSet → AskedCheck → FlowModel → Result ZonedListing Refusal
@@ -104,7 +104,7 @@ listing_read between files asked m = do
 
 -- the names of a batch's list; the list's own name is tested before its file
 abbrev pub names_read : FileSet → AskedBatch → Result (List Text) Refusal
-names_read files b = named b.list (file_at files) >>= names_in b.list
+names_read files b = read_by_name b.list (file_at files) >>= names_in b.list
 
 -- what is listed of a model of the batch
 abbrev pub job_task : AskedBatch → FlowModel → Task
@@ -132,7 +132,7 @@ case_decks (Err refusal) second come = Refuses refusal
 
 -- the decks that a name means, and a second one if there is one
 abbrev pub case_named : FileSet → Limits → Text → Option Text → (Decks → Case) → Case
-case_named files limits name to come = case_decks (named name (reads limits files)) (option_map (λ last. named last (second_in limits files)) to) come
+case_named files limits name to come = case_decks (read_by_name name (reads limits files)) (option_map (λ last. read_by_name last (second_in limits files)) to) come
 
 -- The case of this order and these files. It does not depend on the number of workers, nor on views.
 abbrev pub case_of : Option Wanted → FileSet → Case
@@ -147,7 +147,7 @@ case_of (Some (Write limits name)) files = case_named files limits name None (λ
 
 -- The case of a run is the same by any number of workers, watched or not, and so is that of a batch.
 pub record WorkersChangeNoCase : Type 0 where
-  pub runs : (asked : Asked) (to : Option Text) (files : FileSet) (workers : ℕ) (watch : Option ℕ) →
+  pub runs : (asked : ListingOrder) (to : Option Text) (files : FileSet) (workers : ℕ) (watch : Option ℕ) →
       case_of (Some (Run (record asked { workers = workers; watch = watch }) to)) files ≡ case_of (Some (Run asked to)) files
   pub batches : (asked : AskedBatch) (files : FileSet) (workers : ℕ) →
       case_of (Some (Batch (record asked { workers = workers }))) files ≡ case_of (Some (Batch asked)) files

@@ -2,7 +2,7 @@
 use Rattle.std.specs.Prelude.{◌≡◌, ℕ, ℤ, List, Ok, Option}
 use Rattle.std.specs.List.{concat}
 use Rattle.std.specs.Io.KnownBytes.{Appends}
-use Rattle.command_line.specs.{Asked}
+use Rattle.command_line.specs.{ListingOrder}
 use Rattle.outside.specs.{FileSet}
 use Rattle.model_types.specs.declared.model.FlowModel.{FlowModel}
 use Rattle.model_types.specs.{start_head, IsModel}
@@ -19,7 +19,7 @@ use Rattle.engine.specs.Cases.{task_of, zones_read}
 -- equations of these files lies, step by step and cell by cell, between its heads, with each of its budget flows
 -- between its terms, and each of its flows between two zones of a zone file between its two numbers. That it is the one
 -- listing which the files define stands in `OneListing`.
-pub record Headline (asked : Asked) (files : FileSet) (old new : Option (List ℕ)) : Type 0 where
+pub record Headline (asked : ListingOrder) (files : FileSet) (old new : Option (List ℕ)) : Type 0 where
   -- The files read as a model, which is valid, and as zones of its cells where a zone file is named.
   pub model : FlowModel
   pub read : reads asked.limits files asked.name ≡ Ok model

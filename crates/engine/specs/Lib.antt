@@ -21,7 +21,7 @@ pub use Rattle.engine.specs.BatchReads.{AreTasks, HasNames, IsBatchRead, NeverRe
 pub use Rattle.engine.specs.Batched.{HasEnded, HasNoList, IsJobListing}
 pub use Rattle.engine.specs.Cases.{Case, Checking, Comparing, IsListingOf, IsOrder, Jobs, Listing, Making, NoWords, ReadsNothing, Refuses, WorkersChangeNoCase}
 pub use Rattle.engine.specs.Cases.{Writing, but_batch, case_decks, case_named, case_of, case_read, decks_task, job_of, job_task, jobs_read, listing_read}
-pub use Rattle.engine.specs.Cases.{made_model, named, names_read, span_task_of, steps_read, task_of, zones_read}
+pub use Rattle.engine.specs.Cases.{made_model, names_read, read_by_name, span_task_of, steps_read, task_of, zones_read}
 pub use Rattle.engine.specs.Checked.{IsCheck, certified_line, verdict_line, verdict_status}
 pub use Rattle.engine.specs.Commands.{MayRead}
 pub use Rattle.engine.specs.Decks.{IsDeck, OneDeck}
@@ -30,7 +30,7 @@ pub use Rattle.engine.specs.Made.{IsMade, made_task, summed_text}
 pub use Rattle.engine.specs.OneListing.{AreItsSteps, OneSummary, OneVerdict}
 pub use Rattle.engine.specs.Parts.{Answers, AnswersBeside, AreDecksAs, AreDecksOf, IsListed, IsNamedFault, IsNoSecond, IsReadingEnd, IsStopped, IsUnlikeFault}
 pub use Rattle.engine.specs.Parts.{IsValid, IsValidJob, made_fault, second_by}
-pub use Rattle.engine.specs.Runs.{Comes, Decided, GoesThrough, GoesWell, IsPlain, IsPlainJob, IsRunOf}
+pub use Rattle.engine.specs.Runs.{EndIsDefined, EndsOk, GoesThrough, GoesWell, IsPlain, IsPlainJob, IsRunOf}
 pub use Rattle.engine.specs.Serving.{HeadlineOf, IsProgramEnd, IsRunResult, IsStopNumber, OneOf, bytes_asked, files_if, files_named, files_of, limits_asked}
 pub use Rattle.engine.specs.SpanHeadline.{ArePairOf, OneSpan, SpanVerdict}
 pub use Rattle.engine.specs.Storage.{StorageHolds}

@@ -1,7 +1,7 @@
 -- What is promised beside the enclosure: that a run writes the one listing which the files define, and how a check judges.
 use Rattle.std.specs.Prelude.{◌≡◌, ℕ, false, List, Option}
 use Rattle.outside.specs.{FileSet}
-use Rattle.command_line.specs.{Asked, AskedCheck}
+use Rattle.command_line.specs.{ListingOrder, AskedCheck}
 use Rattle.listing_run.specs.declared.solving.Step.{Step}
 use Rattle.listing_run.specs.declared.text.ListingEnd.TheVariants.{Whole}
 use Rattle.listing_run.specs.declared.steps.Task.{Task}
@@ -23,7 +23,7 @@ pub record AreItsSteps (task : Task) (values : List Step) : Type 0 where
 
 -- A run that was asked for so, over these files, that ended Ok, where a sink had the bytes `old` before it and `new` after it, has
 -- written a listing each step of which has a pair that is a certificate; without --quick the one that the files define.
-pub record OneListing (asked : Asked) (files : FileSet) (old new : Option (List ℕ)) : Type 0 where
+pub record OneListing (asked : ListingOrder) (files : FileSet) (old new : Option (List ℕ)) : Type 0 where
   pub headline : Headline asked files old new
   pub values : AreItsSteps (task_of asked headline.model headline.zones) headline.values
 

@@ -18,10 +18,10 @@ use Rattle.engine.specs.declared.two_decks.Second.{Second as SecondBy}
 use Rattle.engine.specs.TwoDecks.{AreDecksRead, Second, not_alike, second_in}
 use Rattle.deck_span.specs.declared.difference.Difference.{Difference}
 use Rattle.step_chain.specs.{two}
-use Rattle.run_puts.specs.{IsEnd, IsLast, IsWanting, Text, read_fault_line}
+use Rattle.run_puts.specs.{IsEnd, IsLast, EndsOutOfMemory, Text, read_fault_line}
 use Rattle.run_puts.specs.declared.puts.Status.{Status}
 use Rattle.run_puts.specs.declared.puts.Status.TheVariants as status
-use Rattle.engine.specs.Cases.{Case, Listing, Making, Checking, Jobs, Writing, Comparing, named}
+use Rattle.engine.specs.Cases.{Case, Listing, Making, Checking, Jobs, Writing, Comparing, read_by_name}
 use Rattle.engine.specs.declared.job.Job.{Job}
 use Rattle.engine.specs.Runs.{IsRunOf}
 use Rattle.engine.specs.Watched.{SidePuts, Watched}
@@ -30,7 +30,7 @@ use Rattle.engine.specs.Watched.{SidePuts, Watched}
 abbrev pub IsReadingEnd : InputFault → Status → List Put → Type 0
 IsReadingEnd (input.Refused refusal) end puts = IsEnd (refused_line refusal) (status.Refused refusal) end puts
 IsReadingEnd input.ReadFault end puts = IsLast read_fault_line status.ReadFault end puts
-IsReadingEnd input.Memory end puts = IsWanting end puts
+IsReadingEnd input.Memory end puts = EndsOutOfMemory end puts
 
 -- the refusal of a bad name, or lack of memory for it
 abbrev pub IsNamedFault : InputFault → Type 0
@@ -40,7 +40,7 @@ IsNamedFault input.Memory = Unit {0}
 
 -- A reading gave the deck that a name means, or the two that two names mean.
 abbrev pub AreDecksAs : Limits → Text → Option Text → FileSet → Result Decks InputFault → Type 0
-AreDecksAs limits name to files answer = AreDecksRead (named name (reads limits files)) (option_map (λ last. named last (second_in limits files)) to) answer
+AreDecksAs limits name to files answer = AreDecksRead (read_by_name name (reads limits files)) (option_map (λ last. read_by_name last (second_in limits files)) to) answer
 
 -- the refusal of a second deck at this difference, or lack of memory for it
 abbrev pub IsUnlikeFault : Second → Difference → InputFault → Type 0

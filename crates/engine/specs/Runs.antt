@@ -43,8 +43,8 @@ IsPlain (Jobs jobs) = All IsPlainJob jobs
 IsPlain other = Unit {0}
 
 -- The run has the end that the words and files define, unless a read or a write fails, memory runs out, or a step doesn't settle within the rounds.
-abbrev pub Decided : Type 0 → Option Wanted → FileSet → Status → Type 0
-Decided fault order files end =
+abbrev pub EndIsDefined : Type 0 → Option Wanted → FileSet → Status → Type 0
+EndIsDefined fault order files end =
     IsPlain (case_of order files) → (meant : Status) (pieces : List Text) → Defines (case_of order files) meant pieces → (fault ⊎ IsUnfinished meant)
     ⊎ ((end ≡ meant) ⊎ ((end ≡ status.Memory) ⊎ IsUnfinished end))
 
@@ -65,5 +65,5 @@ GoesWell (Comparing a b case) = AreAlike a b.model × GoesWell case
 GoesWell other = ⊥
 
 -- Then the run ends Ok, unless a read or a write fails or memory runs out.
-abbrev pub Comes : Type 0 → Option Wanted → FileSet → Status → Type 0
-Comes fault order files end = GoesWell (case_of order files) → fault ⊎ ((end ≡ status.Ok) ⊎ (end ≡ status.Memory))
+abbrev pub EndsOk : Type 0 → Option Wanted → FileSet → Status → Type 0
+EndsOk fault order files end = GoesWell (case_of order files) → fault ⊎ ((end ≡ status.Ok) ⊎ (end ≡ status.Memory))

@@ -11,10 +11,10 @@ use Rattle.engine.specs.Made.{Made}
 use Rattle.engine.specs.OneListing.{OneListing, OneSummary, OneVerdict}
 use Rattle.engine.specs.SpanHeadline.{OneSpan, SpanCertified, SpanHeadline, SpanVerdict}
 use Rattle.engine.specs.Parts.{IsStopped}
-use Rattle.engine.specs.Runs.{Comes, Decided, Puts}
+use Rattle.engine.specs.Runs.{EndsOk, EndIsDefined, Puts}
 use Rattle.engine.specs.Watched.{SidePuts, Watched, views_in}
 use Rattle.engine.specs.Batched.{Batched, HasNoList}
-use Rattle.command_line.specs.{AskedBatch, Batch, Check, Make, Run, Wanted, Write, wanted_of}
+use Rattle.command_line.specs.{AskedBatch, Batch, Check, Make, Run, Wanted, Write, order_of_words}
 use Rattle.engine.specs.Cases.{case_of}
 use Rattle.model_types.specs.{most_bytes}
 use Rattle.model_types.specs.declared.limits.Limits.{Limits}
@@ -36,7 +36,7 @@ files_if (Some wanted) = files_of wanted
 
 -- what the words name, if they are accepted
 abbrev pub files_named : List Text → List Text
-files_named words = files_if (wanted_of words)
+files_named words = files_if (order_of_words words)
 
 -- the limits that are asked for
 abbrev pub limits_asked : Option Wanted → Limits
@@ -48,7 +48,7 @@ limits_asked other = Plain
 
 -- how many bytes of a file are read
 abbrev pub bytes_asked : List Text → ℕ
-bytes_asked words = most_bytes (limits_asked (wanted_of words))
+bytes_asked words = most_bytes (limits_asked (order_of_words words))
 
 -- The headline of an order: of a listing, or of one of two decks; of a check, or of one of two decks; of a made model, whose listing is
 -- summed up; of each listing of a batch; or of a deck.
@@ -97,8 +97,8 @@ pub record IsRunResult (order : Option Wanted) (agrees : FileSet → Type 0) (be
   pub read_fault : end ≡ status.ReadFault → Rose before after
   pub write_fault : end ≡ status.WriteFault → Rose old.faults new.faults ⊎ failed_beside
   -- The end that the words and files define is the end of the run, if nothing outside failed.
-  pub decided : (files : FileSet) → agrees files → Decided (Rose before after ⊎ (Rose old.faults new.faults ⊎ failed_beside)) order files end
-  pub complete : (files : FileSet) → agrees files → Comes (Rose before after ⊎ (Rose old.faults new.faults ⊎ failed_beside)) order files end
+  pub decided : (files : FileSet) → agrees files → EndIsDefined (Rose before after ⊎ (Rose old.faults new.faults ⊎ failed_beside)) order files end
+  pub complete : (files : FileSet) → agrees files → EndsOk (Rose before after ⊎ (Rose old.faults new.faults ⊎ failed_beside)) order files end
 
 -- the numbers of a run that stopped: since a read failed, a write failed, or memory ran out
 abbrev pub IsStopNumber : ℕ → Type 0
@@ -111,9 +111,9 @@ pub record IsProgramEnd (agrees : FileSet → Type 0) (words : List Text) (befor
     (failed_beside : Type 0) (leads_beside leads : List Put → Type 0) (old new : Seen) (number : ℕ) : Type 0 where
   pub end : Status
   pub number_is : number ≡ code_of end
-  pub run : IsRunResult (wanted_of words) agrees before after failed_beside leads_beside leads end old new
+  pub run : IsRunResult (order_of_words words) agrees before after failed_beside leads_beside leads end old new
   pub limit : (files : FileSet) → agrees files → files.limit ≡ bytes_asked words
-  pub headline : number ≡ 0 → (files : FileSet) → agrees files → HeadlineOf (wanted_of words) files end old new
-  pub one : number ≡ 0 → (files : FileSet) → agrees files → OneOf (wanted_of words) files end old new
-  pub batch : (IsStopNumber number → ⊥) → (asked : AskedBatch) → wanted_of words ≡ Some (Batch asked) → (files : FileSet) → agrees files →
+  pub headline : number ≡ 0 → (files : FileSet) → agrees files → HeadlineOf (order_of_words words) files end old new
+  pub one : number ≡ 0 → (files : FileSet) → agrees files → OneOf (order_of_words words) files end old new
+  pub batch : (IsStopNumber number → ⊥) → (asked : AskedBatch) → order_of_words words ≡ Some (Batch asked) → (files : FileSet) → agrees files →
       HasNoList asked files end ⊎ Batched asked files end old.written new.written

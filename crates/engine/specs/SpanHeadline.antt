@@ -2,7 +2,7 @@
 use Rattle.std.specs.Prelude.{◌≡◌, ℕ, ℤ, true, List, Ok, Option}
 use Rattle.std.specs.List.{concat}
 use Rattle.std.specs.Io.KnownBytes.{Appends}
-use Rattle.command_line.specs.{Asked, AskedCheck}
+use Rattle.command_line.specs.{ListingOrder, AskedCheck}
 use Rattle.outside.specs.{FileSet}
 use Rattle.model_types.specs.declared.limits.Limits.{Limits}
 use Rattle.model_types.specs.declared.model.FlowModel.{FlowModel}
@@ -36,7 +36,7 @@ pub record ArePairOf (limits : Limits) (files : FileSet) (name to : Text) : Type
 -- some model between the two decks, chosen anew at each step, lies, step by step and cell by cell, between its heads, with
 -- each of its budget flows between its terms, and each of its flows between two zones of a zone file between its two numbers.
 -- That it is the one listing which the files define stands in `OneSpan`.
-pub record SpanHeadline (asked : Asked) (to : Text) (files : FileSet) (old new : Option (List ℕ)) : Type 0 where
+pub record SpanHeadline (asked : ListingOrder) (to : Text) (files : FileSet) (old new : Option (List ℕ)) : Type 0 where
   -- The files read as two valid models that are alike, and as zones of their cells where a zone file is named.
   pub decks : ArePairOf asked.limits files asked.name to
   pub zones : Option (List ℕ)
@@ -52,7 +52,7 @@ pub record SpanHeadline (asked : Asked) (to : Text) (files : FileSet) (old new :
   pub choices : ChoicesHaveOne decks.first decks.second
 
 -- Such a run has written a listing each step of which has a pair that is a certificate; without --quick the one that the files define.
-pub record OneSpan (asked : Asked) (to : Text) (files : FileSet) (old new : Option (List ℕ)) : Type 0 where
+pub record OneSpan (asked : ListingOrder) (to : Text) (files : FileSet) (old new : Option (List ℕ)) : Type 0 where
   pub headline : SpanHeadline asked to files old new
   pub values : AreItsSteps (span_task_of asked headline.decks.first headline.decks.second headline.zones) headline.values
 

@@ -1,6 +1,6 @@
 -- What a watched run puts to its side sink.
 use Rattle.std.specs.Prelude.{◌≡◌, ◌⊎◌, ℕ, ◌*◌, ◌<◌, List, [], ◌∷◌, ◌++◌, length, map, All, Bool, true, false, Option, Some, None, option_and_then}
-use Rattle.outside.specs.{Put, taken, refused}
+use Rattle.outside.specs.{Put, whole_put, failed_put}
 use Rattle.outside.specs.declared.traits.SinkError.{SinkError}
 use Rattle.step_problem.specs.declared.heads.Bound.{Bound}
 use Rattle.step_problem.specs.Entries.{Entries}
@@ -59,8 +59,8 @@ AreWatched whole k n old (at ∷ times) texts = ((whole ≡ false) × ((texts �
 
 -- These texts were put in turn, each taken whole; where they aren't whole the last one may have been refused.
 abbrev pub ArePutInTurn : Bool → List Text → List Put → Type 0
-ArePutInTurn whole texts puts = (puts ≡ map taken texts) ⊎ ((whole ≡ false) × (before : List Text) × (last : Text) × (error : SinkError)
-    × (texts ≡ before ++ last ∷ []) × (puts ≡ map taken before ++ refused last error ∷ []))
+ArePutInTurn whole texts puts = (puts ≡ map whole_put texts) ⊎ ((whole ≡ false) × (before : List Text) × (last : Text) × (error : SinkError)
+    × (texts ≡ before ++ last ∷ []) × (puts ≡ map whole_put before ++ failed_put last error ∷ []))
 
 -- The side sink got the texts of the views of all steps, from STRT on, in turn, and nothing else; where they aren't whole those of the
 -- first steps, up to the first put that failed. `leads` says which puts lead from that sink before to that sink after.

@@ -1,7 +1,7 @@
 -- The check of what a run wrote.
 use Rattle.std.specs.Prelude.{◌≡◌, ℕ, List, [], ◌∷◌, Ok, Option, Some, option_map}
 use Rattle.std.specs.List.{concat}
-use Rattle.command_line.specs.{Asked, AskedCheck, Check, wanted_of}
+use Rattle.command_line.specs.{ListingOrder, AskedCheck, Check, order_of_words}
 use Rattle.outside.specs.{FileSet, file_at}
 use Rattle.model_reader.specs.{reads}
 use Rattle.zone_pairs.specs.{AreNumbers}
@@ -9,7 +9,7 @@ use Rattle.deck_problems.specs.{AreDecks}
 use Rattle.run_puts.specs.{Text}
 use Rattle.run_puts.specs.declared.puts.Status.TheVariants as status
 use Rattle.listing_run.specs.declared.steps.Task.{Task}
-use Rattle.engine.specs.Cases.{Listing, case_of, named, span_task_of, task_of, zones_read}
+use Rattle.engine.specs.Cases.{Listing, case_of, read_by_name, span_task_of, task_of, zones_read}
 use Rattle.engine.specs.Checked.{certified_line}
 use Rattle.engine.specs.Defined.{Defines}
 use Rattle.engine.specs.OneListing.{OneListing}
@@ -21,33 +21,33 @@ use Rattle.engine.specs.SpanHeadline.{OneSpan}
 pub record ChecksWritten (words : List Text) (files : FileSet) (k : Task) (bytes : List ℕ) : Type 0 where
   pub asked : AskedCheck
   pub to : Option Text
-  pub wanted : wanted_of words ≡ Some (Check asked to)
+  pub wanted : order_of_words words ≡ Some (Check asked to)
   pub limits : asked.limits ≡ k.limits
   pub digits : asked.digits ≡ k.digits
-  pub read : named asked.name (reads asked.limits files) ≡ Ok k.decks.first
-  pub read_to : option_map (λ last. named last (reads asked.limits files)) to ≡ option_map (λ m. Ok m) k.decks.second
+  pub read : read_by_name asked.name (reads asked.limits files) ≡ Ok k.decks.first
+  pub read_to : option_map (λ last. read_by_name last (reads asked.limits files)) to ≡ option_map (λ m. Ok m) k.decks.second
   pub zoned : zones_read files asked.zones k.decks.first ≡ Ok k.zones
-  pub listing : named asked.listing (file_at files) ≡ Ok bytes
+  pub listing : read_by_name asked.listing (file_at files) ≡ Ok bytes
 
 -- What a run that ends Ok writes is certified, if its decks are valid, two of them alike, and its zones at most 999: a check of it
 -- against the same decks ends Ok, with the line CERTIFIED.
 abbrev pub WrittenIsCertified : Type 0
 WrittenIsCertified =
     (k : Task) (pieces words : List Text) (files : FileSet) → AreDecks k.decks → AreNumbers k.zones → Defines (Listing k) status.Ok pieces →
-    ChecksWritten words files k (concat pieces) → Defines (case_of (wanted_of words) files) status.Ok (certified_line ∷ [])
+    ChecksWritten words files k (concat pieces) → Defines (case_of (order_of_words words) files) status.Ok (certified_line ∷ [])
 
 -- The bytes that a run, with or without --quick, appended to nothing are certified by any check of them, by the same limits, at the
 -- same digits, of the same model, with the same zones.
 abbrev pub OneListingIsCertified : Type 0
 OneListingIsCertified =
-    (asked : Asked) (files : FileSet) (bytes : List ℕ) (h : OneListing asked files (Some []) (Some bytes)) →
+    (asked : ListingOrder) (files : FileSet) (bytes : List ℕ) (h : OneListing asked files (Some []) (Some bytes)) →
     (checks : List Text) (others : FileSet) →
-    ChecksWritten checks others (task_of asked h.headline.model h.headline.zones) bytes → Defines (case_of (wanted_of checks) others) status.Ok (certified_line ∷ [])
+    ChecksWritten checks others (task_of asked h.headline.model h.headline.zones) bytes → Defines (case_of (order_of_words checks) others) status.Ok (certified_line ∷ [])
 
 -- And so are those of a run of two decks, by any check against the same two.
 abbrev pub OneSpanIsCertified : Type 0
 OneSpanIsCertified =
-    (asked : Asked) (to : Text) (files : FileSet) (bytes : List ℕ) (h : OneSpan asked to files (Some []) (Some bytes)) →
+    (asked : ListingOrder) (to : Text) (files : FileSet) (bytes : List ℕ) (h : OneSpan asked to files (Some []) (Some bytes)) →
     (checks : List Text) (others : FileSet) →
     ChecksWritten checks others (span_task_of asked h.headline.decks.first h.headline.decks.second h.headline.zones) bytes →
-    Defines (case_of (wanted_of checks) others) status.Ok (certified_line ∷ [])
+    Defines (case_of (order_of_words checks) others) status.Ok (certified_line ∷ [])

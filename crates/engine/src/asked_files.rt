@@ -1,6 +1,6 @@
 // The files that the words ask for.
 ghost use Rattle.std.specs.Prelude.{◌≡◌, map, IfOk, Some};
-ghost use Rattle.command_line.specs.{wanted};
+ghost use Rattle.command_line.specs.{wanted_by};
 ghost use Rattle.engine.specs.{bytes_asked, files_named, files_of, limits_asked};
 ghost use Rattle.model_types.specs.{most_bytes};
 
@@ -20,8 +20,8 @@ pub struct AskedFiles<'a> {
 
 // The files that an order asks for.
 fn files_of<'a>(alloc: Global, order: Order<'a>) -> Result<AskedFiles<'a>, AllocError>
-    ensures names { IfOk result (λ files. map (λ n. n.now) files.names.items ≡ files_of (wanted order.entry)) }
-    ensures limit { IfOk result (λ files. files.limit ≡ most_bytes (limits_asked (Some (wanted order.entry)))) }
+    ensures names { IfOk result (λ files. map (λ n. n.now) files.names.items ≡ files_of (wanted_by order.entry)) }
+    ensures limit { IfOk result (λ files. files.limit ≡ most_bytes (limits_asked (Some (wanted_by order.entry)))) }
 {
     let mut names = Vec::new(alloc);
     let limits = match order {

@@ -4,7 +4,7 @@ ghost use Rattle.outside.specs.{WordsMay, folder_name, FileSet, Rose};
 ghost use Rattle.engine.specs.Serving.{files_named};
 ghost use Rattle.run_puts.specs.{IsRun, NeverCut, PutsMore, IsBatch};
 ghost use Rattle.engine.specs.BatchReads.{AreTasks};
-ghost use Rattle.command_line.specs.{batch_of, wanted_of, Batch};
+ghost use Rattle.command_line.specs.{batch_of, order_of_words, Batch};
 ghost use Rattle.engine.specs.Cases.{case_of, ReadsNothing};
 ghost use Rattle.engine.specs.Defined.{IsJobEnd};
 ghost use Rattle.engine.specs.Parts.{Answers, AnswersBeside};
@@ -14,12 +14,11 @@ ghost use Rattle.engine.specs.declared.job.Job.{Job as JobRead};
 use crate::batch_reading::read_batch;
 use crate::ending::end_reading;
 use crate::job::{Job, end_of_job};
-use crate::running::answer;
+use crate::running::run_order;
 use batch_book::{Jobs, run_batch};
-use run_puts::{JobEnd, put_ends};
 use command_line::{BatchOrder, Order, read_order};
 use outside::{Folder, Gate, Sink};
-use run_puts::{Status, put_memory};
+use run_puts::{JobEnd, Status, put_ends, put_memory};
 use std::alloc::{AllocError, Global};
 use std::marker::Model;
 use std::sync::Wait;
@@ -66,7 +65,7 @@ fn put_batch<'a, R: Threads + Wait + Sync, F: Folder, K: Sink, G: Gate + Sync>(
 }
 
 /// Does what the words ask for: a batch, or another command.
-pub(crate) fn answer_any<
+pub(crate) fn run_any_order<
     R: Threads + Wait + Sync,
     F: Folder,
     K: Sink + Send,
@@ -83,18 +82,18 @@ pub(crate) fn answer_any<
 ) -> Status
     requires may { WordsMay (F.may folder.old) (files_named (map (λ w. w.now) words.now)) }
     ensures since { (files : FileSet) → F.agrees folder.new files → F.agrees folder.old files }
-    ensures unasked { ReadsNothing (wanted_of (map (λ w. w.now) words.now)) → folder.new ≡ folder.old }
+    ensures unasked { ReadsNothing (order_of_words (map (λ w. w.now) words.now)) → folder.new ≡ folder.old }
     ensures answers { PutsMore K.leads out.old out.new (λ more. (files : FileSet) → F.agrees folder.new files →
-        AnswersBeside (case_of (wanted_of (map (λ w. w.now) words.now)) files) (views_in (wanted_of (map (λ w. w.now) words.now)))
+        AnswersBeside (case_of (order_of_words (map (λ w. w.now) words.now)) files) (views_in (order_of_words (map (λ w. w.now) words.now)))
         (F.faults folder.old) (F.faults folder.new)
         (Rose (W.seen side.old).faults (W.seen side.new).faults) (λ puts. W.leads side.old puts side.new) result more) }
 {
     match read_order(alloc, words) {
         Ok(order) => match order {
             Order::Batch(asked) => put_batch(rt, alloc, asked, folder, out, gate),
-            _ => answer(rt, alloc, Ok(order), folder, out, side, gate),
+            _ => run_order(rt, alloc, Ok(order), folder, out, side, gate),
         },
-        Err(fault) => answer(rt, alloc, Err(fault), folder, out, side, gate),
+        Err(fault) => run_order(rt, alloc, Err(fault), folder, out, side, gate),
     }
 }
 

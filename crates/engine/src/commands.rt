@@ -1,11 +1,11 @@
 ghost use Rattle.std.specs.Prelude.{◌≡◌, ℕ, map, Some, true};
 ghost use Rattle.outside.specs.{WordsMay, FileSet, Rose};
 ghost use Rattle.engine.specs.{bytes_asked, case_of, files_named, IsProgramEnd, IsRunResult, ReadsNothing, views_in};
-ghost use Rattle.command_line.specs.{wanted_of};
+ghost use Rattle.command_line.specs.{order_of_words};
 ghost use Rattle.engine.specs.Watched.{Watched};
 ghost use Rattle.std.specs.Process.{exit_status};
 
-use crate::batching::answer_any;
+use crate::batching::run_any_order;
 use check_run::laws::one_verdict;
 use deck_span::laws::one_difference;
 use listing_run::laws::one_listing;
@@ -36,17 +36,17 @@ pub fn run<R: Threads + Wait + Sync, F: Folder, K: Sink + Send, W: Sink + Send, 
     ensures since { (files : FileSet) → F.agrees folder.new files → F.agrees folder.old files }
 
     // A folder of which no file is read isn't asked.
-    ensures unasked { ReadsNothing (wanted_of (map (λ w. w.now) words.now)) → folder.new ≡ folder.old }
+    ensures unasked { ReadsNothing (order_of_words (map (λ w. w.now) words.now)) → folder.new ≡ folder.old }
 
     // The headline and all else that a run has come to.
-    ensures runs { IsRunResult (wanted_of (map (λ w. w.now) words.now)) (F.agrees folder.new) (F.faults folder.old) (F.faults folder.new)
+    ensures runs { IsRunResult (order_of_words (map (λ w. w.now) words.now)) (F.agrees folder.new) (F.faults folder.old) (F.faults folder.new)
         (Rose (W.seen side.old).faults (W.seen side.new).faults) (λ puts. W.leads side.old puts side.new) (λ puts. K.leads out.old puts out.new)
         result (K.seen out.old) (K.seen out.new) }
 {
     one_listing();
     one_verdict();
     one_difference();
-    let status = answer_any(rt, alloc, words, folder, out, side, gate);
+    let status = run_any_order(rt, alloc, words, folder, out, side, gate);
     folder.some_agree();
     status
 }
@@ -72,8 +72,8 @@ pub fn serve<R: Threads + Wait + Sync, F: Folder, K: Sink + Send, W: Sink + Send
         (F.faults folder.old) (F.faults folder.new) (Rose (W.seen side.old).faults (W.seen side.new).faults)
         (λ puts. W.leads side.old puts side.new) (λ puts. K.leads out.old puts out.new)
         (K.seen out.old) (K.seen out.new) (exit_status result) }
-    ensures watched { exit_status result ≡ 0 → (n : ℕ) → views_in (wanted_of (map (λ w. w.now) words.now)) ≡ Some n → (files : FileSet) →
-        F.agrees folder.new files → Watched true (case_of (wanted_of (map (λ w. w.now) words.now)) files) n (λ puts. W.leads side.old puts side.new) }
+    ensures watched { exit_status result ≡ 0 → (n : ℕ) → views_in (order_of_words (map (λ w. w.now) words.now)) ≡ Some n → (files : FileSet) →
+        F.agrees folder.new files → Watched true (case_of (order_of_words (map (λ w. w.now) words.now)) files) n (λ puts. W.leads side.old puts side.new) }
 {
     let status = run(rt, alloc, words, folder, out, side, gate);
     ExitCode::from(status.code())

@@ -3,13 +3,12 @@ ghost use Rattle.std.specs.Prelude.{◌≡◌, Err, IfOk, Ok};
 ghost use Rattle.listing_run.specs.{IsTask, pairs_of};
 ghost use Rattle.engine.specs.{IsJobEnd, IsRunText, model_line};
 
-use run_puts::JobEnd;
 use certified_pair::QuickPairs;
 use listing_io::write_refused;
 use listing_run::{Task, push_listing};
-use near_settler::AloneSettler;
+use near_settler::SerialSettler;
 use outside::{Name, Refusal};
-use run_puts::Status;
+use run_puts::{JobEnd, Status};
 use std::alloc::{AllocError, Global};
 use step_problem::Settler;
 
@@ -64,7 +63,7 @@ fn end_of_task(alloc: Global, text: Vec<u8>, task: &Task) -> Result<JobEnd, Allo
     requires { IsTask task.now }
     ensures { IfOk result (IsRunText (Ok task.now) text.items) }
 {
-    let mut settler = AloneSettler::new(task.rounds);
+    let mut settler = SerialSettler::new(task.rounds);
     if task.quick {
         let mut pairs = QuickPairs::new(settler);
         return end_by(alloc, text, task, &mut pairs);

@@ -13,7 +13,7 @@ use listing_run::{Task, put_steps};
 use near_settler::NearSettler;
 use outside::{Gate, Sink};
 use run_puts::Status;
-use settle_driver::{Plan, SettleBy, StepSettler};
+use settle_driver::{ClosureSettler, Plan, StepSettler};
 use std::alloc::Global;
 use std::thread::Threads;
 use step_problem::{Barrier, Bound, Problem, SettleFault};
@@ -61,7 +61,7 @@ fn put_unwatched<R: Threads + Sync, K: Sink + Send, G: Gate + Sync>(
 {
     let near = NearSettler::new(rt, plan, gate);
     let near = &near;
-    let settler = SettleBy::new(
+    let settler = ClosureSettler::new(
         plan.rounds,
         |alloc: Global, p: &Problem, b: &Barrier| -> Result<Vec<Bound>, SettleFault>
             requires { IsBarrier p.now b.now }

@@ -19,7 +19,7 @@ use model_types::{FlowModel, Limits};
 use near_settler::NearSettler;
 use outside::{Gate, InputFault, Sink};
 use run_puts::{Status, put_line, put_memory};
-use settle_driver::{Plan, SettleBy};
+use settle_driver::{ClosureSettler, Plan};
 use std::alloc::{AllocError, Global};
 use std::thread::Threads;
 use step_problem::{Barrier, Bound, Problem, SettleFault};
@@ -47,7 +47,7 @@ fn summarize_by_workers<R: Threads + Sync, G: Gate + Sync>(
 {
     let near = NearSettler::new(rt, MADE_PLAN, gate);
     let near = &near;
-    let mut settler = SettleBy::new(
+    let mut settler = ClosureSettler::new(
         MADE_PLAN.rounds,
         |alloc: Global, p: &Problem, b: &Barrier| -> Result<Vec<Bound>, SettleFault>
             requires { IsBarrier p.now b.now }

@@ -4,7 +4,7 @@ ghost use Rattle.outside.specs.{folder_name, file_at, FileSet, IsReading, ReadsO
 ghost use Rattle.model_types.specs.{IsModel};
 ghost use Rattle.zone_pairs.specs.{AreZones};
 ghost use Rattle.model_reader.specs.{reads};
-ghost use Rattle.engine.specs.{IsNamedFault, named, zones_read};
+ghost use Rattle.engine.specs.{IsNamedFault, read_by_name, zones_read};
 
 use model_reader::read_named_model;
 use model_types::{FlowModel, Limits, Listed};
@@ -31,7 +31,7 @@ pub(crate) fn read_file<F: Folder>(
     requires { F.may folder.old (folder_name name.now) }
     ensures folder { ReadsOn F.Folder folder.old folder.new result }
     ensures words { IfOk result (λ v. TextMay (F.may folder.new) v.items) }
-    ensures reads { (files : FileSet) → F.agrees folder.new files → IsReading (λ v. v.items) (named name.now (file_at files)) result }
+    ensures reads { (files : FileSet) → F.agrees folder.new files → IsReading (λ v. v.items) (read_by_name name.now (file_at files)) result }
 {
     if !is_good_name(name.as_bytes()) {
         return Err(bad_name(alloc));
@@ -48,7 +48,7 @@ pub(crate) fn read_named<F: Folder>(
 ) -> Result<FlowModel, InputFault>
     requires may { F.may folder.old (folder_name name.now) }
     ensures folder { ReadsOn F.Folder folder.old folder.new result }
-    ensures reads { (files : FileSet) → F.agrees folder.new files → IsReading (λ m. m) (named name.now (reads limits files)) result }
+    ensures reads { (files : FileSet) → F.agrees folder.new files → IsReading (λ m. m) (read_by_name name.now (reads limits files)) result }
     ensures model { IfOk result IsModel }
 {
     if !is_good_name(name.as_bytes()) {

@@ -2,7 +2,7 @@ ghost use Rattle.std.specs.Prelude.{◌≡◌, map, IfOk, IfSome, Ok, Option, So
 ghost use Rattle.outside.specs.{WordsMay, folder_name, FileSet, Rose};
 ghost use Rattle.engine.specs.{files_named, files_of, but_batch, case_of, decks_task, IsOrder, ReadsNothing, views_in, IsRunResult, MayRead, AnswersBeside};
 ghost use Rattle.engine.specs.{AreDecksAs, IsWatched, ViewPutsOf};
-ghost use Rattle.command_line.specs.{asked_of, text_if, wanted, wanted_of, Run, Wanted};
+ghost use Rattle.command_line.specs.{asked_of, text_if, wanted_by, order_of_words, Run, Wanted};
 ghost use Rattle.run_puts.specs.{IsRun, PutsMore};
 ghost use Rattle.listing_run.specs.{IsListingBeside, IsCutListing};
 ghost use Rattle.zone_pairs.specs.{AreZones};
@@ -17,8 +17,8 @@ use crate::two_decks::read_decks;
 use crate::writing::write;
 use check_run::laws::one_verdict;
 use command_line::{Order, RunOrder, WordsFault, read_order};
-use deck_span::laws::one_difference;
 use deck_problems::Decks;
+use deck_span::laws::one_difference;
 use listing_run::Task;
 use listing_run::laws::one_listing;
 use model_types::Listed;
@@ -57,23 +57,29 @@ pub fn run_one<R: Threads + Sync, F: Folder, K: Sink + Send, W: Sink + Send, G: 
     ensures since { (files : FileSet) → F.agrees folder.new files → F.agrees folder.old files }
 
     // A folder of which no file is read isn't asked.
-    ensures unasked { ReadsNothing (but_batch (wanted_of (map (λ w. w.now) words.now))) → folder.new ≡ folder.old }
+    ensures unasked { ReadsNothing (but_batch (order_of_words (map (λ w. w.now) words.now))) → folder.new ≡ folder.old }
 
     // The headline and all else that a run has come to.
-    ensures runs { IsRunResult (but_batch (wanted_of (map (λ w. w.now) words.now))) (F.agrees folder.new) (F.faults folder.old) (F.faults folder.new)
+    ensures runs { IsRunResult (but_batch (order_of_words (map (λ w. w.now) words.now))) (F.agrees folder.new) (F.faults folder.old) (F.faults folder.new)
         (Rose (W.seen side.old).faults (W.seen side.new).faults) (λ puts. W.leads side.old puts side.new) (λ puts. K.leads out.old puts out.new)
         result (K.seen out.old) (K.seen out.new) }
 {
     one_listing();
     one_verdict();
     one_difference();
-    let status = answer(rt, alloc, read_order(alloc, words), folder, out, side, gate);
+    let status = run_order(rt, alloc, read_order(alloc, words), folder, out, side, gate);
     folder.some_agree();
     status
 }
 
 // Does what was read of the words, but a batch.
-pub(crate) fn answer<R: Threads + Sync, F: Folder, K: Sink + Send, W: Sink + Send, G: Gate + Sync>(
+pub(crate) fn run_order<
+    R: Threads + Sync,
+    F: Folder,
+    K: Sink + Send,
+    W: Sink + Send,
+    G: Gate + Sync,
+>(
     rt: &R,
     alloc: Global,
     read: Result<Order<'_>, WordsFault>,
@@ -82,7 +88,7 @@ pub(crate) fn answer<R: Threads + Sync, F: Folder, K: Sink + Send, W: Sink + Sen
     side: &mut W,
     gate: &G,
 ) -> Status
-    requires may { IfOk read (λ order. WordsMay (F.may folder.old) (files_of (wanted order))) }
+    requires may { IfOk read (λ order. WordsMay (F.may folder.old) (files_of (wanted_by order))) }
     ensures since { (files : FileSet) → F.agrees folder.new files → F.agrees folder.old files }
     ensures unasked { (order : Option Wanted) → IsOrder read.entry order → ReadsNothing order → folder.new ≡ folder.old }
     ensures answers { (order : Option Wanted) → IsOrder read.entry order → PutsMore K.leads out.old out.new (λ more.
@@ -91,7 +97,7 @@ pub(crate) fn answer<R: Threads + Sync, F: Folder, K: Sink + Send, W: Sink + Sen
 {
     match read {
         Ok(order) => match order {
-            Order::Run(asked) => list(rt, alloc, asked, folder, out, side, gate),
+            Order::Run(asked) => run_listing(rt, alloc, asked, folder, out, side, gate),
             Order::Check(asked) => check(alloc, asked, folder, out),
             Order::Make(asked) => put_made(rt, alloc, asked, out, gate),
             Order::Write { limits, name } => write(alloc, limits, name, folder, out),
@@ -168,7 +174,7 @@ fn list_decks<'a, R: Threads + Sync, F: Folder, K: Sink + Send, W: Sink + Send, 
 }
 
 // Puts the listing of a deck of the folder, or of all models between two.
-fn list<'a, R: Threads + Sync, F: Folder, K: Sink + Send, W: Sink + Send, G: Gate + Sync>(
+fn run_listing<'a, R: Threads + Sync, F: Folder, K: Sink + Send, W: Sink + Send, G: Gate + Sync>(
     rt: &R,
     alloc: Global,
     asked: RunOrder<'a>,

@@ -4,11 +4,11 @@ ghost use Rattle.outside.specs.{folder_name, FileSet, IsReading, ReadsOn};
 ghost use Rattle.model_types.specs.{cell_count, place, HasSize, IsModel};
 ghost use Rattle.deck_problems.specs.{AreDecks};
 ghost use Rattle.command_line.specs.{text_if};
-ghost use Rattle.engine.specs.{AreDecksAs, AreDecksOf, IsNoSecond, IsUnlikeFault, named, second_by, second_in};
+ghost use Rattle.engine.specs.{AreDecksAs, AreDecksOf, IsNoSecond, IsUnlikeFault, read_by_name, second_by, second_in};
 
 use crate::reading::{bad_name, read_named};
-use deck_span::{Difference, first_difference};
 use deck_problems::Decks;
+use deck_span::{Difference, first_difference};
 use model_reader::{read_model, read_name_file};
 use model_types::{CellId, FlowModel, Grid, Limits, place_of};
 use name_file::Names;
@@ -32,7 +32,7 @@ fn read_second<'a, F: Folder>(
 ) -> Result<Second<'a>, InputFault>
     requires may { F.may folder.old (folder_name name.now) }
     ensures folder { ReadsOn F.Folder folder.old folder.new result }
-    ensures reads { (files : FileSet) → F.agrees folder.new files → IsReading second_by (named name.entry.now (second_in limits files)) result }
+    ensures reads { (files : FileSet) → F.agrees folder.new files → IsReading second_by (read_by_name name.entry.now (second_in limits files)) result }
     ensures model { IfOk result (λ b. IsModel b.model) }
 {
     if !is_good_name(name.as_bytes()) {

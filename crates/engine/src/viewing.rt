@@ -12,7 +12,7 @@ use listing_run::{Task, put_steps};
 use near_settler::NearSettler;
 use outside::{Gate, Sink};
 use run_puts::Status;
-use settle_driver::{Plan, StepViewer, WatchBy};
+use settle_driver::{Plan, StepViewer, WatchedClosureSettler};
 use std::alloc::Global;
 use std::thread::Threads;
 use step_problem::{Barrier, Bound, Problem, SettleFault};
@@ -43,7 +43,7 @@ fn put_shown<R: Threads + Sync, K: Sink + Send, V: StepViewer + Send, G: Gate + 
 {
     let near = NearSettler::new(rt, plan, gate);
     let near = &near;
-    let mut settler = WatchBy::new(
+    let mut settler = WatchedClosureSettler::new(
         plan.rounds,
         views,
         viewer,

@@ -3,7 +3,7 @@ use Rattle.std.specs.Prelude.{ℕ, true, List, Result, Ok, pos, neg_ℤ, ℤ, �
 use Rattle.std.specs.Prelude.{suc, ◌+◌, ◌-◌, ◌*◌, Err}
 use Rattle.outside.specs.{FileSet}
 use Rattle.outside.specs.declared.inputs.Refusal.{Refusal}
-use Rattle.record_lines.specs.{◌>>=◌, counted}
+use Rattle.record_lines.specs.{◌>>=◌, each_number}
 use Rattle.model_types.specs.declared.model.FlowModel.{FlowModel}
 use Rattle.model_types.specs.declared.period.Stresses.{Stresses}
 use Rattle.period_arrays.specs.{ArrayKind, arrays_in, refusal_at}
@@ -74,7 +74,7 @@ column_step file grid ibound option a i s = column_tested file grid ibound a i (
 
 -- the first column that fails is refused
 unfoldable pub columns_tested : List ℕ → Grid → List ℤ → ℤ → Area → Result (Unit {0}) Refusal
-columns_tested file grid ibound option a = counted (column_step file grid ibound option a) 0 (layer_size grid) tt
+columns_tested file grid ibound option a = each_number (column_step file grid ibound option a) 0 (layer_size grid) tt
 
 -- SURF, EVTR, EXDP, and under option 2 IEVT
 abbrev pub area_in : Stresses → Area

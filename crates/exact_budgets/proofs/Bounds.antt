@@ -1,6 +1,6 @@
 -- A net flow lies between the bounds of its In and Out, and so in minus the sum of the others.
 use Rattle.exact_budgets.proofs.Common.{◌≡◌, ℕ, ◌+◌, ◌^◌, refl, sym, arith, ℤ, pos, neg_ℤ, ◌+ℤ◌, ◌-ℤ◌, List, [], ◌∷◌, Bool, true, false, not, ◌<◌, inl, inr, ap}
-use Rattle.exact_budgets.proofs.Common.{subst, map, Option, filter, ints, Fraction, negated, fraction_total, EnclosesSigned, den, Same, total, In, Out, Term}
+use Rattle.exact_budgets.proofs.Common.{subst, map, Option, filter, ints, Fraction, opposite, fraction_total, EnclosesSigned, den, Same, total, In, Out, Term}
 use Rattle.exact_budgets.proofs.Common.{Storage, ExactCell, AreLinked, IsOver-negated, same_over, plus_encloses, none_encloses, is_term, all_terms, bounds_in}
 use Rattle.exact_budgets.proofs.Common.{BudgetEncloses, exact_term, net_flow, net_lower, net_upper, others, lower_by_others, upper_by_others, NetTermsLie}
 use Rattle.exact_budgets.proofs.Common.{NetTermsLieInTheOthers, StepsHaveTheirTimes, CertifiedHaveTheirTimes, NetTermsLieAt, AllNetTermsLie, heads_of}
@@ -56,11 +56,11 @@ as_differences k a b c d f h = grind (arith)
 
 module _ (s : ℕ) (e : List ExactCell) (h : ℕ → Fraction) (b : Budget) (o : TermsOver e h) (encloses : BudgetEncloses s e h b) where
   listed : (t : Term) → EnclosesSigned (net_lower b t) (net_upper b t) (s + 9) (net_flow e h t)
-  listed t = as_differences (s + 9) (bounds_in b In t).lo (bounds_in b Out t).hi (bounds_in b In t).hi (bounds_in b Out t).lo (net_flow e h t) (plus_encloses (bounds_in b In t).lo (bounds_in b In t).hi (neg_ℤ (bounds_in b Out t).hi) (neg_ℤ (bounds_in b Out t).lo) (s + 9) (exact_term e h In t) (negated (exact_term e h Out t)) (encloses In t) (negated_enclosed (bounds_in b Out t).lo (bounds_in b Out t).hi (s + 9) (exact_term e h Out t) (encloses Out t)))
+  listed t = as_differences (s + 9) (bounds_in b In t).lo (bounds_in b Out t).hi (bounds_in b In t).hi (bounds_in b Out t).lo (net_flow e h t) (plus_encloses (bounds_in b In t).lo (bounds_in b In t).hi (neg_ℤ (bounds_in b Out t).hi) (neg_ℤ (bounds_in b Out t).lo) (s + 9) (exact_term e h In t) (opposite (exact_term e h Out t)) (encloses In t) (negated_enclosed (bounds_in b Out t).lo (bounds_in b Out t).hi (s + 9) (exact_term e h Out t) (encloses Out t)))
 
   in_the_others : (t : Term) → EnclosesSigned (lower_by_others b t) (upper_by_others b t) (s + 9) (net_flow e h t)
   in_the_others t =
-      same_encloses (lower_by_others b t) (upper_by_others b t) (s + 9) (negated (fraction_total (net_flow e h) (others t))) (net_flow e h t)
+      same_encloses (lower_by_others b t) (upper_by_others b t) (s + 9) (opposite (fraction_total (net_flow e h) (others t))) (net_flow e h t)
       (same_over o.D _ _ _ _ o.some (IsOver-negated o.D _ _ (over_terms o.D (net_flow e h) (λ x. o.into x -ℤ o.out x) (net_over e h o) (others t))) (net_over e h o t) (sym (left_over (λ x. o.into x -ℤ o.out x) o.none t)))
       (negated_enclosed (total (net_lower b) (others t)) (total (net_upper b) (others t)) (s + 9) (fraction_total (net_flow e h) (others t)) (terms_enclose (net_lower b) (net_upper b) (s + 9) (net_flow e h) listed (others t)))
 

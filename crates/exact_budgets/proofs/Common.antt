@@ -18,7 +18,7 @@ pub use Rattle.cell_balance.proofs.Zips.{All-zip, AllZip-at, AllZip-length, Whol
 pub use Rattle.cell_balance.proofs.Zips.{whole_evap, whole_fixed, whole_link, whole_river}
 pub use Rattle.cell_balance.specs.{AreLinked, ExactCell, ExactFixed, ExactFlow, ExactLink, SolvesStep, cell_at, drain_flow, evap_flow, fixed_flow, link_flow}
 pub use Rattle.cell_balance.specs.{minus, no_cell, no_link, river_flow, share, sum_below, total_below}
-pub use Rattle.decimal_input.specs.{EnclosesSigned, Fraction, IsOver, Ratio, fraction_total, negated, signed, whole}
+pub use Rattle.decimal_input.specs.{EnclosesSigned, Fraction, IsOver, Ratio, as_fraction, fraction_total, opposite, whole}
 pub use Rattle.decimal_input.specs.Fractions.{Same, den, times}
 pub use Rattle.exact_budgets.specs.{AllNetTermsLie, CertifiedHaveTheirTimes, IsAlone, LoneCellsHaveTheirFlows, MiddleCell, NetTermsLie, NetTermsLieAt}
 pub use Rattle.exact_budgets.specs.{NetTermsLieInTheOthers, PumpedCell, SolutionsBalance, StepsHaveTheirTimes, five, inflow_from, is_constant, lower_by_others}

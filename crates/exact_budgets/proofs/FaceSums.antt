@@ -1,8 +1,8 @@
 -- Sums of the flows over the faces between two zones, as whole numbers over one denominator.
 use Rattle.exact_budgets.proofs.Common.{◌≡◌, ℕ, zero, suc, ◌<◌, ◌==◌, Bool, true, false, cond, ◌&&◌, List, [], ◌∷◌, ◌++◌, length, get_or, All, refl, sym, subst}
 use Rattle.exact_budgets.proofs.Common.{arith, ℤ, pos, ◌+ℤ◌, slice_index, filter, flat_map, and_parts, eqb-true, All-head, All-tail, AllZip, ints, Fraction}
-use Rattle.exact_budgets.proofs.Common.{whole, times, signed, fraction_total, IsOver, FixedKind, Constant, General, minus, ExactFace, exact_from, exact_by_kind}
-use Rattle.exact_budgets.proofs.Common.{is_exact_between, is_constant, IsOver-plus, IsOver-none, sum_below, Ratio, is_lower_zone}
+use Rattle.exact_budgets.proofs.Common.{whole, times, as_fraction, fraction_total, IsOver, FixedKind, Constant, General, minus, ExactFace, exact_from}
+use Rattle.exact_budgets.proofs.Common.{exact_by_kind, is_exact_between, is_constant, IsOver-plus, IsOver-none, sum_below, Ratio, is_lower_zone}
 use Rattle.std.proofs.lemmas.Bool.Decides.{nat_tests}
 use Rattle.step_problem.specs.declared.entry.FixedKind.TheVariants.{Storage}
 use Rattle.exact_budgets.proofs.Kept.{kept}
@@ -58,22 +58,22 @@ module _ (D : ℕ) (zones : List ℕ) (h : ℕ → Fraction) (u v : ℕ) (some :
   abbrev pub Between : List ExactFace → ℤ → Type 0
   Between = SumTo D (is_exact_between u v)
 
-  pub from_sum : (x y : ℕ) (c : Ratio) (q : ℤ) (t : Bool) → leads x y ≡ t → (t ≡ true → IsOver D (times (signed c) (minus (h x) (h y))) q) → Between (exact_from zones h x y c) (cond t q (pos 0))
+  pub from_sum : (x y : ℕ) (c : Ratio) (q : ℤ) (t : Bool) → leads x y ≡ t → (t ≡ true → IsOver D (times (as_fraction c) (minus (h x) (h y))) q) → Between (exact_from zones h x y c) (cond t q (pos 0))
   unfolding exact_from
   from_sum x y c q t e over = by_test t (is_lower_zone (slice_index zones x) (slice_index zones y)) e over lower
     where
       flow : Fraction
-      flow = times (signed c) (minus (h x) (h y))
+      flow = times (as_fraction c) (minus (h x) (h y))
 
       lower : t ≡ true → is_lower_zone (slice_index zones x) (slice_index zones y) ≡ true
       lower f =
           let both = and_parts (slice_index zones x == u) (slice_index zones y == v) (rw f at e) in
           rw (eqb-true (slice_index zones x) u both.0, eqb-true (slice_index zones y) v both.1) (grind (arith, nat_tests))
 
-      by_test : (t low : Bool) → leads x y ≡ t → (t ≡ true → IsOver D (times (signed c) (minus (h x) (h y))) q) → (t ≡ true → low ≡ true) → Between (cond low (record { from = slice_index zones x; to = slice_index zones y; flow = times (signed c) (minus (h x) (h y)) } ∷ []) []) (cond t q (pos 0))
-      by_test true true e over f = (q, pos 0, subst (λ (b : Bool). Counts D (is_exact_between u v) b (times (signed c) (minus (h x) (h y))) q) (sym e) (over refl), refl, omega (arith, ints))
+      by_test : (t low : Bool) → leads x y ≡ t → (t ≡ true → IsOver D (times (as_fraction c) (minus (h x) (h y))) q) → (t ≡ true → low ≡ true) → Between (cond low (record { from = slice_index zones x; to = slice_index zones y; flow = times (as_fraction c) (minus (h x) (h y)) } ∷ []) []) (cond t q (pos 0))
+      by_test true true e over f = (q, pos 0, subst (λ (b : Bool). Counts D (is_exact_between u v) b (times (as_fraction c) (minus (h x) (h y))) q) (sym e) (over refl), refl, omega (arith, ints))
       by_test true false e over f = absurd (let clash : false ≡ true = f refl in cc)
-      by_test false true e over f = (pos 0, pos 0, subst (λ (b : Bool). Counts D (is_exact_between u v) b (times (signed c) (minus (h x) (h y))) (pos 0)) (sym e) refl, refl, refl)
+      by_test false true e over f = (pos 0, pos 0, subst (λ (b : Bool). Counts D (is_exact_between u v) b (times (as_fraction c) (minus (h x) (h y))) (pos 0)) (sym e) refl, refl, refl)
       by_test false false e over f = refl
 
   pub from_none : (x y : ℕ) (c : Ratio) → leads x y ≡ false → Between (exact_from zones h x y c) (pos 0)

@@ -1,6 +1,6 @@
 -- Flows over one denominator, as whole numbers: what of them goes in, and out; of a whole list, and of those that a test keeps.
 use Rattle.exact_budgets.proofs.Common.{◌≡◌, ℕ, refl, arith, ℤ, pos, neg_ℤ, ◌+ℤ◌, ◌-ℤ◌, List, [], ◌∷◌, map, Bool, true, false, cond, AllZip, filter, ints}
-use Rattle.exact_budgets.proofs.Common.{clamps, Fraction, whole, negated, fraction_total, IsOver, total, In, Out, IsOver-plus, IsOver-negated, IsOver-none}
+use Rattle.exact_budgets.proofs.Common.{clamps, Fraction, whole, opposite, fraction_total, IsOver, total, In, Out, IsOver-plus, IsOver-negated, IsOver-none}
 use Rattle.exact_budgets.proofs.Common.{IsOver-greater, exact_part, All, All-head, All-tail}
 use Rattle.std.specs.Int.{int_max}
 
@@ -20,7 +20,7 @@ one_more D f y flows z over rest = record {
   into = int_max y (pos 0) +ℤ rest.into;
   out = int_max (neg_ℤ y) (pos 0) +ℤ rest.out;
   is_in = IsOver-plus D _ _ _ _ (IsOver-greater D f (whole (pos 0)) y (pos 0) over (IsOver-none D)) rest.is_in;
-  is_out = IsOver-plus D _ _ _ _ (IsOver-greater D (negated f) (whole (pos 0)) (neg_ℤ y) (pos 0) (IsOver-negated D f y over) (IsOver-none D)) rest.is_out;
+  is_out = IsOver-plus D _ _ _ _ (IsOver-greater D (opposite f) (whole (pos 0)) (neg_ℤ y) (pos 0) (IsOver-negated D f y over) (IsOver-none D)) rest.is_out;
   net = omega (arith, ints, clamps, rest.net);
 }
 

@@ -1,7 +1,7 @@
 -- What flows between the zone of a lone cell and another zone is what flows over the cell's links and from its constant heads.
 use Rattle.exact_budgets.proofs.Common.{◌≡◌, ◌⊎◌, inl, inr, ℕ, zero, suc, ◌+◌, ◌*◌, ◌<◌, ◌==◌, Bool, true, false, cond, ◌&&◌, List, [], ◌∷◌, length, All, refl}
 use Rattle.exact_budgets.proofs.Common.{sym, ap, ◌∙◌, subst, arith, mul-pos, ℤ, pos, neg_ℤ, ◌+ℤ◌, ◌-ℤ◌, ◌*ℤ◌, slice_index, flat_map, AllZip, ints, total}
-use Rattle.exact_budgets.proofs.Common.{Fraction, den, negated, times, signed, IsOver, Same, Constant, ExactLink, ExactFixed, ExactCell, cell_at, no_cell}
+use Rattle.exact_budgets.proofs.Common.{Fraction, den, opposite, times, as_fraction, IsOver, Same, Constant, ExactLink, ExactFixed, ExactCell, cell_at, no_cell}
 use Rattle.exact_budgets.proofs.Common.{AreLinked, minus, link_flow, fixed_flow, ExactFace, exact_link, exact_fixed, exact_cell, exact_faces, is_exact_between}
 use Rattle.exact_budgets.proofs.Common.{exact_flow, is_constant, own_zone, IsAlone, inflow_from, LoneCellsHaveTheirFlows, same_over, IsOver-plus}
 use Rattle.exact_budgets.proofs.Common.{IsOver-negated, LinkOver, FixedOver, CellOver, link_over, fixed_over, WholeCell, whole_at, no_whole, whole_link}
@@ -122,7 +122,7 @@ module _ (zones : List ℕ) (e : List ExactCell) (i b : ℕ) (h : ℕ → Fracti
           subst (Flows a b some less (exact_fixed zones h (cell_at e i) x)) (nested (is_constant x.kind) (slice_index zones x.source == b) _)
           (known_sum (k * m) zones h a b some less x.kind (cell_at e i).id x.source x.conductance _ (pos 0)
           (λ c. from_sum (k * m) zones h a b some less (cell_at e i).id x.source x.conductance (neg_ℤ (whole_fixed (H i) y)) (slice_index zones x.source == b) (rw same_zone refl)
-          (λ f. subst (IsOver (k * m) (times (signed x.conductance) (minus (h (cell_at e i).id) (h x.source)))) (turned (pos y.c) (H i) y.top) (difference_over k m y.c x.conductance (h (cell_at e i).id) (h x.source) (H i) y.top r.c (is i) (subst (λ (z : Fraction). IsOver m z y.top) (sym (head c)) r.top))))
+          (λ f. subst (IsOver (k * m) (times (as_fraction x.conductance) (minus (h (cell_at e i).id) (h x.source)))) (turned (pos y.c) (H i) y.top) (difference_over k m y.c x.conductance (h (cell_at e i).id) (h x.source) (H i) y.top r.c (is i) (subst (λ (z : Fraction). IsOver m z y.top) (sym (head c)) r.top))))
           (λ c. from_none (k * m) zones h a b some less x.source (cell_at e i).id x.conductance (rw (ne_eqb (slice_index zones x.source) a (source c)) refl)))
         where
           nested : (s t : Bool) (q : ℤ) → cond s (cond t q (pos 0) +ℤ pos 0) (pos 0) ≡ cond (s && t) q (pos 0)
@@ -149,7 +149,7 @@ module _ (zones : List ℕ) (e : List ExactCell) (i b : ℕ) (h : ℕ → Fracti
               let heads = kept_turned to_known to_known (λ y. neg_ℤ (whole_fixed (H i) y)) (whole_fixed (H i)) (λ x. refl) (λ y. refl) (cell_at e i).fixed (whole_at w i).fixed in
               rw (eq-eqb i i refl) (omega (arith, ints))
 
-      pub higher : 0 < k * m → Same (exact_flow a b (exact_faces zones h e)) (negated (inflow_from zones e i h b))
+      pub higher : 0 < k * m → Same (exact_flow a b (exact_faces zones h e)) (opposite (inflow_from zones e i h b))
       unfolding shares
       higher some_product =
           same_over (k * m) _ _ _ _ some_product (all_cells a b some less shares each_cell) (IsOver-negated (k * m) (inflow_from zones e i h b) (linked +ℤ known) inflow_over)

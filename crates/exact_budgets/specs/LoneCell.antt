@@ -1,7 +1,7 @@
 -- A cell that is alone in its zone, and what flows from it into another zone.
 use Rattle.std.specs.Prelude.{◌≡◌, ℕ, ◌<◌, ◌==◌, Bool, true, false, ◌&&◌, List, length, All, slice_index}
 use Rattle.std.specs.List.{filter}
-use Rattle.decimal_input.specs.{Fraction, negated, fraction_total}
+use Rattle.decimal_input.specs.{Fraction, opposite, fraction_total}
 use Rattle.decimal_input.specs.Fractions.{plus, Same}
 use Rattle.step_problem.specs.declared.entry.FixedKind.{FixedKind}
 use Rattle.step_problem.specs.declared.entry.FixedKind.TheVariants.{Storage, Constant, General}
@@ -40,7 +40,7 @@ module _ (zones : List ℕ) (e : List ExactCell) (k : ℕ) where
 -- The zone flows of a lone cell: to a higher zone goes what flows into the cell from there, with the other sign; from a lower zone comes what flows
 -- into the cell from there, where the two ends of each link have the same conductance.
 pub record HasItsFlows (zones : List ℕ) (e : List ExactCell) (k b : ℕ) (h : ℕ → Fraction) : Type 0 where
-  pub higher : own_zone zones e k < b → Same (exact_flow (own_zone zones e k) b (exact_faces zones h e)) (negated (inflow_from zones e k h b))
+  pub higher : own_zone zones e k < b → Same (exact_flow (own_zone zones e k) b (exact_faces zones h e)) (opposite (inflow_from zones e k h b))
   pub lower : AreLinked e → b < own_zone zones e k → Same (exact_flow b (own_zone zones e k) (exact_faces zones h e)) (inflow_from zones e k h b)
 
 -- for zones that are zones, and heads h that are the known ones at the cell's constant heads

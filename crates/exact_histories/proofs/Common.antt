@@ -7,7 +7,7 @@ pub use Rattle.std.specs.Prelude.{None, Some}
 pub use Rattle.cell_balance.specs.{AreLinked, EnclosesStep, ExactCell, ExactFixed, ExactLink, SolvesStep, balance, cell_at, drain_flow, evap_flow, fixed_flow}
 pub use Rattle.cell_balance.specs.{link_flow, minus, no_cell, river_flow, share}
 pub use Rattle.decimal_input.proofs.FloorLaws.{Same-sym, Same-trans, swap}
-pub use Rattle.decimal_input.specs.{Fraction, IsOver, fraction_total, signed}
+pub use Rattle.decimal_input.specs.{Fraction, IsOver, as_fraction, fraction_total}
 pub use Rattle.decimal_input.specs.Fractions.{Same, den, plus}
 pub use Rattle.deck_problems.proofs.Enclosing.{pair_encloses, pair_fits, problem_encloses, problem_fits}
 pub use Rattle.deck_problems.proofs.OneProblem.{HasCellsOf, between_cells, cell_of_first, cell_of_member, encloses_first, encloses_member, member_cells}

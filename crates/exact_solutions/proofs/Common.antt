@@ -31,8 +31,9 @@ pub use Rattle.cell_balance.specs.{sum_below, sum_inside}
 pub use Rattle.decimal_input.proofs.FloorLaws.{cancel_right, le-trans, mul_mono_right, swap}
 pub use Rattle.decimal_input.specs.{Fraction, IsOver, Ratio, whole}
 pub use Rattle.decimal_input.specs.Fractions.{Same, den}
-pub use Rattle.exact_solutions.specs.{AfloatHaveAnother, DrainedHaveAnother, HasNoneOrMany, HeldHaveASolution, HeldHaveAtMostOne, IsAnchoredAbove, IsHeldAbove}
-pub use Rattle.exact_solutions.specs.{IsLoose, TwoLooseCells, WellOfDeepFlow, WellPastDeepFlow, WellWithinDeepFlow, river_and_well, two_cells}
+pub use Rattle.exact_solutions.specs.{AfloatHaveAnother, DrainedHaveAnother, HasNoKnownHead, HasNoneOrMany, HeldHaveASolution, HeldHaveAtMostOne}
+pub use Rattle.exact_solutions.specs.{IsAnchoredAbove, IsHeldAbove, TwoLooseCells, WellOfDeepFlow, WellPastDeepFlow, WellWithinDeepFlow, river_and_well}
+pub use Rattle.exact_solutions.specs.{two_cells}
 pub use Rattle.step_problem.proofs.BothSides.{le_anti}
 pub use Rattle.step_problem.proofs.Falls.{loss_falls, total_mono}
 pub use Rattle.step_problem.proofs.Leasts.{as_diff, diffs, mul_assoc, mul_mono, mul_nonneg, neg_mul, same_diff}

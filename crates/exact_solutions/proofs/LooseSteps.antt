@@ -5,9 +5,9 @@ use Rattle.exact_solutions.proofs.Common.{mul_assoc, mul_mono, sum_below, sum_in
 use Rattle.exact_solutions.proofs.Common.{IsMutual, whole_solves, mutual_whole, FixedOver, RiverOver, DrainOver, EvapOver, CellOver, IsOver-none, sub_mul}
 use Rattle.exact_solutions.proofs.Common.{WholeEntry, WholeCell, whole_at, no_whole, whole_link, whole_fixed, whole_river, whole_drain, whole_evap}
 use Rattle.exact_solutions.proofs.Common.{whole_balance, whole_deep_river, whole_full, whole_deep, whole_step, AllZip-at, AllZip-length, All-zip, le_anti}
-use Rattle.exact_solutions.proofs.Common.{deep_over, IsLoose, DrainedHaveAnother, AfloatHaveAnother, closed_cancel, le-trans, sum_below-tight, heads_over}
-use Rattle.exact_solutions.proofs.Common.{whole_falls, *ℤ-zero, loss_falls, none_shared, sum_inside-add, total-none, sum_inside-zero, same_length, cell_over}
-use Rattle.exact_solutions.proofs.Common.{closed_whole}
+use Rattle.exact_solutions.proofs.Common.{deep_over, HasNoKnownHead, DrainedHaveAnother, AfloatHaveAnother, closed_cancel, le-trans, sum_below-tight}
+use Rattle.exact_solutions.proofs.Common.{heads_over, whole_falls, *ℤ-zero, loss_falls, none_shared, sum_inside-add, total-none, sum_inside-zero, same_length}
+use Rattle.exact_solutions.proofs.Common.{cell_over, closed_whole}
 use Rattle.cell_balance.proofs.Enclosing.{over_le, IsOver-inside}
 use Rattle.exact_solutions.proofs.WholeSolutions.{without_links, lowered, balance-links, lowered_balances, whole_balances_solve}
 use Rattle.exact_solutions.proofs.HeldSteps.{same_crossed}
@@ -51,7 +51,7 @@ flows_constant u v h fixed rivers drains evaps =
       total-no_length (whole_evap v) u.evaps evaps,
     )
 
-module _ (e : List ExactCell) (inside : ℕ → Bool) (linked : AreLinked e) (loose : IsLoose e inside) (k m : ℕ) (w : List WholeCell) (over : AllZip (CellOver k m) e w) where
+module _ (e : List ExactCell) (inside : ℕ → Bool) (linked : AreLinked e) (loose : HasNoKnownHead e inside) (k m : ℕ) (w : List WholeCell) (over : AllZip (CellOver k m) e w) where
   no_fixed : (c : ℕ) → c < length e → inside c ≡ true → All (λ x. x.c ≡ 0) (whole_at w c).fixed
   no_fixed c i t = All-zip (FixedOver k m) (λ x. x.conductance.num ≡ 0) (λ x. x.c ≡ 0) (λ x y r h. none_shared k y.c x.conductance h r.c) (cell_at e c).fixed (whole_at w c).fixed (cell_over k m e w over c i).fixed (loose.fixed c i t)
 
@@ -96,7 +96,7 @@ module _ (e : List ExactCell) (inside : ℕ → Bool) (linked : AreLinked e) (lo
 abbrev AnotherSolution : List ExactCell → ℕ → (ℕ → ℤ) → Type 0
 AnotherSolution e d X = (k : ℕ) × (Z : ℕ → ℤ) × (0 < k) × SolvesStep e k Z × (c : ℕ) × (c < length e) × (Same (share d (X c)) (share k (Z c)) → ⊥)
 
-lowered_solution : (e : List ExactCell) (inside : ℕ → Bool) → AreLinked e → IsLoose e inside → (n d : ℕ) (X : ℕ → ℤ) → 0 < n → 0 < d → (w : List WholeCell) → AllZip (CellOver (n * 1) (n * d)) e w →
+lowered_solution : (e : List ExactCell) (inside : ℕ → Bool) → AreLinked e → HasNoKnownHead e inside → (n d : ℕ) (X : ℕ → ℤ) → 0 < n → 0 < d → (w : List WholeCell) → AllZip (CellOver (n * 1) (n * d)) e w →
     ((c : ℕ) → c < length w → whole_balance (whole_at w c) (X c *ℤ pos n) (λ k. X k *ℤ pos n) ≡ pos 0) →
     ((c : ℕ) → c < length e → inside c ≡ true → whole_balance (without_links (whole_at w c)) (X c *ℤ pos n -ℤ pos 1) (λ k. X k *ℤ pos n) ≡ whole_balance (without_links (whole_at w c)) (X c *ℤ pos n) (λ k. X k *ℤ pos n)) →
     AnotherSolution e d X

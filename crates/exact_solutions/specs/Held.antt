@@ -4,7 +4,7 @@ use Rattle.step_problem.specs.declared.entry.River.{River}
 use Rattle.step_problem.specs.declared.entry.Drain.{Drain}
 use Rattle.step_problem.specs.Entries.{Entries}
 use Rattle.step_problem.specs.{entries_at, IsProblem}
-use Rattle.cell_balance.specs.{Reaches, IsAnchored, IsHeldBelow, ExactCell, cell_at, AreLinked, share, SolvesStep, EnclosesStep, IsClosed, total_inside}
+use Rattle.cell_balance.specs.{LeadsTo, IsAnchored, IsHeldBelow, ExactCell, cell_at, AreLinked, share, SolvesStep, EnclosesStep, IsClosed, total_inside}
 use Rattle.cell_balance.specs.{deep_flow, one}
 use Rattle.decimal_input.specs.Fractions.{Same, AtMost}
 use Rattle.decimal_input.specs.{whole}
@@ -20,7 +20,7 @@ IsAnchoredAbove p c =
 
 -- From each cell of the problem links lead to one that is anchored above.
 abbrev pub IsHeldAbove : List Entries → Type 0
-IsHeldAbove p = (c : ℕ) → c < length p → (j : ℕ) × (k : ℕ) × Reaches p j c k × IsAnchoredAbove p k
+IsHeldAbove p = (c : ℕ) → c < length p → (j : ℕ) × (k : ℕ) × LeadsTo p j c k × IsAnchoredAbove p k
 
 -- How many solutions an exact step has. Heads are whole numerators over one denominator, by the index of the variable cell.
 -- Some heads solve the step.
@@ -56,15 +56,15 @@ HeldHaveAtMostOne =
 
 -- Cells of an exact step that nothing holds.
 -- A set of cells that no link leaves, with a member, without a known head that conducts and without evapotranspiration.
-pub record IsLoose (e : List ExactCell) (inside : ℕ → Bool) : Type 0 where
+pub record HasNoKnownHead (e : List ExactCell) (inside : ℕ → Bool) : Type 0 where
   pub closed : IsClosed e inside
   pub member : (c : ℕ) × (c < length e) × (inside c ≡ true)
   pub fixed : (c : ℕ) → c < length e → inside c ≡ true → All (λ x. x.conductance.num ≡ 0) (cell_at e c).fixed
   pub evaps : (c : ℕ) → c < length e → inside c ≡ true → (cell_at e c).evaps ≡ []
 
 -- And without a river or a drain that conducts.
-pub record IsAfloat (e : List ExactCell) (inside : ℕ → Bool) : Type 0 where
-  pub loose : IsLoose e inside
+pub record HasNothingThatHolds (e : List ExactCell) (inside : ℕ → Bool) : Type 0 where
+  pub loose : HasNoKnownHead e inside
   pub rivers : (c : ℕ) → c < length e → inside c ≡ true → All (λ x. x.conductance.num ≡ 0) (cell_at e c).rivers
   pub drains : (c : ℕ) → c < length e → inside c ≡ true → All (λ x. x.conductance.num ≡ 0) (cell_at e c).drains
 
@@ -72,12 +72,12 @@ pub record IsAfloat (e : List ExactCell) (inside : ℕ → Bool) : Type 0 where
 -- Cells that nothing holds, and whose deep flows sum to at most 0.
 abbrev pub DrainedHaveAnother : Type 0
 DrainedHaveAnother =
-    (e : List ExactCell) (inside : ℕ → Bool) → AreLinked e → IsLoose e inside →
+    (e : List ExactCell) (inside : ℕ → Bool) → AreLinked e → HasNoKnownHead e inside →
     AtMost (total_inside (length e) inside (λ c. deep_flow (cell_at e c))) (whole (pos 0)) → HasNoneOrMany e
 
 -- Cells that nothing holds, and where no river or drain conducts.
 abbrev pub AfloatHaveAnother : Type 0
-AfloatHaveAnother = (e : List ExactCell) (inside : ℕ → Bool) → AreLinked e → IsAfloat e inside → HasNoneOrMany e
+AfloatHaveAnother = (e : List ExactCell) (inside : ℕ → Bool) → AreLinked e → HasNothingThatHolds e inside → HasNoneOrMany e
 
 -- Steps that are solved by hand. Lengths in metres; every conductance is 1.
 -- One cell with a river of stage 5 and bottom 0, and a well that takes `taken`. The river gives 5 - head, and below its bottom its deep flow of 5.

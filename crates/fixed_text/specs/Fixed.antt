@@ -7,9 +7,9 @@ sign (pos n) = []
 sign (negsuc n) = codes "-"
 
 -- the digits of n, with leading zeros up to this many digits
-abbrev pub padded : ℕ → ℕ → List ℕ
-padded places n = replicate (places - length (decimal n)) 48 ++ decimal n
+abbrev pub padded_digits : ℕ → ℕ → List ℕ
+padded_digits places n = replicate (places - length (decimal n)) 48 ++ decimal n
 
 -- z * 10 ^ -places, written with a point
 abbrev pub fixed_text : ℕ → ℤ → List ℕ
-fixed_text places z = sign z ++ decimal (nat_abs z / 10 ^ places) ++ codes "." ++ padded places (nat_abs z % 10 ^ places)
+fixed_text places z = sign z ++ decimal (nat_abs z / 10 ^ places) ++ codes "." ++ padded_digits places (nat_abs z % 10 ^ places)

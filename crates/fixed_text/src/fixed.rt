@@ -1,5 +1,5 @@
 ghost use Rattle.std.specs.Prelude.{◌≡◌, ◌≤◌, ◌<◌, ◌^◌, ◌++◌, replicate, decimal, IfOk};
-ghost use Rattle.fixed_text.specs.{fixed_text, padded};
+ghost use Rattle.fixed_text.specs.{fixed_text, padded_digits};
 
 use itoa::Buffer;
 use std::alloc::AllocError;
@@ -35,7 +35,7 @@ pub fn push_number(text: &mut Vec<u8>, n: u128) -> Result<(), AllocError>
 }
 
 fn push_padded(text: &mut Vec<u8>, places: usize, n: u128) -> Result<(), AllocError>
-    ensures { IfOk result (λ _. text.new.items ≡ text.old.items ++ padded places n) }
+    ensures { IfOk result (λ _. text.new.items ≡ text.old.items ++ padded_digits places n) }
 {
     let mut buffer = Buffer::new();
     let digits = buffer.format(n).as_bytes();

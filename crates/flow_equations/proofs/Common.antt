@@ -17,8 +17,8 @@ pub use Rattle.decimal_input.proofs.Differences.{as_diff, diffs, same_diff}
 pub use Rattle.decimal_input.proofs.FloorLaws.{AtMost-trans, neg_times, swap}
 pub use Rattle.decimal_input.proofs.Orders.{Same-trans, den_over, den_plus, den_times, num_over, num_plus, num_times}
 pub use Rattle.decimal_input.proofs.SameNumbers.{Same-of, Same-self, over-Same, plus-Same, plus-comm, times-Same}
-pub use Rattle.decimal_input.specs.{Fraction, IsDec, IsOver, IsShare, Ratio, negated, number, signed, size, up, whole, with_sign}
-unfoldable pub use Rattle.decimal_input.specs.{over, ratio, scaled}
+pub use Rattle.decimal_input.specs.{Fraction, IsDec, IsOver, IsShare, Ratio, as_fraction, number, opposite, size, up, whole, with_sign}
+unfoldable pub use Rattle.decimal_input.specs.{over, ratio, scaled_ratio}
 pub use Rattle.decimal_input.specs.Fractions.{den}
 pub use Rattle.decimal_input.specs.Ratios.{AtMost, Same}
 unfoldable pub use Rattle.decimal_input.specs.Ratios.{plus, times}
@@ -36,7 +36,7 @@ pub use Rattle.model_types.specs.{cell_count, dec_at, delc_at, delr_at, evap_con
 pub use Rattle.model_types.specs.{is_chosen, is_constant, is_highest, is_int, is_variable, kept_head, last_given, layer_of, layer_size, local_entries, lowest}
 pub use Rattle.model_types.specs.{multiplier, no_number, no_period, no_stresses, one, period_at, place_in_layer, start_head, storage_capacity, thickness}
 pub use Rattle.model_types.specs.{top_at, two, variable_cells, variable_faces, vertical_conductivity, vka_at, vkcb_at}
-unfoldable pub use Rattle.model_types.specs.{area, column_conductance, constant_head, entries_of, geometric, given_in, half, in_a_row, passed, power}
+unfoldable pub use Rattle.model_types.specs.{area, column_conductance, constant_head, entries_of, geometric, given_in, half, in_a_row, part_passed, power}
 unfoldable pub use Rattle.model_types.specs.{row_conductance, step_length, storage, variable_below, vertical_conductance, vertical_half}
 pub use Rattle.model_types.specs.declared.entry.Entry.{Entry}
 pub use Rattle.model_types.specs.declared.entry.Entry.TheVariants.{Well}

@@ -1,7 +1,7 @@
 -- Vertical conductances through one material, and the vertical conductivity of a cell.
-use Rattle.flow_equations.proofs.Common.{◌≡◌, ℕ, ◌+◌, ◌*◌, ◌<◌, ◌⊎◌, inl, inr, cond, ap, arith, mul-pos, ◌≤◌, refl, sym, ◌∙◌, size, Ratio, over, ratio, scaled}
-use Rattle.flow_equations.proofs.Common.{up, plus, times, Same, AtMost, Same-trans, num_over, num_times, den_times, num_plus, den_plus, den_over, FlowModel}
-use Rattle.flow_equations.proofs.Common.{area, thickness, bed_thickness, hk_at, vka_at, vkcb_at, vertical_conductivity, two, vertical_half}
+use Rattle.flow_equations.proofs.Common.{◌≡◌, ℕ, ◌+◌, ◌*◌, ◌<◌, ◌⊎◌, inl, inr, cond, ap, arith, mul-pos, ◌≤◌, refl, sym, ◌∙◌, size, Ratio, over, ratio}
+use Rattle.flow_equations.proofs.Common.{scaled_ratio, up, plus, times, Same, AtMost, Same-trans, num_over, num_times, den_times, num_plus, den_plus, den_over}
+use Rattle.flow_equations.proofs.Common.{FlowModel, area, thickness, bed_thickness, hk_at, vka_at, vkcb_at, vertical_conductivity, two, vertical_half}
 use Rattle.flow_equations.proofs.Common.{vertical_conductance, IsPositive, one, distance, IsOneMaterial, HasVerticalConductivity, plus-Same, over-Same}
 use Rattle.flow_equations.proofs.Common.{Same-self, Same-of, Dec, one-le-pow}
 use Rattle.decimal_input.specs.Ratios.{den}
@@ -43,7 +43,7 @@ at_most_by {f} {g} {a} {x} {b} {y} p q e = grind (arith)
 
 -- a number of the input that is above 0
 pub size_positive : (d : Dec) → IsPositive d → 0 < (size d).num
-unfolding scaled ratio
+unfolding scaled_ratio ratio
 size_positive d h = let r = one-le-pow (up d.exp) 10 (omega arith) in let q = h.positive in grind arith
 
 -- what is the same as a number above 0 is above 0

@@ -2,10 +2,10 @@
 use Rattle.flow_equations.proofs.Common.{◌≡◌, ℕ, zero, suc, ◌+◌, ◌*◌, ◌-◌, ◌<◌, ◌≤◌, inl, inr, true, false, cond, ◌||◌, Option, Some, None, List, [], ◌∷◌, ◌++◌}
 use Rattle.flow_equations.proofs.Common.{length, take, get_or, refl, sym, ap, ◌∙◌, subst, arith, ℤ, pos, neg_ℤ, ◌+ℤ◌, ◌*ℤ◌, mul-pos, reverse, ◌==◌, find}
 use Rattle.flow_equations.proofs.Common.{flat_map, ne_eqb, cases_lt, ints, reverse-append, take_all, take_more, append-nil, number, size, Ratio, ratio, over}
-use Rattle.flow_equations.proofs.Common.{Fraction, den, signed, negated, IsOver, IsShare, diffs, as_diff, same_diff, swap, mul_assoc, IsOver-plus, IsOver-times}
-use Rattle.flow_equations.proofs.Common.{IsOver-negated, IsOver-signed, same_over, FlowModel, Period, one, period_at, no_period, passed, geometric, multiplier}
-use Rattle.flow_equations.proofs.Common.{given_in, last_given, between_heads, head_or_kept, kept_head, constant_head, Lasts, HasEqualSteps, HasGivenHead}
-use Rattle.flow_equations.proofs.Common.{find-append, option_or}
+use Rattle.flow_equations.proofs.Common.{Fraction, den, as_fraction, opposite, IsOver, IsShare, diffs, as_diff, same_diff, swap, mul_assoc, IsOver-plus}
+use Rattle.flow_equations.proofs.Common.{IsOver-times, IsOver-negated, IsOver-signed, same_over, FlowModel, Period, one, period_at, no_period, part_passed}
+use Rattle.flow_equations.proofs.Common.{geometric, multiplier, given_in, last_given, between_heads, head_or_kept, kept_head, constant_head, Lasts}
+use Rattle.flow_equations.proofs.Common.{HasEqualSteps, HasGivenHead, find-append, option_or}
 use Rattle.std.proofs.lemmas.List.Concat.{flat_map-append}
 use Rattle.decimal_input.specs.Ratios.{den as ratio_den, Same as SameRatio}
 use Rattle.decimal_input.specs.Fractions.{plus, times, Same}
@@ -19,8 +19,8 @@ wider m k g z p = record { is = sym (mul_assoc g.num (pos m) (pos k)) ∙ ap (λ
 
 -- Shead + (Ehead - Shead) * f, where f is n over k
 pub between_over : (x : Given) (f : Ratio) (m k n : ℕ) (a b : ℤ) → IsShare k f n → IsOver m (number x.shead) a → IsOver m (number x.ehead) b → IsOver (m * k) (between_heads x f) (a *ℤ pos k +ℤ (b +ℤ neg_ℤ a) *ℤ pos n)
-between_over x f m k n a b share s e = IsOver-plus (m * k) (number x.shead) (times (plus (number x.ehead) (negated (number x.shead))) (signed f)) _ _ (wider m k (number x.shead) a s)
-    (IsOver-times m k (plus (number x.ehead) (negated (number x.shead))) (signed f) (b +ℤ neg_ℤ a) (pos n) (IsOver-plus m (number x.ehead) (negated (number x.shead)) b (neg_ℤ a) e (IsOver-negated m (number x.shead) a s)) (IsOver-signed k f n share))
+between_over x f m k n a b share s e = IsOver-plus (m * k) (number x.shead) (times (plus (number x.ehead) (opposite (number x.shead))) (as_fraction f)) _ _ (wider m k (number x.shead) a s)
+    (IsOver-times m k (plus (number x.ehead) (opposite (number x.shead))) (as_fraction f) (b +ℤ neg_ℤ a) (pos n) (IsOver-plus m (number x.ehead) (opposite (number x.shead)) b (neg_ℤ a) e (IsOver-negated m (number x.shead) a s)) (IsOver-signed k f n share))
 
 module _ (x : Given) (f : Ratio) (k n : ℕ) (some : 0 < k) (share : IsShare k f n) where
   abbrev s : Fraction
@@ -61,22 +61,22 @@ module _ (x : Given) (f : Ratio) (k n : ℕ) (some : 0 < k) (share : IsShare k f
       half : (u v w t : ℤ) → t ≡ w +ℤ w → (u *ℤ t +ℤ (v +ℤ neg_ℤ u) *ℤ w) +ℤ (u *ℤ t +ℤ (v +ℤ neg_ℤ u) *ℤ w) ≡ u *ℤ t +ℤ v *ℤ t
       half u v w t is = rw is (halves u v w)
 
-passed_at_end : (p : Period) → passed p p.nstp ≡ one
-unfolding passed
+passed_at_end : (p : Period) → part_passed p p.nstp ≡ one
+unfolding part_passed
 passed_at_end p = ap (λ b. cond (b || p.perlen.digits == 0) one (over (geometric (multiplier p) p.nstp) (geometric (multiplier p) p.nstp))) (itself_eq p.nstp)
   where
     itself_eq : (n : ℕ) → (n == n) ≡ true
     itself_eq n = grind arith
 
 -- one of two equal steps is half of the period
-passed_half : (p : Period) → Lasts p → HasEqualSteps p → p.nstp ≡ 2 → 2 * (passed p 1).num ≡ ratio_den (passed p 1)
-unfolding passed
+passed_half : (p : Period) → Lasts p → HasEqualSteps p → p.nstp ≡ 2 → 2 * (part_passed p 1).num ≡ ratio_den (part_passed p 1)
+unfolding part_passed
 passed_half p h equal two =
     let T = size p.tsmult in
     let first : (1 == p.nstp) ≡ false = ne_eqb 1 p.nstp (λ z. omega (arith, z, two)) in
     let lasts : (p.perlen.digits == 0) ≡ false = ne_eqb p.perlen.digits 0 (λ z. omega (arith, z, h.perlen.positive)) in
     let transient : multiplier p ≡ T = ap (λ s. cond s one T) h.transient in
-    let is : passed p 1 ≡ over (geometric T 1) (geometric T p.nstp) = λ i. cond (first i || lasts i) one (over (geometric (transient i) 1) (geometric (transient i) p.nstp)) in
+    let is : part_passed p 1 ≡ over (geometric T 1) (geometric T p.nstp) = λ i. cond (first i || lasts i) one (over (geometric (transient i) 1) (geometric (transient i) p.nstp)) in
     subst (λ (f : Ratio). 2 * f.num ≡ ratio_den f) (sym is) (half_of T p.nstp two (geometric_one T 1 equal) (geometric_one T p.nstp equal))
   where
     half_of : (T : Ratio) (n : ℕ) → n ≡ 2 → SameRatio (geometric T 1) (ratio 1 1) → SameRatio (geometric T n) (ratio n 1) → 2 * (over (geometric T 1) (geometric T n)).num ≡ ratio_den (over (geometric T 1) (geometric T n))
@@ -100,7 +100,7 @@ passed_half p h equal two =
             f' b y n two f = let g : n * y ≡ 2 * y = ap (λ k. k * y) two in omega (arith, f, g)
 
 module _ (m : FlowModel) (p c : ℕ) (x : Given) (given : given_in (period_at m p).stresses.given c ≡ Some x) where
-  named : (n : ℕ) → constant_head m p n c ≡ between_heads x (passed (period_at m p) n)
+  named : (n : ℕ) → constant_head m p n c ≡ between_heads x (part_passed (period_at m p) n)
   unfolding constant_head
   named n = ap (λ o. head_or_kept m p n o c) given
 
@@ -109,7 +109,7 @@ module _ (m : FlowModel) (p c : ℕ) (x : Given) (given : given_in (period_at m 
 
   at_half : Lasts (period_at m p) → HasEqualSteps (period_at m p) → (period_at m p).nstp ≡ 2 → Same (plus (constant_head m p 1 c) (constant_head m p 1 c)) (plus (number x.shead) (number x.ehead))
   at_half h e two =
-      let f = passed (period_at m p) 1 in
+      let f = part_passed (period_at m p) 1 in
       subst (λ (z : Fraction). Same (plus z z) (plus (number x.shead) (number x.ehead))) (sym (named 1)) (half_way x f (ratio_den f) f.num (omega arith) (record { is = refl }) (passed_half (period_at m p) h e two))
 
 given_last : (us vs : List Given) (c : ℕ) (x : Given) → given_in vs c ≡ Some x → given_in (us ++ vs) c ≡ Some x

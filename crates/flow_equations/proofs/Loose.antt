@@ -1,6 +1,6 @@
 -- Two cells that nothing holds: no flow between equal heads.
 use Rattle.flow_equations.proofs.Common.{◌≡◌, ℕ, zero, suc, ◌<◌, true, ℤ, pos, ◌+ℤ◌, ◌*ℤ◌, [], ◌∷◌, refl, ap, ◌∙◌, arith, false≢true, Ratio, neg_times}
-use Rattle.flow_equations.proofs.Common.{Fraction, den, signed, IsOver, given_in, variable_below, is_constant, constant_head, start_head, row_conductance}
+use Rattle.flow_equations.proofs.Common.{Fraction, den, as_fraction, IsOver, given_in, variable_below, is_constant, constant_head, start_head, row_conductance}
 use Rattle.flow_equations.proofs.Common.{entries_of, minus, share, SolvesStep, exact_step, Solves, variable_heads, two_cells}
 use Rattle.std.proofs.Math.IntN.{+ℤ_invr}
 use Rattle.decimal_input.specs.Fractions.{plus, times}
@@ -18,7 +18,7 @@ no_sum f g p q = (λ i. p i *ℤ pos (den g) +ℤ q i *ℤ pos (den f)) ∙ (λ 
 no_difference : (f : Fraction) → (minus f f).num ≡ pos 0
 no_difference f = ap (λ k. f.num *ℤ pos (den f) +ℤ k) (neg_times f.num (pos (den f))) ∙ +ℤ_invr (f.num *ℤ pos (den f))
 
-no_flow : (c : Ratio) (f : Fraction) → (times (signed c) (minus f f)).num ≡ pos 0
+no_flow : (c : Ratio) (f : Fraction) → (times (as_fraction c) (minus f f)).num ≡ pos 0
 no_flow c f = ap (λ k. pos c.num *ℤ k) (no_difference f) ∙ times_nothing c.num
 
 loose_constant : (d c : ℕ) (z : ℤ) → c < 2 → is_constant two_cells 1 c ≡ true → IsOver d (constant_head two_cells 1 1 c) z

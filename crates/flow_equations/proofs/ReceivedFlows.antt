@@ -1,7 +1,7 @@
 -- The recharge of a cell, and what evapotranspiration takes at the two ends of its range.
 use Rattle.flow_equations.proofs.Common.{◌≡◌, ℕ, ◌*◌, ◌<◌, inl, Bool, false, cond, Option, Some, None, List, ◌++◌, map, refl, sym, ap, ◌∙◌, subst, arith, ℤ}
 use Rattle.flow_equations.proofs.Common.{pos, neg_ℤ, ◌+ℤ◌, ◌-ℤ◌, ◌*ℤ◌, mul-pos, All, Contains, filter_map, ints, clamps, Dec, number, size, Ratio, times}
-use Rattle.flow_equations.proofs.Common.{Fraction, den, whole, signed, negated, IsOver, with_sign, ExactFlow, minus, greater, IsOver-plus, IsOver-times}
+use Rattle.flow_equations.proofs.Common.{Fraction, den, whole, as_fraction, opposite, IsOver, with_sign, ExactFlow, minus, greater, IsOver-plus, IsOver-times}
 use Rattle.flow_equations.proofs.Common.{IsOver-minus, IsOver-negated, IsOver-none, IsOver-signed, IsOver-greater, same_over, FlowModel, Entry, Well}
 use Rattle.flow_equations.proofs.Common.{place_in_layer, dec_at, area, IsPositive, period_at, EvapSource, is_chosen, evap_conductance, FlowSource}
 use Rattle.flow_equations.proofs.Common.{local_entries, as_well, All-In, map-In, filter_map-In, Contains-In, exact_flow, exact_evap, recharge_of}
@@ -43,7 +43,7 @@ module _ (m : FlowModel) (p n : ℕ) (old : ℕ → Fraction) (c : ℕ) where
   }
 
 -- a number of the input that is above 0 is its magnitude
-as_size : (d : Dec) → d.neg ≡ false → number d ≡ signed (size d)
+as_size : (d : Dec) → d.neg ≡ false → number d ≡ as_fraction (size d)
 as_size d e = λ i. record { num = with_sign (e i) (size d).num; less = (size d).less }
 
 module _ (m : FlowModel) (c : ℕ) (x : EvapSource) (h : IsPositive x.depth) where
@@ -66,7 +66,7 @@ module _ (m : FlowModel) (c : ℕ) (x : EvapSource) (h : IsPositive x.depth) whe
   D = den s * ratio_den deep
 
   surface_over : IsOver D s (s.num *ℤ pos (ratio_den deep))
-  surface_over = over_first s (signed deep)
+  surface_over = over_first s (as_fraction deep)
 
   depth_over : IsOver D (number x.depth) (pos (deep.num * den s))
   depth_over = subst (λ (f : Fraction). IsOver D f (pos (deep.num * den s))) (sym (as_size x.depth h.sign)) (record { is = ap pos (turn deep.num (den s) (ratio_den deep)) })
@@ -75,23 +75,23 @@ module _ (m : FlowModel) (c : ℕ) (x : EvapSource) (h : IsPositive x.depth) whe
       turn n a b = omega arith
 
   -- the surface less the extinction elevation is the extinction depth
-  room_over : IsOver D (greater (minus s (plus s (negated (number x.depth)))) (whole (pos 0))) (pos (deep.num * den s))
-  room_over = subst (λ (z : ℤ). IsOver D (greater (minus s (plus s (negated (number x.depth)))) (whole (pos 0))) z) (room (s.num *ℤ pos (ratio_den deep)) (deep.num * den s))
-      (IsOver-greater D _ _ _ _ (IsOver-minus D s (plus s (negated (number x.depth))) _ _ surface_over (IsOver-plus D s (negated (number x.depth)) _ _ surface_over (IsOver-negated D (number x.depth) _ depth_over))) (IsOver-none D))
+  room_over : IsOver D (greater (minus s (plus s (opposite (number x.depth)))) (whole (pos 0))) (pos (deep.num * den s))
+  room_over = subst (λ (z : ℤ). IsOver D (greater (minus s (plus s (opposite (number x.depth)))) (whole (pos 0))) z) (room (s.num *ℤ pos (ratio_den deep)) (deep.num * den s))
+      (IsOver-greater D _ _ _ _ (IsOver-minus D s (plus s (opposite (number x.depth))) _ _ surface_over (IsOver-plus D s (opposite (number x.depth)) _ _ surface_over (IsOver-negated D (number x.depth) _ depth_over))) (IsOver-none D))
     where
       room : (a : ℤ) (n : ℕ) → int_max (a -ℤ (a +ℤ neg_ℤ (pos n))) (pos 0) ≡ pos n
       room a n = omega (arith, ints, clamps)
 
   abbrev full : Fraction
-  full = product (signed C) (greater (minus s (plus s (negated (number x.depth)))) (whole (pos 0)))
+  full = product (as_fraction C) (greater (minus s (plus s (opposite (number x.depth)))) (whole (pos 0)))
 
   abbrev taken : ℕ
   taken = C.num * (deep.num * den s)
 
   full_over : IsOver (ratio_den C * D) full (pos taken)
-  full_over = IsOver-times (ratio_den C) D (signed C) (greater (minus s (plus s (negated (number x.depth)))) (whole (pos 0))) (pos C.num) (pos (deep.num * den s)) (IsOver-signed (ratio_den C) C C.num (own_share C)) room_over
+  full_over = IsOver-times (ratio_den C) D (as_fraction C) (greater (minus s (plus s (opposite (number x.depth)))) (whole (pos 0))) (pos C.num) (pos (deep.num * den s)) (IsOver-signed (ratio_den C) C C.num (own_share C)) room_over
 
-  rates_over : IsOver (ratio_den C * D) (signed rates) (pos taken)
+  rates_over : IsOver (ratio_den C * D) (as_fraction rates) (pos taken)
   rates_over = IsOver-signed (ratio_den C * D) rates taken (record { is = (λ i. rates.num * (value.bottom i * D)) ∙ turn rates.num (ratio_den rates) deep.num (den s) (ratio_den deep) ∙ (λ i. (sym value.num i * (deep.num * den s)) * ratio_den rates) })
     where
       turn : (r d n s z : ℕ) → r * ((d * n) * (s * z)) ≡ ((r * z) * (n * s)) * d
@@ -100,8 +100,8 @@ module _ (m : FlowModel) (c : ℕ) (x : EvapSource) (h : IsPositive x.depth) whe
   some : 0 < ratio_den C * D
   some = mul-pos (omega arith) (mul-pos (omega arith) (omega arith))
 
-  greatest_rate : Same (negated full) (negated (signed rates))
-  greatest_rate = same_over (ratio_den C * D) _ _ _ _ some (IsOver-negated (ratio_den C * D) full _ full_over) (IsOver-negated (ratio_den C * D) (signed rates) _ rates_over) refl
+  greatest_rate : Same (opposite full) (opposite (as_fraction rates))
+  greatest_rate = same_over (ratio_den C * D) _ _ _ _ some (IsOver-negated (ratio_den C * D) full _ full_over) (IsOver-negated (ratio_den C * D) (as_fraction rates) _ rates_over) refl
 
   pub evaporates_by_depth : (p n : ℕ) (old : ℕ → Fraction) (v : Fraction) → Evaporates m c v x (exact_evap m p n old c x)
   evaporates_by_depth p n old v =

@@ -1,8 +1,8 @@
 -- Time steps of a transient period: they grow by TSMULT from the manual's first one, and sum to the period.
 use Rattle.flow_equations.proofs.Common.{◌≡◌, ℕ, zero, suc, ◌+◌, ◌*◌, ◌-◌, ◌<◌, ◌≤◌, Bool, true, false, cond, ◌||◌, List, [], ◌∷◌, ◌++◌, refl, sym, ap, arith}
 use Rattle.flow_equations.proofs.Common.{mul-pos, ◌==◌, range_with_len, eqb-true, ne_eqb, size, Ratio, ratio, plus, times, over, Same, Same-trans, Same-self}
-use Rattle.flow_equations.proofs.Common.{Same-of, plus-Same, times-Same, over-Same, FlowModel, Period, one, power, geometric, step_length, multiplier, passed}
-use Rattle.flow_equations.proofs.Common.{storage, storage_capacity, range_more, ratio_total, Lasts, HasManualSteps, add-sub_cancel_left}
+use Rattle.flow_equations.proofs.Common.{Same-of, plus-Same, times-Same, over-Same, FlowModel, Period, one, power, geometric, step_length, multiplier}
+use Rattle.flow_equations.proofs.Common.{part_passed, storage, storage_capacity, range_more, ratio_total, Lasts, HasManualSteps, add-sub_cancel_left}
 use Rattle.decimal_input.specs.Ratios.{den}
 use Rattle.model_types.proofs.Growth.{power-positive, horner}
 use Rattle.flow_equations.proofs.Downwards.{IsValue, itself, value_one, value_times, value_plus, value_over, same_by, size_positive}
@@ -130,17 +130,17 @@ module _ (p : Period) (h : Lasts p) where
   lasts : (p.perlen.digits == 0) ≡ false
   lasts = ne_eqb p.perlen.digits 0 (λ e. omega (arith, e, h.perlen.positive))
 
-  part_is : (n : ℕ) (b : Bool) → (n == p.nstp) ≡ b → Same (over (times P (G n)) (G p.nstp)) (times (passed p n) P)
-  unfolding passed
+  part_is : (n : ℕ) (b : Bool) → (n == p.nstp) ≡ b → Same (over (times P (G n)) (G p.nstp)) (times (part_passed p n) P)
+  unfolding part_passed
   part_is n true e =
       let here : n ≡ p.nstp = eqb-true n p.nstp e in
-      let all : passed p n ≡ one = ap (λ c. cond (c || p.perlen.digits == 0) one (over (geometric (multiplier p) n) (geometric (multiplier p) p.nstp))) e in
+      let all : part_passed p n ≡ one = ap (λ c. cond (c || p.perlen.digits == 0) one (over (geometric (multiplier p) n) (geometric (multiplier p) p.nstp))) e in
       Same-trans (Same-of (ap (λ k. over (times P (G k)) (G p.nstp)) here))
       (Same-trans (all_of_it P (G p.nstp) whole_sum)
       (Same-trans (same_by (itself P) (value_times value_one (itself P)) (omega arith)) (Same-of (ap (λ f. times f P) (sym all)))))
   part_is n false e =
       let transient : multiplier p ≡ T = ap (λ s. cond s one T) h.transient in
-      let some : passed p n ≡ over (G n) (G p.nstp) =
+      let some : part_passed p n ≡ over (G n) (G p.nstp) =
       (λ i. cond (e i || lasts i) one (over (geometric (transient i) n) (geometric (transient i) p.nstp))) in
       Same-trans (as_part P (G p.nstp) whole_sum (G n)) (Same-of (ap (λ f. times f P) (sym some)))
 

@@ -1,7 +1,7 @@
 -- Flows over branches change their sign with the heads.
-use Rattle.flow_equations.proofs.Common.{◌≡◌, ℕ, ◌*◌, ◌<◌, sym, arith, ℤ, pos, neg_ℤ, ◌-ℤ◌, ◌*ℤ◌, mul-pos, ints, Ratio, Fraction, den, signed, negated, IsOver}
-use Rattle.flow_equations.proofs.Common.{IsShare, diffs, as_diff, same_diff, mul_assoc, minus, IsOver-times, IsOver-minus, IsOver-negated, IsOver-signed}
-use Rattle.flow_equations.proofs.Common.{same_over, FlowsChangeSign, mul_neg}
+use Rattle.flow_equations.proofs.Common.{◌≡◌, ℕ, ◌*◌, ◌<◌, sym, arith, ℤ, pos, neg_ℤ, ◌-ℤ◌, ◌*ℤ◌, mul-pos, ints, Ratio, Fraction, den, as_fraction, opposite}
+use Rattle.flow_equations.proofs.Common.{IsOver, IsShare, diffs, as_diff, same_diff, mul_assoc, minus, IsOver-times, IsOver-minus, IsOver-negated}
+use Rattle.flow_equations.proofs.Common.{IsOver-signed, same_over, FlowsChangeSign, mul_neg}
 use Rattle.decimal_input.specs.Ratios.{den as ratio_den}
 use Rattle.decimal_input.specs.Fractions.{times, Same}
 
@@ -19,8 +19,8 @@ pub own_share : (r : Ratio) → IsShare (ratio_den r) r r.num
 own_share r = record { is = omega arith }
 
 -- C * (f - g) over one denominator
-flow_over : (r : Ratio) (m : ℕ) (f g : Fraction) (a b : ℤ) → IsOver m f a → IsOver m g b → IsOver (ratio_den r * m) (times (signed r) (minus f g)) (pos r.num *ℤ (a -ℤ b))
-flow_over r m f g a b p q = IsOver-times (ratio_den r) m (signed r) (minus f g) (pos r.num) (a -ℤ b) (IsOver-signed (ratio_den r) r r.num (own_share r)) (IsOver-minus m f g a b p q)
+flow_over : (r : Ratio) (m : ℕ) (f g : Fraction) (a b : ℤ) → IsOver m f a → IsOver m g b → IsOver (ratio_den r * m) (times (as_fraction r) (minus f g)) (pos r.num *ℤ (a -ℤ b))
+flow_over r m f g a b p q = IsOver-times (ratio_den r) m (as_fraction r) (minus f g) (pos r.num) (a -ℤ b) (IsOver-signed (ratio_den r) r r.num (own_share r)) (IsOver-minus m f g a b p q)
 
 module _ (r : Ratio) (f g : Fraction) where
   abbrev m : ℕ
@@ -36,18 +36,18 @@ module _ (r : Ratio) (f g : Fraction) where
   some = mul-pos (omega arith) (mul-pos (omega arith) (omega arith))
 
   abbrev flow : Fraction
-  flow = times (signed r) (minus f g)
+  flow = times (as_fraction r) (minus f g)
 
-  whole : IsOver (ratio_den r * m) (negated flow) (neg_ℤ (pos r.num *ℤ (a -ℤ b)))
+  whole : IsOver (ratio_den r * m) (opposite flow) (neg_ℤ (pos r.num *ℤ (a -ℤ b)))
   whole = IsOver-negated (ratio_den r * m) flow (pos r.num *ℤ (a -ℤ b)) (flow_over r m f g a b (over_first f g) (over_second f g))
 
-  pub signs_turned : Same (times (signed r) (minus (negated f) (negated g))) (negated flow)
-  signs_turned = same_over (ratio_den r * m) _ _ _ _ some (flow_over r m (negated f) (negated g) (neg_ℤ a) (neg_ℤ b) (IsOver-negated m f a (over_first f g)) (IsOver-negated m g b (over_second f g))) whole (turned (pos r.num) a b)
+  pub signs_turned : Same (times (as_fraction r) (minus (opposite f) (opposite g))) (opposite flow)
+  signs_turned = same_over (ratio_den r * m) _ _ _ _ some (flow_over r m (opposite f) (opposite g) (neg_ℤ a) (neg_ℤ b) (IsOver-negated m f a (over_first f g)) (IsOver-negated m g b (over_second f g))) whole (turned (pos r.num) a b)
     where
       turned : (c a b : ℤ) → c *ℤ (neg_ℤ a -ℤ neg_ℤ b) ≡ neg_ℤ (c *ℤ (a -ℤ b))
       turned c a b = let e : neg_ℤ a -ℤ neg_ℤ b ≡ neg_ℤ (a -ℤ b) = omega (arith, ints) in rw e (mul_neg c (a -ℤ b))
 
-  pub ends_turned : Same (times (signed r) (minus g f)) (negated flow)
+  pub ends_turned : Same (times (as_fraction r) (minus g f)) (opposite flow)
   ends_turned = same_over (ratio_den r * m) _ _ _ _ some (flow_over r m g f b a (over_second f g) (over_first f g)) whole (turned (pos r.num) a b)
     where
       turned : (c a b : ℤ) → c *ℤ (b -ℤ a) ≡ neg_ℤ (c *ℤ (a -ℤ b))

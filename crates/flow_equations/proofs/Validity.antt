@@ -1,10 +1,10 @@
 -- The worked models meet what readers promise of a model, so that something meets it.
 use Rattle.flow_equations.proofs.Common.{◌≡◌, ℕ, suc, ◌*◌, ◌%◌, ◌^◌, ◌<◌, ◌≤◌, ◌⊎◌, inl, inr, Bool, true, false, ℤ, pos, negsuc, List, [], ◌∷◌, length, refl}
 use Rattle.flow_equations.proofs.Common.{sym, ◌∙◌, subst, arith, ints, replicate, nat_lt, cond-true, le-leb, cases_lt, length-replicate, get_or-replicate, Dec}
-use Rattle.flow_equations.proofs.Common.{IsDec, scaled, ratio, FlowModel, Period, Entry, Well, no_number, dec_at, top_at, bottom_at, IsPositive, IsNotNegative}
-use Rattle.flow_equations.proofs.Common.{IsHeadNumber, IsThick, IsGrid, no_stresses, decimal, below_zero, cell, row_of_cells, period_with, row_model}
-use Rattle.flow_equations.proofs.Common.{three_cells, idle_wells, one_cell, two_cells, AreStresses, IsModel, IsPeriod, IsTimed, IsCellValid, IsEntryList}
-use Rattle.flow_equations.proofs.Common.{IsEntryValid}
+use Rattle.flow_equations.proofs.Common.{IsDec, scaled_ratio, ratio, FlowModel, Period, Entry, Well, no_number, dec_at, top_at, bottom_at, IsPositive}
+use Rattle.flow_equations.proofs.Common.{IsNotNegative, IsHeadNumber, IsThick, IsGrid, no_stresses, decimal, below_zero, cell, row_of_cells, period_with}
+use Rattle.flow_equations.proofs.Common.{row_model, three_cells, idle_wells, one_cell, two_cells, AreStresses, IsModel, IsPeriod, IsTimed, IsCellValid}
+use Rattle.flow_equations.proofs.Common.{IsEntryList, IsEntryValid}
 use Rattle.std.proofs.Common.{All}
 use Rattle.std.proofs.Math.ListN.{get_or-eq_default}
 use Rattle.std.proofs.lemmas.List.Elements.{All-nil, All-cons, All-replicate}
@@ -23,23 +23,23 @@ one_positive : IsPositive (decimal 1 0)
 one_positive = record { decimal = one_dec; sign = refl; positive = omega arith }
 
 zero_head : IsHeadNumber no_number
-unfolding scaled ratio
+unfolding scaled_ratio ratio
 zero_head = record { decimal = zero_dec; range = record { lower = omega (arith, ints); upper = omega (arith, ints) } }
 
 ten_head : IsHeadNumber (decimal 1 1)
-unfolding scaled ratio
+unfolding scaled_ratio ratio
 ten_head = record { decimal = is_dec false 1 1 (omega arith) (omega arith) (omega arith) (omega arith); range = record { lower = omega (arith, ints); upper = omega (arith, ints) } }
 
 twenty_head : IsHeadNumber (decimal 2 1)
-unfolding scaled ratio
+unfolding scaled_ratio ratio
 twenty_head = record { decimal = is_dec false 2 1 (omega arith) (omega arith) (omega arith) (omega arith); range = record { lower = omega (arith, ints); upper = omega (arith, ints) } }
 
 no_flow_head : IsHeadNumber (below_zero 999)
-unfolding scaled ratio
+unfolding scaled_ratio ratio
 no_flow_head = record { decimal = is_dec true 999 0 (omega arith) (omega arith) (omega arith) (omega arith); range = record { lower = omega (arith, ints); upper = omega (arith, ints) } }
 
 pub unit_thick : IsThick (decimal 1 0) no_number
-unfolding scaled ratio
+unfolding scaled_ratio ratio
 unit_thick = record {
   floor = pos (10 ^ 18);
   ceiling = pos 0;

@@ -1,6 +1,6 @@
 -- What recharge and evapotranspiration owe to the manual (TM 6-A16, chapter 6, RCH and EVT).
 use Rattle.std.specs.Prelude.{◌≡◌, ℕ, suc, ℤ, pos, List, All, Contains, true, false, map}
-use Rattle.decimal_input.specs.{number, size, Fraction, signed, negated}
+use Rattle.decimal_input.specs.{number, size, Fraction, as_fraction, opposite}
 use Rattle.decimal_input.specs.Ratios.{times}
 use Rattle.decimal_input.specs.Fractions.{times as product, AtMost, Same}
 use Rattle.step_problem.specs.declared.entry.FlowKind.TheVariants.{Wells, Recharge}
@@ -21,7 +21,7 @@ pub record ChoosesOneCell (m : FlowModel) (layers : List ℤ) : Type 0 where
 
 -- the recharge of a cell in a period: RECH * DELR * DELC
 abbrev pub recharge_of : FlowModel → ℕ → ℕ → Fraction
-recharge_of m p c = product (number (dec_at (period_at m p).stresses.recharge (place_in_layer m.grid c))) (signed (area m c))
+recharge_of m p c = product (number (dec_at (period_at m p).stresses.recharge (place_in_layer m.grid c))) (as_fraction (area m c))
 
 -- The cell that the option chooses receives its rate times its area, and no other cell receives recharge.
 pub record ReceivesRecharge (m : FlowModel) (p n : ℕ) (old : ℕ → Fraction) (c : ℕ) : Type 0 where
@@ -31,7 +31,7 @@ pub record ReceivesRecharge (m : FlowModel) (p n : ℕ) (old : ℕ → Fraction)
 
 -- Evapotranspiration takes EVTR * DELR * DELC where the head is at SURF or above, and nothing where it is at SURF - EXDP or below.
 pub record Evaporates (m : FlowModel) (c : ℕ) (v : Fraction) (x : EvapSource) (e : ExactEvap) : Type 0 where
-  pub above : AtMost (number x.surface) v → Same (evap_flow v e) (negated (signed (times (size x.rate) (area m c))))
+  pub above : AtMost (number x.surface) v → Same (evap_flow v e) (opposite (as_fraction (times (size x.rate) (area m c))))
   pub below : AtMost v (minus (number x.surface) (number x.depth)) → (evap_flow v e).num ≡ pos 0
 
 abbrev pub TakesEvapotranspiration : FlowModel → Type 0

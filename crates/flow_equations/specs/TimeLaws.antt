@@ -5,7 +5,7 @@ use Rattle.decimal_input.specs.{size, Ratio, ratio, over}
 use Rattle.decimal_input.specs.Ratios.{plus, times, Same}
 use Rattle.model_types.specs.declared.model.FlowModel.{FlowModel}
 use Rattle.model_types.specs.declared.period.Period.{Period}
-use Rattle.model_types.specs.{dec_at, area, thickness, IsPositive, one, power, step_length, passed, storage, storage_capacity}
+use Rattle.model_types.specs.{dec_at, area, thickness, IsPositive, one, power, step_length, part_passed, storage, storage_capacity}
 
 -- the sum of f over a list
 abbrev pub ratio_total : (ℕ → Ratio) → List ℕ → Ratio
@@ -34,7 +34,7 @@ pub record HasManualSteps (p : Period) : Type 0 where
   -- all steps together are the period
   pub whole : Same (ratio_total (step_length p) (range_with_len 1 p.nstp)) (size p.perlen)
   -- the steps up to the n-th are the part F of it
-  pub part : (n : ℕ) → 1 ≤ n → n ≤ p.nstp → Same (ratio_total (step_length p) (range_with_len 1 n)) (times (passed p n) (size p.perlen))
+  pub part : (n : ℕ) → 1 ≤ n → n ≤ p.nstp → Same (ratio_total (step_length p) (range_with_len 1 n)) (times (part_passed p n) (size p.perlen))
 
 abbrev pub StepsAreTheManuals : Type 0
 StepsAreTheManuals = (p : Period) → Lasts p → HasManualSteps p

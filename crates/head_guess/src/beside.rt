@@ -88,7 +88,7 @@ fn halves_at_once<R: Threads>(
 
 /// A guess as `guess_heads` makes it, with both sides in two threads: a few rounds of Newton's method for the lower side lead near the
 /// balanced heads of both.
-pub fn guess_beside<'a, R: Threads>(
+pub fn guess_in_two_threads<'a, R: Threads>(
     rt: &R,
     alloc: Global,
     p: &'a Problem,

@@ -30,7 +30,7 @@ mod steps;
 mod system;
 mod work;
 
-pub use beside::guess_beside;
+pub use beside::guess_in_two_threads;
 pub use guess::{Guess, guess_heads};
 pub use pair::guess_pair;
 pub use steps::Kept;

@@ -82,8 +82,8 @@ module _ (side : Side) (p : List Entries) where
       AsTight (IsAsTight side) (Moves side p) (length p) edge m → IsAsTight side x (m c)
 
 -- the bounds are no tighter than any settled heads past the barrier
-abbrev pub AreHeld : List Entries → Edges → List Bound → Type 0
-AreHeld p b bounds = (side : Side) (c : ℕ) → c < length p → IsNoTighterThanSettled side p (edge_on side b) c (heads_on side bounds c)
+abbrev pub AreNoTighterThanSettled : List Entries → Edges → List Bound → Type 0
+AreNoTighterThanSettled p b bounds = (side : Side) (c : ℕ) → c < length p → IsNoTighterThanSettled side p (edge_on side b) c (heads_on side bounds c)
 
 -- What each step of a seat ensures: the word that it found, and what the seat has then seen.
 abbrev Sat : Type 0

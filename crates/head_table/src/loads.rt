@@ -3,7 +3,7 @@ ghost use Rattle.std.specs.Prelude.{◌≡◌, ◌<◌, length, ◌≤ℤ◌};
 ghost use Rattle.step_problem.specs.declared.heads.Side.TheVariants.{Low, High};
 ghost use Rattle.cell_relax.specs.{AreNoLooser, IsAsTight, other};
 ghost use Rattle.relax_core.specs.{edge_on};
-ghost use Rattle.head_table.specs.{AreHeld, IsNoTighterThanSettled, IsSeatOf, SameOn, SameOnBut, ShowsSeen, barrier_of, seen_of, seen_on};
+ghost use Rattle.head_table.specs.{AreNoTighterThanSettled, IsNoTighterThanSettled, IsSeatOf, SameOn, SameOnBut, ShowsSeen, barrier_of, seen_of, seen_on};
 
 use crate::coding::{head_from_word, word_of};
 use crate::known::Look;
@@ -72,7 +72,7 @@ impl<'a> HeadTable<'a> {
         requires len { length bounds.old ≡ length self.now.problem.now }
         ensures seat { IsSeatOf self.now seat.new }
         ensures shown { ShowsSeen self.now.problem.now seat.new bounds.new }
-        ensures held { AreHeld self.now.problem.now (barrier_of self.now) bounds.new }
+        ensures held { AreNoTighterThanSettled self.now.problem.now (barrier_of self.now) bounds.new }
         ensures no_looser { AreNoLooser self.now.problem.now (seen_of seat.old) (seen_of seat.new) }
     {
         for cell in 0..bounds.len() {

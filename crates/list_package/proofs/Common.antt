@@ -10,7 +10,8 @@ pub use Rattle.array_reader.specs.{integer, number, number_at}
 pub use Rattle.decimal_input.specs.{IsDec}
 pub use Rattle.decimal_input.specs.declared.dec.Dec.{Dec}
 pub use Rattle.list_package.specs.{Differ, IsEntry, IsListOf, Kind, ListsKeepLimits, column_fault, columns_of, count_of, entries_in, entry_with, first_fault}
-pub use Rattle.list_package.specs.{given_heads, has_parameters, is_left_out, is_reused, kind_of, list_of, no_marks, or_later, passed, with_entries, with_list}
+pub use Rattle.list_package.specs.{given_heads, has_parameters, is_left_out, is_reused, kind_of, list_of, no_marks, or_later, test_result, with_entries}
+pub use Rattle.list_package.specs.{with_list}
 unfoldable pub use Rattle.list_package.specs.{cell_at, entry_at, entry_of, header_of, item_line, list_at, lists_of, new_list, period_at, periods_of}
 pub use Rattle.model_types.specs.{HasSize, IsEntryList, IsEntryValid, IsGivenList, IsGivenValid, IsHeadNumber, IsNotNegative, cell_count, most_entries}
 pub use Rattle.model_types.specs.declared.grid.CellId.{CellId}
@@ -23,5 +24,5 @@ pub use Rattle.outside.specs.declared.codes.Code.TheVariants.{CellOutside, HeadT
 pub use Rattle.outside.specs.declared.inputs.Refusal.{Refusal}
 pub use Rattle.record_lines.proofs.Loops.{each_done, each_goes_on, ends_all, ends_text, is_done, stops_all, with_front}
 pub use Rattle.record_lines.proofs.Readings.{done, goes_on, if_clear, if_passed, refused, repeated_are, repeated_gives, then_, weaker}
-pub use Rattle.record_lines.specs.{GivesOnly, Left, Numbered, Stops, StopsText, begins_with, left_from, line_at, repeated, without_comments}
+pub use Rattle.record_lines.specs.{GivesOnly, Left, Numbered, Stops, StopsText, begins_with, left_from, line_at, repeated_reading, without_comments}
 unfoldable pub use Rattle.record_lines.specs.{for_each}

@@ -1,16 +1,16 @@
 -- What is read of the entries of a list.
 use Rattle.list_package.proofs.Common.{integer, number, number_at, done, goes_on, if_clear, refused, repeated_are, repeated_gives, then_, weaker, GivesOnly}
-use Rattle.list_package.proofs.Common.{IsDec, Dec, Differ, IsEntry, Kind, cell_at, entry_at, entry_of, first_fault, is_left_out, new_list, no_marks, passed}
-use Rattle.list_package.proofs.Common.{HasSize, cell_count, most_entries, CellId, Grid, Limits, refusal, words, Code, CellOutside, Left, line_at, All, Bool}
-use Rattle.list_package.proofs.Common.{List, None, Option, Some, [], ap, arith, cond, false, get_or, length, refl, set, suc, sym, true, ℕ, ℤ, ◌-◌, ◌<◌, ◌∙◌}
-use Rattle.list_package.proofs.Common.{◌∷◌, ◌≡◌, ◌≤◌, All-cons, All-nil, AllPairs, get_or-set_other, get_or-set_same, length-replicate, length-set}
+use Rattle.list_package.proofs.Common.{IsDec, Dec, Differ, IsEntry, Kind, cell_at, entry_at, entry_of, first_fault, is_left_out, new_list, no_marks}
+use Rattle.list_package.proofs.Common.{test_result, HasSize, cell_count, most_entries, CellId, Grid, Limits, refusal, words, Code, CellOutside, Left, line_at}
+use Rattle.list_package.proofs.Common.{All, Bool, List, None, Option, Some, [], ap, arith, cond, false, get_or, length, refl, set, suc, sym, true, ℕ, ℤ, ◌-◌}
+use Rattle.list_package.proofs.Common.{◌<◌, ◌∙◌, ◌∷◌, ◌≡◌, ◌≤◌, All-cons, All-nil, AllPairs, get_or-set_other, get_or-set_same, length-replicate, length-set}
 use Rattle.array_text.proofs.ArrayForms.{item_is}
 use Rattle.array_text.proofs.NumberForms.{number_is}
 use Rattle.std.proofs.lemmas.List.Kept.{AllPairs-cons}
 use Rattle.model_types.proofs.Numbering.{cell_within}
 use Rattle.dis_package.proofs.FrameForms.{within_is}
 
-passed_is : (o : Option Code) (file : List ℕ) (line : ℕ) → GivesOnly (λ u. o ≡ None) (passed o file line)
+passed_is : (o : Option Code) (file : List ℕ) (line : ℕ) → GivesOnly (λ u. o ≡ None) (test_result o file line)
 passed_is None file line = done refl
 passed_is (Some code) file line = refused
 

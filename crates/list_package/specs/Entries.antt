@@ -5,7 +5,7 @@ use Rattle.outside.specs.{refusal, words}
 use Rattle.outside.specs.declared.codes.Code.{Code}
 use Rattle.outside.specs.declared.codes.Code.TheVariants.{OutOfProfile, CellOutside, BadProperty}
 use Rattle.outside.specs.declared.inputs.Refusal.{Refusal}
-use Rattle.record_lines.specs.{begins_with, line_at, Left, ◌>>=◌, repeated, left_from, without_comments, for_each}
+use Rattle.record_lines.specs.{begins_with, line_at, Left, ◌>>=◌, repeated_reading, left_from, without_comments, for_each}
 use Rattle.array_reader.specs.{number_at, integer, number}
 use Rattle.model_types.specs.declared.grid.Grid.{Grid}
 use Rattle.model_types.specs.declared.grid.CellId.{CellId}
@@ -31,9 +31,9 @@ cell_at file line grid layer row col = do
   j ← inside (within col grid.cols) (refusal CellOutside file line)
   Ok (record { 0 = cell_number grid (k - 1) (i - 1) (j - 1) })
 
-abbrev pub passed : Option Code → List ℕ → ℕ → Result (Unit {0}) Refusal
-passed None file line = Ok tt
-passed (Some code) file line = Err (refusal code file line)
+abbrev pub test_result : Option Code → List ℕ → ℕ → Result (Unit {0}) Refusal
+test_result None file line = Ok tt
+test_result (Some code) file line = Err (refusal code file line)
 
 -- The entry that the words of a line make, with its cell. All words are read; then the cell is tested, then the
 -- numbers. Last, in a list that may name a cell at most once, the cell must not be marked.
@@ -42,9 +42,9 @@ entry_of kind file line grid marks words = do
   layer ← number_at integer file line words
   row ← number_at integer file line layer.1
   col ← number_at integer file line row.1
-  numbers ← repeated (length kind.columns) (number_at number file line) col.1
+  numbers ← repeated_reading (length kind.columns) (number_at number file line) col.1
   cell ← cell_at file line grid layer.0 row.0 col.0
-  tested ← passed (first_fault kind.columns numbers.0) file line
+  tested ← test_result (first_fault kind.columns numbers.0) file line
   if slice_index_or marks cell.0 false then Err (refusal BadProperty file line) else Ok (kind.entry cell numbers.0, cell)
 
 -- a line in place of entries that this program doesn't read
@@ -67,7 +67,7 @@ without_marks read = read >>= λ x. Ok (x.0, x.1.1)
 
 -- a list of this many entries
 unfoldable pub new_list : {E : Type 0} → Kind E → List ℕ → Grid → ℕ → Left → Result (List E × Left) Refusal
-new_list kind file grid n left = without_marks (repeated n (entry_at kind file grid) (no_marks kind grid, left))
+new_list kind file grid n left = without_marks (repeated_reading n (entry_at kind file grid) (no_marks kind grid, left))
 
 -- Time-variant specified heads: Shead Ehead after Layer Row Column (TM 6-A16, CHD). That a list names a cell at most
 -- once, and the rule of growing steps, are this program's own.

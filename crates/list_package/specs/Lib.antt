@@ -2,7 +2,7 @@ pub mod Kinds
 pub mod Entries
 pub mod Headers
 pub mod Laws
-pub use Rattle.list_package.specs.Entries.{given_heads, is_growing, is_left_out, is_level, list_of, no_marks, passed, without_state}
+pub use Rattle.list_package.specs.Entries.{given_heads, is_growing, is_left_out, is_level, list_of, no_marks, test_result, without_state}
 unfoldable pub use Rattle.list_package.specs.Entries.{cell_at, entry_at, entry_of, list_at, lists_of, new_list, package_of, period_at, periods_of}
 pub use Rattle.list_package.specs.Headers.{count_of, has_parameters, is_reused}
 unfoldable pub use Rattle.list_package.specs.Headers.{header_of, item_line}

@@ -1,7 +1,7 @@
 // The numbers of an entry after Layer Row Column.
 ghost use Rattle.std.specs.Prelude.{◌≡◌, IfOk, All, length};
 ghost use Rattle.decimal_input.specs.{IsDec};
-ghost use Rattle.record_lines.specs.{GivesText, repeated};
+ghost use Rattle.record_lines.specs.{GivesText, repeated_reading};
 ghost use Rattle.array_reader.specs.{number_at};
 ghost use Rattle.array_reader.specs.Numbers as spec;
 ghost use Rattle.list_package.specs.{column_fault, first_fault};
@@ -34,7 +34,7 @@ pub fn read_numbers(
     columns: &[Column],
     numbers: &mut Vec<Dec>,
 ) -> Result<(), TextFault>
-    ensures numbers { GivesText (λ _. numbers.new.items) result words.new (repeated (length columns.now) (number_at spec.number file.now line) words.old) }
+    ensures numbers { GivesText (λ _. numbers.new.items) result words.new (repeated_reading (length columns.now) (number_at spec.number file.now line) words.old) }
     ensures count { IfOk result (λ _. length numbers.new.items ≡ length columns.now) }
     ensures decimals { IfOk result (λ _. All IsDec numbers.new.items) }
 {

@@ -17,10 +17,10 @@ pub use Rattle.budget_bounds.specs.declared.pair.Budget.{Budget}
 pub use Rattle.budget_bounds.specs.declared.pair.TermPair.{TermPair}
 pub use Rattle.cell_balance.proofs.Zips.{AllZip-length, AllZip-right}
 pub use Rattle.decimal_input.proofs.Powers.{ten_pos}
-pub use Rattle.fixed_text.specs.{fixed_text, padded, sign}
+pub use Rattle.fixed_text.specs.{fixed_text, padded_digits, sign}
 pub use Rattle.listing_io.specs.{AreFlows, AreListed, AreTerms, AreZonePairs, Form, Has, HasDigits, IsCellBound, IsFlowPair, IsForm, IsListedAt, IsListedStep}
 pub use Rattle.listing_io.specs.{IsListing, IsPairIf, IsPairLine, IsTime, IsWritable, Left, Line, LinesReadExactly, ListingsAreApart, ListingsAreReadAgain}
-pub use Rattle.listing_io.specs.{ListingsWereWritten, Stops, all_lines, behind_word, bound_of, dir_front, each_lines, end_line, ended, first_line}
+pub use Rattle.listing_io.specs.{ListingsWereWritten, Stops, after_word, all_lines, bound_of, dir_front, each_lines, end_line, ended_line, first_line}
 pub use Rattle.listing_io.specs.{first_line_before, first_of, first_word, flow_form, flow_of, form_of, has_evt, head_form, head_front, head_if, head_line}
 pub use Rattle.listing_io.specs.{head_pair, is_first, is_negative, is_printed, is_within, line_at, model_line, none_of, numbers_text, or_refused, over_at}
 pub use Rattle.listing_io.specs.{pair_line, printed_terms, step_at, step_line, term_form, term_if, term_line, text_of, value_of, with_byte, zone_front}

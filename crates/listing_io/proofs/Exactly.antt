@@ -1,8 +1,8 @@
 -- Reading a line gives the numbers of which just this line is written.
 use Rattle.listing_io.proofs.Common.{◌≡◌, ℕ, ◌<◌, ◌≤◌, ◌^◌, Bool, true, false, ◌&&◌, List, [], ◌++◌, length, drop, codes, nat_abs, nat_le, refl, sym, ap, ◌∙◌}
 use Rattle.listing_io.proofs.Common.{arith, Some, zero, suc, ◌+◌, ◌-◌, ◌/◌, ◌%◌, ◌==◌, ◌∷◌, take, replicate, decimal, add-one, ℤ, pos, negsuc, not, drop_at}
-use Rattle.listing_io.proofs.Common.{append-nil, take_at, bytes_eq, bytes_eq-Decides, fixed_text, padded, sign, TermPair, digits_behind, value_of, Form}
-use Rattle.listing_io.proofs.Common.{pair_line, is_within, first_word, behind_word, candidate, pair_in, IsPairLine, IsForm, LinesReadExactly, nat_tests, ◌⊎◌}
+use Rattle.listing_io.proofs.Common.{append-nil, take_at, bytes_eq, bytes_eq-Decides, fixed_text, padded_digits, sign, TermPair, digits_behind, value_of, Form}
+use Rattle.listing_io.proofs.Common.{pair_line, is_within, first_word, after_word, candidate, pair_in, IsPairLine, IsForm, LinesReadExactly, nat_tests, ◌⊎◌}
 use Rattle.listing_io.proofs.Common.{inl, inr, IsWritable, FlowModel, model_line, numbers_text, AllByRecursion, decimal_is_IsNumeral_wide, position_or_len}
 use Rattle.listing_io.proofs.Common.{list_all, AllDigits, ten_pos}
 use Rattle.std.specs.Fmt.{signed_decimal}
@@ -52,7 +52,7 @@ module _ (b : ℕ) (apart : IsApart b) where
   pub decimal_without : (n : ℕ) → n < 10 ^ 64 → Without b (decimal n)
   decimal_without n h = let (numeral, value) = decimal_is_IsNumeral_wide n h in digits_without (decimal n) numeral.1
 
-  padded_without : (k r : ℕ) → r < 10 ^ 64 → Without b (padded k r)
+  padded_without : (k r : ℕ) → r < 10 ^ 64 → Without b (padded_digits k r)
   padded_without k r h = Without-append b (replicate (k - length (decimal r)) 48) (decimal r) (zeros_without (k - length (decimal r))) (decimal_without r h)
 
   sign_without : (z : ℤ) → Without b (sign z)
@@ -62,7 +62,7 @@ module _ (b : ℕ) (apart : IsApart b) where
   pub fixed_without : (k : ℕ) (z : ℤ) → nat_abs z < 10 ^ 64 → Without b (fixed_text k z)
   fixed_without k z h =
       let p = ten_pos k in
-      Without-append b (sign z ++ decimal (nat_abs z / 10 ^ k) ++ codes ".") (padded k (nat_abs z % 10 ^ k))
+      Without-append b (sign z ++ decimal (nat_abs z / 10 ^ k) ++ codes ".") (padded_digits k (nat_abs z % 10 ^ k))
       (Without-append b (sign z ++ decimal (nat_abs z / 10 ^ k)) (codes ".")
       (Without-append b (sign z) (decimal (nat_abs z / 10 ^ k)) (sign_without z) (decimal_without (nat_abs z / 10 ^ k) (quotient_less (nat_abs z) (10 ^ k) (10 ^ 64) p h)))
       (other_byte b 46 apart (omega arith) (omega arith), tt))
@@ -101,7 +101,7 @@ drop_past : (xs ys : List ℕ) (b : ℕ) → drop (suc (length xs)) (xs ++ (b �
 drop_past [] ys b = refl
 drop_past (x ∷ xs) ys b = drop_past xs ys b
 
-pub behind_word_is : (xs ys : List ℕ) → NoBlank xs → behind_word (xs ++ (32 ∷ ys)) ≡ ys
+pub behind_word_is : (xs ys : List ℕ) → NoBlank xs → after_word (xs ++ (32 ∷ ys)) ≡ ys
 behind_word_is xs ys h = ap (λ (n : ℕ). drop n (xs ++ (32 ∷ ys))) (ap (λ (n : ℕ). n + 1) (place_is xs ys h) ∙ add-one (length xs)) ∙ drop_past xs ys 32
 
 no_more : (m : ℕ) → digits_behind m [] ≡ m
@@ -121,7 +121,7 @@ candidate_is front f p good lo hi =
     let wide_hi = fits_wide (nat_abs p.hi) f.limit good.small hi in
     let blank = NoBlank-fixed f.places p.lo wide_lo in
     let first : value_of (first_word (drop (length front) (front ++ rest))) ≡ p.lo = ap (λ (t : List ℕ). value_of (first_word t)) behind ∙ ap value_of (first_word_is (fixed_text f.places p.lo) (fixed_text f.places p.hi ++ f.back) blank ∙ sym (append-nil (fixed_text f.places p.lo))) ∙ value_is f.places p.lo [] good.some wide_lo no_more in
-    let second : value_of (behind_word (drop (length front) (front ++ rest))) ≡ p.hi = ap (λ (t : List ℕ). value_of (behind_word t)) behind ∙ ap value_of (behind_word_is (fixed_text f.places p.lo) (fixed_text f.places p.hi ++ f.back) blank) ∙ value_is f.places p.hi f.back good.some wide_hi good.behind in
+    let second : value_of (after_word (drop (length front) (front ++ rest))) ≡ p.hi = ap (λ (t : List ℕ). value_of (after_word t)) behind ∙ ap value_of (behind_word_is (fixed_text f.places p.lo) (fixed_text f.places p.hi ++ f.back) blank) ∙ value_is f.places p.hi f.back good.some wide_hi good.behind in
     rw (first, second) refl
 
 is_same : (xs ys : List ℕ) → bytes_eq xs ys ≡ true → xs ≡ ys

@@ -2,7 +2,7 @@
 use Rattle.listing_io.proofs.Common.{◌≡◌, ℕ, zero, suc, ◌+◌, ◌/◌, ◌%◌, ◌<◌, ◌≤◌, ◌^◌, Bool, true, false, cond, List, [], ◌∷◌, ◌++◌, codes, map, nat_abs, All}
 use Rattle.listing_io.proofs.Common.{refl, sym, ap, ◌∙◌, subst, arith, AllByRecursion, AllZip, recursion_from_All, flat_map-cons, lines, Bound, Dir, In, Out}
 use Rattle.listing_io.proofs.Common.{Term, Storage, ZoneFlow, term_name, TermPair, fixed_text, FlowModel, TimeStep, place, is_active, times, ZonePair}
-use Rattle.listing_io.proofs.Common.{zones_of_flow, ListedStep, Form, pair_line, Line, ended, text_of, numbers_text, first_line, step_line, head_form}
+use Rattle.listing_io.proofs.Common.{zones_of_flow, ListedStep, Form, pair_line, Line, ended_line, text_of, numbers_text, first_line, step_line, head_form}
 use Rattle.listing_io.proofs.Common.{head_front, head_line, head_lines, head_pair, dir_front, term_form, term_lines, has_evt, flow_form, zone_front, zone_line}
 use Rattle.listing_io.proofs.Common.{zone_pair, step_lines, all_step_lines, end_line, listing, range_with_len, cell_count, IsForm, IsCellBound, AreFlows}
 use Rattle.listing_io.proofs.Common.{AreTerms, IsListedStep, AreListed, AreZonePairs, IsTime, IsWritable, ListingsAreReadAgain, inl, IsListedAt, IsPairIf}
@@ -16,7 +16,7 @@ use Rattle.listing_io.proofs.Steps.{IsSmall, bounds_of, flow_lines, flows_of, ro
 abbrev pub NoFeed : List ℕ → Type 0
 NoFeed = Without 10
 
-first_row_is : (line rest : List ℕ) → NoFeed line → lines (ended line ++ rest) ≡ line ∷ lines rest
+first_row_is : (line rest : List ℕ) → NoFeed line → lines (ended_line line ++ rest) ≡ line ∷ lines rest
 unfolding lines
 first_row_is [] rest h = refl
 first_row_is (c ∷ cs) rest h = rw (h.0, first_row_is cs rest h.1) refl
@@ -25,7 +25,7 @@ first_row_is (c ∷ cs) rest h = rw (h.0, first_row_is cs rest h.1) refl
 pub lines_of : (rows : List Line) → AllByRecursion NoFeed rows → lines (text_of rows) ≡ rows
 unfolding lines
 lines_of [] h = refl
-lines_of (row ∷ rows) h = ap lines (flat_map-cons ended row rows) ∙ first_row_is row (text_of rows) h.0 ∙ ap (λ (t : List Line). row ∷ t) (lines_of rows h.1)
+lines_of (row ∷ rows) h = ap lines (flat_map-cons ended_line row rows) ∙ first_row_is row (text_of rows) h.0 ∙ ap (λ (t : List Line). row ∷ t) (lines_of rows h.1)
 
 low : IsApart 10
 low = inl (omega arith)

@@ -2,7 +2,7 @@
 use Rattle.listing_io.proofs.Common.{◌≡◌, ℕ, zero, suc, ◌+◌, ◌-◌, ◌*◌, ◌/◌, ◌%◌, ◌^◌, ◌<◌, ◌≤◌, true, false, List, [], ◌∷◌, ◌++◌, length, replicate, get_or}
 use Rattle.listing_io.proofs.Common.{drop, drop-cons, codes, decimal, nat_abs, nat_le, refl, sym, ap, ◌∙◌, arith, ℤ, pos, negsuc, add-one, pow-suc, nat_tests}
 use Rattle.listing_io.proofs.Common.{decimal_is_IsNumeral_wide, length-decimal-le_wide, append_assoc, drop_all, AllDigits, digits_value_after, fixed_text}
-use Rattle.listing_io.proofs.Common.{padded, with_byte, digits_behind, is_negative, value_of, ten_pos}
+use Rattle.listing_io.proofs.Common.{padded_digits, with_byte, digits_behind, is_negative, value_of, ten_pos}
 use Rattle.std.specs.Char.{digit_value}
 use Rattle.std.proofs.lemmas.Nat.{pow-add, mod_below}
 
@@ -60,7 +60,7 @@ behind_zeros n (suc j) = ap (λ (k : ℕ). digits_behind k (replicate j 48)) (ze
     power n p = omega arith
 
 -- after n, the padded digits of a part
-pub behind_padded : (n k r : ℕ) → 0 < k → r < 10 ^ k → r < 10 ^ 64 → digits_behind n (padded k r) ≡ n * 10 ^ k + r
+pub behind_padded : (n k r : ℕ) → 0 < k → r < 10 ^ k → r < 10 ^ 64 → digits_behind n (padded_digits k r) ≡ n * 10 ^ k + r
 behind_padded n k r some small wide =
     let short : length (decimal r) ≤ k = length-decimal-le_wide k r some small wide in
     behind_append n (replicate (k - length (decimal r)) 48) (decimal r) ∙ ap (λ (m : ℕ). digits_behind m (decimal r)) (behind_zeros n (k - length (decimal r))) ∙ behind_decimal (n * 10 ^ (k - length (decimal r))) r wide
@@ -74,7 +74,7 @@ behind_padded n k r some small wide =
 
 -- the digits and the point of a number
 abbrev pub body : ℕ → ℕ → List ℕ
-body k n = decimal (n / 10 ^ k) ++ codes "." ++ padded k (n % 10 ^ k)
+body k n = decimal (n / 10 ^ k) ++ codes "." ++ padded_digits k (n % 10 ^ k)
 
 point : (n : ℕ) → digits_behind n (codes ".") ≡ n
 unfolding digits_behind
@@ -92,8 +92,8 @@ quotient_less n p top h k = grind (arith, division)
 pub body_value : (k n : ℕ) → 0 < k → n < 10 ^ 64 → digits_behind 0 (body k n) ≡ n
 body_value k n some small =
     let p = ten_pos k in
-    behind_append 0 (decimal (n / 10 ^ k) ++ codes ".") (padded k (n % 10 ^ k))
-    ∙ ap (λ (m : ℕ). digits_behind m (padded k (n % 10 ^ k))) (behind_append 0 (decimal (n / 10 ^ k)) (codes ".") ∙ point (digits_behind 0 (decimal (n / 10 ^ k))) ∙ behind_decimal 0 (n / 10 ^ k) (quotient_less n (10 ^ k) (10 ^ 64) p small) ∙ none (10 ^ length (decimal (n / 10 ^ k))) (n / 10 ^ k))
+    behind_append 0 (decimal (n / 10 ^ k) ++ codes ".") (padded_digits k (n % 10 ^ k))
+    ∙ ap (λ (m : ℕ). digits_behind m (padded_digits k (n % 10 ^ k))) (behind_append 0 (decimal (n / 10 ^ k)) (codes ".") ∙ point (digits_behind 0 (decimal (n / 10 ^ k))) ∙ behind_decimal 0 (n / 10 ^ k) (quotient_less n (10 ^ k) (10 ^ 64) p small) ∙ none (10 ^ length (decimal (n / 10 ^ k))) (n / 10 ^ k))
     ∙ behind_padded (n / 10 ^ k) k (n % 10 ^ k) some (mod_below n (10 ^ k) p) (part_less n (10 ^ k) (10 ^ 64) p small)
     ∙ division n (10 ^ k) p
   where
@@ -128,7 +128,7 @@ negative_is k n rest = refl
 pub value_is : (k : ℕ) (z : ℤ) (rest : List ℕ) → 0 < k → nat_abs z < 10 ^ 64 → ((m : ℕ) → digits_behind m rest ≡ m) → value_of (fixed_text k z ++ rest) ≡ z
 value_is k (pos n) rest some small none =
     let (numeral, value) = decimal_is_IsNumeral_wide (n / 10 ^ k) (quotient_less n (10 ^ k) (10 ^ 64) (ten_pos k) small) in
-    let minus : is_negative (body k n ++ rest) ≡ false = ap is_negative (regrouped (decimal (n / 10 ^ k)) (codes ".") (padded k (n % 10 ^ k)) rest) ∙ no_minus (decimal (n / 10 ^ k)) (codes "." ++ (padded k (n % 10 ^ k) ++ rest)) numeral.0 numeral.1 in
+    let minus : is_negative (body k n ++ rest) ≡ false = ap is_negative (regrouped (decimal (n / 10 ^ k)) (codes ".") (padded_digits k (n % 10 ^ k)) rest) ∙ no_minus (decimal (n / 10 ^ k)) (codes "." ++ (padded_digits k (n % 10 ^ k) ++ rest)) numeral.0 numeral.1 in
     value_without_sign (body k n ++ rest) n minus (behind_body k n rest some small none)
 value_is k (negsuc n) rest some small none = grind (arith, negative_is, negative, behind_minus, behind_body)
 

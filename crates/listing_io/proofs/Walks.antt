@@ -1,7 +1,7 @@
 -- Loops that read or write one thing after another.
 use Rattle.listing_io.proofs.Common.{Bool, cond, true, false, ◌≡◌, ℕ, suc, ◌+◌, ◌-◌, ◌<◌, ◌≤◌, List, [], ◌∷◌, ◌++◌, length, drop, get_or, drop-cons, add-one}
 use Rattle.listing_io.proofs.Common.{map, refl, sym, ap, ◌∙◌, arith, Result, Err, codes, inl, inr, append-nil, flat_map-cons, flat_map-append, for_each}
-use Rattle.listing_io.proofs.Common.{with_front, Fault, BadLine, Memory, Line, ended, text_of, Stops, first_line, first_line_before, listing, model_line}
+use Rattle.listing_io.proofs.Common.{with_front, Fault, BadLine, Memory, Line, ended_line, text_of, Stops, first_line, first_line_before, listing, model_line}
 use Rattle.listing_io.proofs.Common.{IsListing, IsWritable, ListingsAreApart, range_with_len, FlowModel, ListedStep}
 use Rattle.std.proofs.Common.{append_assoc}
 use Rattle.listing_io.proofs.Exactly.{Without, by_test, model_without}
@@ -28,16 +28,16 @@ next_of xs i d lt = rw (add-one, drop-cons xs i d) refl
 
 -- Lines that were written one after another are the text of their list.
 -- one line more in front
-pub with_line : (t : List ℕ) (row : Line) (rows : List Line) → (t ++ ended row) ++ text_of rows ≡ t ++ text_of (row ∷ rows)
-with_line t row rows = append_assoc t (ended row) (text_of rows) ∙ ap (λ (x : List ℕ). t ++ x) (sym (flat_map-cons ended row rows))
+pub with_line : (t : List ℕ) (row : Line) (rows : List Line) → (t ++ ended_line row) ++ text_of rows ≡ t ++ text_of (row ∷ rows)
+with_line t row rows = append_assoc t (ended_line row) (text_of rows) ∙ ap (λ (x : List ℕ). t ++ x) (sym (flat_map-cons ended_line row rows))
 
 -- lines more in front
 pub with_lines : (t : List ℕ) (front rows : List Line) → (t ++ text_of front) ++ text_of rows ≡ t ++ text_of (front ++ rows)
-with_lines t front rows = append_assoc t (text_of front) (text_of rows) ∙ ap (λ (x : List ℕ). t ++ x) (sym (flat_map-append ended front rows))
+with_lines t front rows = append_assoc t (text_of front) (text_of rows) ∙ ap (λ (x : List ℕ). t ++ x) (sym (flat_map-append ended_line front rows))
 
 -- the next of the lines that are left, several of them, and none
 module _ (t whole : List ℕ) (left : List Line) (h : t ++ text_of left ≡ whole) where
-  pub line_written : (row : Line) (rest : List Line) → left ≡ row ∷ rest → (t ++ ended row) ++ text_of rest ≡ whole
+  pub line_written : (row : Line) (rest : List Line) → left ≡ row ∷ rest → (t ++ ended_line row) ++ text_of rest ≡ whole
   line_written row rest e = with_line t row rest ∙ ap (λ (rows : List Line). t ++ text_of rows) (sym e) ∙ h
 
   pub lines_written : (front rest : List Line) → left ≡ front ++ rest → (t ++ text_of front) ++ text_of rest ≡ whole
@@ -47,11 +47,11 @@ module _ (t whole : List ℕ) (left : List Line) (h : t ++ text_of left ≡ whol
   all_written e = sym (append-nil t) ∙ ap (λ (rows : List Line). t ++ text_of rows) (sym e) ∙ h
 
 -- a line and four lists of lines
-pub step_joined : (title : Line) (a b c d : List Line) → [] ++ ended title ++ text_of a ++ text_of b ++ text_of c ++ text_of d ≡ text_of (title ∷ (a ++ (b ++ (c ++ d))))
+pub step_joined : (title : Line) (a b c d : List Line) → [] ++ ended_line title ++ text_of a ++ text_of b ++ text_of c ++ text_of d ≡ text_of (title ∷ (a ++ (b ++ (c ++ d))))
 step_joined title a b c d = simp (append_assoc, flat_map-cons, flat_map-append)
 
 -- seven lines, and others after them
-pub seven_joined : (t : List ℕ) (a b c d e f g : Line) (more : List Line) → t ++ ended a ++ ended b ++ ended c ++ ended d ++ ended e ++ ended f ++ ended g ++ text_of more ≡ t ++ text_of (a ∷ b ∷ c ∷ d ∷ e ∷ f ∷ g ∷ more)
+pub seven_joined : (t : List ℕ) (a b c d e f g : Line) (more : List Line) → t ++ ended_line a ++ ended_line b ++ ended_line c ++ ended_line d ++ ended_line e ++ ended_line f ++ ended_line g ++ text_of more ≡ t ++ text_of (a ∷ b ∷ c ∷ d ∷ e ∷ f ∷ g ∷ more)
 seven_joined t a b c d e f g more = simp (append_assoc, flat_map-cons)
 
 -- the line of what is there on a condition

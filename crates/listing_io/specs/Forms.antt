@@ -45,12 +45,12 @@ is_within f p = nat_le (nat_abs p.lo) f.limit && nat_le (nat_abs p.hi) f.limit
 abbrev pub first_word : List ℕ → List ℕ
 first_word text = before_first (λ c. c == 32) text
 
-abbrev pub behind_word : List ℕ → List ℕ
-behind_word text = after_first (λ c. c == 32) text
+abbrev pub after_word : List ℕ → List ℕ
+after_word text = after_first (λ c. c == 32) text
 
 -- the numbers in the digits before and after the first blank that follows the line's beginning
 unfoldable pub candidate : List ℕ → List ℕ → TermPair
-candidate front line = record { lo = value_of (first_word (drop (length front) line)); hi = value_of (behind_word (drop (length front) line)) }
+candidate front line = record { lo = value_of (first_word (drop (length front) line)); hi = value_of (after_word (drop (length front) line)) }
 
 -- the numbers of a line: those that are written as exactly this line
 unfoldable pub pair_in : List ℕ → Form → List ℕ → Option TermPair

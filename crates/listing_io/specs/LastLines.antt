@@ -10,7 +10,7 @@ use Rattle.step_problem.specs.{refusal_of, word_of, side_name, dir_name, term_na
 use Rattle.model_types.specs.declared.grid.Grid.{Grid}
 use Rattle.model_types.specs.declared.time_steps.TimeStep.{TimeStep}
 use Rattle.model_types.specs.{place}
-use Rattle.listing_io.specs.Listing.{ended, numbers_text}
+use Rattle.listing_io.specs.Listing.{ended_line, numbers_text}
 
 -- the number and the word of a refusal
 abbrev pub code_text : CodeRow → List ℕ
@@ -23,7 +23,7 @@ cell_text (Some at) = numbers_text at
 
 -- the files are refused: the refusal, the file, the line, and the cell where one is meant
 unfoldable pub refused_line : Refusal → List ℕ
-refused_line r = ended (codes "REFUSED" ++ code_text (code_row r.code) ++ codes " " ++ r.file ++ numbers_text (r.line ∷ []) ++ cell_text r.at)
+refused_line r = ended_line (codes "REFUSED" ++ code_text (code_row r.code) ++ codes " " ++ r.file ++ numbers_text (r.line ∷ []) ++ cell_text r.at)
 
 -- the word of a step's refusal, by its number
 abbrev pub word_or_none : Option StepRefusal → List ℕ
@@ -43,11 +43,11 @@ fault_place g (places.Term dir t) = codes " " ++ dir_name dir ++ codes " " ++ te
 fault_place g (places.Zone a b) = codes " ZONE" ++ numbers_text (a ∷ b ∷ [])
 
 unfoldable pub no_bound_line : Grid → TimeStep → NoBound → List ℕ
-no_bound_line g at n = ended (codes "NOBOUND" ++ code_text (record { number = n.code; word = step_word n.code }) ++ time_text at ++ fault_place g n.place)
+no_bound_line g at n = ended_line (codes "NOBOUND" ++ code_text (record { number = n.code; word = step_word n.code }) ++ time_text at ++ fault_place g n.place)
 
 -- the rounds didn't settle a step
 unfoldable pub unfinished_line : TimeStep → List ℕ
-unfinished_line at = ended (codes "UNFINISHED" ++ time_text at)
+unfinished_line at = ended_line (codes "UNFINISHED" ++ time_text at)
 
 -- the first place of a listing that isn't certified; of a cell its side is named as well
 abbrev pub open_place : Grid → Place → List ℕ
@@ -56,4 +56,4 @@ open_place g (places.Term dir t) = fault_place g (places.Term dir t)
 open_place g (places.Zone a b) = fault_place g (places.Zone a b)
 
 unfoldable pub not_certified_line : Grid → TimeStep → Place → List ℕ
-not_certified_line g at place = ended (codes "NOT CERTIFIED" ++ time_text at ++ open_place g place)
+not_certified_line g at place = ended_line (codes "NOT CERTIFIED" ++ time_text at ++ open_place g place)

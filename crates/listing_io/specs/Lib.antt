@@ -4,19 +4,19 @@ pub mod LastLines
 pub mod Reading
 pub mod Rows
 pub mod Laws
-pub use Rattle.listing_io.specs.Forms.{Form, IsForm, IsPairLine, LinesReadExactly, behind_word, first_word, is_negative, is_within, pair_line, pair_text}
+pub use Rattle.listing_io.specs.Forms.{Form, IsForm, IsPairLine, LinesReadExactly, after_word, first_word, is_negative, is_within, pair_line, pair_text}
 pub use Rattle.listing_io.specs.Forms.{value_of, with_byte}
 unfoldable pub use Rattle.listing_io.specs.Forms.{candidate, digits_behind, pair_in}
 pub use Rattle.listing_io.specs.LastLines.{cell_text, code_text, fault_place, open_place, step_word, time_text}
 unfoldable pub use Rattle.listing_io.specs.LastLines.{no_bound_line, not_certified_line, refused_line, unfinished_line}
 pub use Rattle.listing_io.specs.Laws.{AreCellBounds, AreFlows, AreListed, AreTerms, AreZonePairs, IsCellBound, IsFlowPair, IsListedAt, IsListedStep, IsListing}
 pub use Rattle.listing_io.specs.Laws.{IsPairIf, IsTime, IsWritable, ListingsAreApart, ListingsAreReadAgain, ListingsWereWritten, step_in}
-pub use Rattle.listing_io.specs.Listing.{Line, dir_front, each_lines, end_line, ended, first_line, flow_form, has_evt, head_form, head_front, head_line}
+pub use Rattle.listing_io.specs.Listing.{Line, dir_front, each_lines, end_line, ended_line, first_line, flow_form, has_evt, head_form, head_front, head_line}
 pub use Rattle.listing_io.specs.Listing.{head_pair, model_line, numbers_text, printed_terms, step_line, term_form, term_line, text_of, zone_front, zone_line}
 pub use Rattle.listing_io.specs.Listing.{zone_pair}
 unfoldable pub use Rattle.listing_io.specs.Listing.{all_step_lines, first_text, head_lines, listing, step_lines, step_text, term_lines, variable_lines}
 unfoldable pub use Rattle.listing_io.specs.Listing.{view_text}
-pub use Rattle.listing_io.specs.Reading.{Gives, Has, Left, Passes, Stops, all_lines, bound_of, first_line_before, first_of, flow_of, head_if, is_first}
+pub use Rattle.listing_io.specs.Reading.{Gives, Has, Left, ReadsOrStops, Stops, all_lines, bound_of, first_line_before, first_of, flow_of, head_if, is_first}
 pub use Rattle.listing_io.specs.Reading.{is_printed, line_at, listing_in, none_of, or_bad_listing, or_refused, over_at, pair_if, step_at, term_if}
 unfoldable pub use Rattle.listing_io.specs.Reading.{first_at, flow_at, heads_at, listing_at, pair_at, step_with, terms_at, text_at}
 pub use Rattle.listing_io.specs.Rows.{HasDigits, form_of, front_of, row_line}

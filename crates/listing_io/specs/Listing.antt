@@ -27,11 +27,11 @@ abbrev pub Line : Type 0
 Line = List ℕ
 
 -- a line and its line feed; the text of lines
-abbrev pub ended : Line → List ℕ
-ended line = line ++ codes "\n"
+abbrev pub ended_line : Line → List ℕ
+ended_line line = line ++ codes "\n"
 
 abbrev pub text_of : List Line → List ℕ
-text_of rows = flat_map ended rows
+text_of rows = flat_map ended_line rows
 
 -- numbers in decimal, each after a blank
 abbrev pub numbers_text : List ℕ → List ℕ
@@ -140,4 +140,4 @@ unfoldable pub variable_lines : Grid → List Entries → List Bound → List Li
 variable_lines g p bs = each_lines (λ e b. head_line g e.id b ∷ []) p bs
 
 unfoldable pub view_text : Grid → TimeStep → List Entries → List Bound → List ℕ
-view_text g at p heads = ended (watch_line at) ++ text_of (variable_lines g p heads)
+view_text g at p heads = ended_line (watch_line at) ++ text_of (variable_lines g p heads)

@@ -157,9 +157,9 @@ abbrev pub Gives : {X Y S : Type 0} → (X → Y) → Result X Fault → S → R
 Gives view (Ok x) after read = read ≡ Ok (view x, after)
 Gives view (Err fault) after read = Stops fault read
 
-abbrev pub Passes : {S : Type 0} → Result (Unit {0}) Fault → S → Result S ℕ → Type 0
-Passes (Ok done) after read = read ≡ Ok after
-Passes (Err fault) after read = Stops fault read
+abbrev pub ReadsOrStops : {S : Type 0} → Result (Unit {0}) Fault → S → Result S ℕ → Type 0
+ReadsOrStops (Ok done) after read = read ≡ Ok after
+ReadsOrStops (Err fault) after read = Stops fault read
 
 -- the same where nothing is left to be read
 abbrev pub Has : {X Y : Type 0} → (X → Y) → Result X Fault → Result Y ℕ → Type 0

@@ -2,7 +2,7 @@
 ghost use Rattle.std.specs.Prelude.{◌≡◌, ◌∷◌, [], MatchResult, IfOk};
 ghost use Rattle.outside.specs.{lines};
 ghost use Rattle.record_lines.specs.{next_number};
-ghost use Rattle.listing_io.specs.Reading.{Gives, Has, Left, Passes, all_lines, line_at, over_at, text_at};
+ghost use Rattle.listing_io.specs.Reading.{Gives, Has, Left, ReadsOrStops, all_lines, line_at, over_at, text_at};
 
 use crate::fault::Fault;
 use record_lines::cut_line;
@@ -65,7 +65,7 @@ impl<'a> AllLines<'a> {
     /// Skips the next line, which must be this one.
     #[tactic(auto, unfolding(crate::specs::Reading::text_at))]
     pub(crate) fn expect(&mut self, text: &[u8]) -> Result<(), Fault>
-        ensures { Passes result self.new (text_at text.now self.old) }
+        ensures { ReadsOrStops result self.new (text_at text.now self.old) }
     {
         let number = self.number();
         let line = self.take()?;

@@ -3,7 +3,7 @@ ghost use Rattle.std.specs.Prelude.{◌≡◌, ◌≤◌, All, length, option_ma
 ghost use Rattle.model_types.specs.{HasSize, times};
 ghost use Rattle.record_lines.specs.{HasText, for_each};
 ghost use Rattle.zone_pairs.specs.{pairs_in, ArePairs, CanPair, zones_of};
-ghost use Rattle.listing_io.specs.{AreListed, Gives, Has, Passes, first_at, listing_at, listing_in, step_at};
+ghost use Rattle.listing_io.specs.{AreListed, Gives, Has, ReadsOrStops, first_at, listing_at, listing_in, step_at};
 
 use crate::fault::Fault;
 use crate::lines::AllLines;
@@ -23,7 +23,7 @@ fn read_first(
     s: u32,
     lines: &mut AllLines,
 ) -> Result<(), Fault>
-    ensures { Passes result lines.new (first_at between model.now s lines.old) }
+    ensures { ReadsOrStops result lines.new (first_at between model.now s lines.old) }
 {
     let number = lines.number();
     let line = lines.take()?;

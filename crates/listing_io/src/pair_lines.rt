@@ -1,7 +1,7 @@
 // Lines with two numbers, by what they are about.
 ghost use Rattle.std.specs.Prelude.{◌≡◌, ◌++◌, ◌≤◌, [], ◌∷◌, cond, nat_abs, IfOk};
 ghost use Rattle.model_types.specs.{HasSize};
-ghost use Rattle.listing_io.specs.{ended, flow_form, text_of, IsForm, Gives, pair_at, pair_if, HasDigits, form_of, front_of, row_line};
+ghost use Rattle.listing_io.specs.{ended_line, flow_form, text_of, IsForm, Gives, pair_at, pair_if, HasDigits, form_of, front_of, row_line};
 
 use crate::fault::Fault;
 use crate::lines::AllLines;
@@ -89,7 +89,7 @@ pub(crate) fn push_row(
 ) -> Result<(), AllocError>
     requires size { HasSize grid.now }
     requires digits { HasDigits row }
-    ensures { IfOk result (λ _. text.new.items ≡ text.old.items ++ ended (row_line grid.now row pair)) }
+    ensures { IfOk result (λ _. text.new.items ≡ text.old.items ++ ended_line (row_line grid.now row pair)) }
 {
     let form = form_of(row);
     push_front(text, grid, row)?;

@@ -4,7 +4,7 @@ ghost use Rattle.fixed_text.specs.{fixed_text};
 ghost use Rattle.listing_io.specs.Forms.{Form, IsForm, candidate, is_within, pair_in, pair_text};
 
 use crate::digits::value_in;
-use crate::words::{behind, behind_word, first_word};
+use crate::words::{after_word, first_word, skip_bytes};
 use budget_bounds::TermPair;
 use fixed_text::push_fixed;
 use std::alloc::AllocError;
@@ -45,9 +45,9 @@ fn candidate(front: &[u8], line: &[u8]) -> Option<TermPair>
     ensures { MatchOption result ((2 ^ 126 ≤ nat_abs (candidate front.now line.now).lo)
         ⊎ (2 ^ 126 ≤ nat_abs (candidate front.now line.now).hi)) (λ p. p ≡ candidate front.now line.now) }
 {
-    let numbers = behind(line, front.len());
+    let numbers = skip_bytes(line, front.len());
     let lo = value_in(first_word(numbers))?;
-    let hi = value_in(behind_word(numbers))?;
+    let hi = value_in(after_word(numbers))?;
     Some(TermPair { lo, hi })
 }
 

@@ -2,7 +2,7 @@
 ghost use Rattle.std.specs.Prelude.{◌≡◌, ◌++◌, [], ◌∷◌, codes, decimal, IfOk};
 ghost use Rattle.step_problem.specs.{dir_name, side_name, term_name};
 ghost use Rattle.model_types.specs.{place, HasSize};
-ghost use Rattle.listing_io.specs.{ended, has_evt, numbers_text, time_text};
+ghost use Rattle.listing_io.specs.{ended_line, has_evt, numbers_text, time_text};
 
 use fixed_text::push_number;
 use model_types::{FlowModel, Grid, TimeStep};
@@ -64,7 +64,7 @@ pub(crate) fn push_time_line(
     word: &[u8],
     at: TimeStep,
 ) -> Result<(), AllocError>
-    ensures { IfOk result (λ _. text.new.items ≡ text.old.items ++ ended (word.now ++ time_text at)) }
+    ensures { IfOk result (λ _. text.new.items ≡ text.old.items ++ ended_line (word.now ++ time_text at)) }
 {
     push_time(text, word, at)?;
     text.push(b'\n')?;

@@ -2,7 +2,7 @@
 ghost use Rattle.std.specs.Prelude.{◌≤◌, ◌<◌};
 ghost use Rattle.model_types.specs.{HasSize, is_active};
 ghost use Rattle.record_lines.specs.{for_each};
-ghost use Rattle.listing_io.specs.{has_evt, head_front, step_line, Gives, Passes, flow_at, head_if, heads_at, step_with, terms_at, text_at};
+ghost use Rattle.listing_io.specs.{has_evt, head_front, step_line, Gives, ReadsOrStops, flow_at, head_if, heads_at, step_with, terms_at, text_at};
 
 use crate::fault::Fault;
 use crate::lines::AllLines;
@@ -77,7 +77,7 @@ fn read_terms(
 }
 
 fn read_title(text: &mut Vec<u8>, at: TimeStep, lines: &mut AllLines) -> Result<(), Fault>
-    ensures { Passes result lines.new (text_at (step_line at) lines.old) }
+    ensures { ReadsOrStops result lines.new (text_at (step_line at) lines.old) }
 {
     text.clear();
     push_time(text, b"STEP", at)?;

@@ -1,7 +1,7 @@
 // The end of a word.
 ghost use Rattle.std.specs.Prelude.{◌≡◌, ◌≤◌, ◌==◌, drop, length, position};
 ghost use Rattle.std.specs.List.{position_or_len};
-ghost use Rattle.listing_io.specs.{behind_word, first_word};
+ghost use Rattle.listing_io.specs.{after_word, first_word};
 
 fn blank_at(text: &[u8]) -> Option<usize>
     ensures { result ≡ position (λ c. c == 32) text.now }
@@ -22,7 +22,7 @@ fn word_length(text: &[u8]) -> usize
 }
 
 /// The text after `count` bytes.
-pub(crate) fn behind(text: &[u8], count: usize) -> &[u8]
+pub(crate) fn skip_bytes(text: &[u8], count: usize) -> &[u8]
     ensures { result.now ≡ drop count text.now }
 {
     if count <= text.len() {
@@ -40,10 +40,10 @@ pub(crate) fn first_word(text: &[u8]) -> &[u8]
 }
 
 /// The text after the first blank.
-pub(crate) fn behind_word(text: &[u8]) -> &[u8]
-    ensures { result.now ≡ behind_word text.now }
+pub(crate) fn after_word(text: &[u8]) -> &[u8]
+    ensures { result.now ≡ after_word text.now }
 {
     let length = word_length(text);
     let (_, after) = text.split_at(length);
-    behind(after, 1)
+    skip_bytes(after, 1)
 }

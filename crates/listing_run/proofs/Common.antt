@@ -14,9 +14,8 @@ pub use Rattle.listing_run.specs.{AllSettle, AllSteps, AreFlowsAt, AreFlowsOf, B
 pub use Rattle.listing_run.specs.{FirstSteps, FlowsEnclose, HasLargeFlow, HasLargeFlowOf, HasNoBound, HistoriesBound, IsAtFirst, IsCutListing, IsListing}
 pub use Rattle.listing_run.specs.{IsListingBeside, IsNext, IsNextText, IsPushed, IsSettledBy, IsSolved, IsStep, IsStopEnd, IsWalk, ListingExcludesRefusal}
 pub use Rattle.listing_run.specs.{ListingIsOne, PairEncloses, Reaches, ReachesFirst, RefusalIsOne, RestsOrSettles, RestsOrSettlesFirst, SettledListingIsClosed}
-pub use Rattle.listing_run.specs.{StepsThen, StopsAt, WideKeepsListings, budget_at, deck_task, is_between, last_line, left, listed, listing, no_budget}
-pub use Rattle.listing_run.specs.{no_heads, no_zones, pairs_of, rests, settled, status_of, stop_of, text_of, times_left}
-pub use Rattle.listing_run.specs.Listing.{begun}
+pub use Rattle.listing_run.specs.{StepsThen, StopsAt, WideKeepsListings, begun, budget_at, deck_task, first_pieces, is_between, last_line, left, listed}
+pub use Rattle.listing_run.specs.{listing, no_budget, no_heads, no_zones, pairs_of, rests, settled, status_of, stop_of, text_of, times_left}
 pub use Rattle.listing_run.specs.declared.solving.Step.{Step}
 pub use Rattle.listing_run.specs.declared.steps.Steps.{Steps}
 pub use Rattle.listing_run.specs.declared.steps.Task.{Task}
@@ -26,13 +25,13 @@ pub use Rattle.model_types.specs.declared.limits.Limits.{Limits}
 pub use Rattle.model_types.specs.declared.limits.Limits.TheVariants.{Plain, Wide}
 pub use Rattle.model_types.specs.declared.model.FlowModel.{FlowModel}
 pub use Rattle.model_types.specs.declared.time_steps.TimeStep.{TimeStep}
-pub use Rattle.outside.specs.{Put, taken}
+pub use Rattle.outside.specs.{Put, whole_put}
 pub use Rattle.outside.specs.declared.traits.SinkError.{SinkError}
 pub use Rattle.outside.specs.declared.traits.SinkError.TheVariants.{Write}
-pub use Rattle.problem_builder.specs.{AreGridHeads, HeadsEnclose, IsActive}
+pub use Rattle.problem_builder.specs.{AreGridHeads, HeadsEnclose, IsActive, IsCellNamed}
 pub use Rattle.run_puts.proofs.Pieces.{IsAt, IsLate, at_more, ends_or_lacks, joined, joined_thrice, lacks_after, lacks_at_first, late_not_ok, put_was, stops_at}
 pub use Rattle.run_puts.proofs.Pieces.{tail_late, weaker}
-pub use Rattle.run_puts.specs.{IsEnd, IsLast, IsPut, IsRun, IsWanting, Text, end_line, memory_put, status_after, wanting, whole}
+pub use Rattle.run_puts.specs.{EndsOutOfMemory, IsEnd, IsLast, IsPut, IsRun, Text, end_line, memory_put, status_after, wanting, whole}
 pub use Rattle.run_puts.specs.declared.puts.Status.{Status}
 pub use Rattle.step_chain.proofs.Histories.{first_in, lies_encloses}
 pub use Rattle.step_chain.specs.{EnclosesMoves, HeadsFit, IsMove, IsPosed, IsSettledStep, IsStepBy, LeadsBy, LeadsOrRests, LieBetween, LiesBetweenBy}

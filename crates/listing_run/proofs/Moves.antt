@@ -5,10 +5,9 @@ use Rattle.listing_run.proofs.Common.{TimeStep, heads_of, variable_heads, exact_
 use Rattle.listing_run.proofs.Common.{IsMove, EnclosesMoves, IsStepBy, edges_by, WideKeepsSteps, Task, Step, IsActive, HeadsEnclose, AreFlowsAt, IsStep}
 use Rattle.listing_run.proofs.Common.{HasNoBound, no_heads, no_budget, no_zones, budget_at, Bounds, BoundsMoves, HasLargeFlow, StopsAt, stop_of, pairs_of}
 use Rattle.listing_run.proofs.Common.{IsSolved, FlowsEnclose, WideKeepsListings, deck_task, IfSome, Entries, FlowModel, cell_count, times, EnclosesStep}
-use Rattle.listing_run.proofs.Common.{ExactCell, Limits, Plain, Wide, lies_encloses}
+use Rattle.listing_run.proofs.Common.{ExactCell, Limits, Plain, Wide, lies_encloses, IsCellNamed}
 use Rattle.zone_flows.specs.{EncloseExact, HeadsLieWithin}
 use Rattle.step_chain.specs.{FailsBy as StepFailsBy}
-use Rattle.problem_builder.specs.GridHeads.{IsNamed}
 use Rattle.budget_bounds.specs.{EnclosesBudgets, HeadsAreWithin, budget_of}
 use Rattle.step_chain.specs.declared.solved.StepFault.{StepFault}
 use Rattle.std.specs.Prelude.{Contains, Bool}
@@ -21,7 +20,7 @@ use Rattle.listing_run.specs.declared.text.ListingEnd.TheVariants as ends
 
 -- The flows between the zones of a task, by the clauses of their call.
 -- What holds of all active cells holds of all that a problem names.
-module _ (m : FlowModel) (p : List Entries) (named : (c : ℕ) → IsNamed p c → IsActive m c) where
+module _ (m : FlowModel) (p : List Entries) (named : (c : ℕ) → IsCellNamed p c → IsActive m c) where
   own : (P : ℕ → Type 0) → ((c : ℕ) → IsActive m c → P c) → (k : ℕ) → k < length p → P (entries_at p k).id
   own P each k lt = each (entries_at p k).id (named (entries_at p k).id (k, lt, inl refl))
 
@@ -86,14 +85,14 @@ module _ (k : Task) (at : TimeStep) where
       step_is flows are old solves = record { solved = x; solves = solves; time = refl; heads = refl; budget = budget_by x lent (Ok b) same is; zones = are }
 
     pub bounds_moves : HeadsAreWithin → (b : Budget) (flows : List ZoneFlow) → EnclosesBudgets x.problem (lower_at lent) (upper_at lent) b →
-        ((c : ℕ) → IsNamed x.problem c → IsActive k.decks.first c) → FlowsEnclose x.problem x.heads k.zones flows →
+        ((c : ℕ) → IsCellNamed x.problem c → IsActive k.decks.first c) → FlowsEnclose x.problem x.heads k.zones flows →
         (old : List Bound) → EachMember k.decks (λ m. EnclosesMoves m k.digits at old x) → BoundsMoves k at old (record { at = at; heads = x.heads; budget = b; zones = flows })
     bounds_moves within b flows budget named zones old encloses =
         let v : Step = record { at = at; heads = x.heads; budget = b; zones = flows } in
         let B : List Bound → Type 0 = λ v. EnclosesBudgets x.problem (lower_at v) (upper_at v) b in
         let terms : EnclosesBudgets x.problem (lower_at x.bounds) (upper_at x.bounds) b = subst B same budget in
         each_member k.decks (λ m. (before : ℕ → Fraction) (d : ℕ) (X : ℕ → ℤ) → IsMove m at old before d X → Bounds k m v before d X) (λ m member before d X move.
-        let named_in = λ (c : ℕ) (n : IsNamed x.problem c). cell_of_member k.decks.first m (member_cells k.decks m member) c (named c n) in
+        let named_in = λ (c : ℕ) (n : IsCellNamed x.problem c). cell_of_member k.decks.first m (member_cells k.decks m member) c (named c n) in
         let e = of_member k.decks (λ f. EnclosesMoves f k.digits at old x) encloses m member before d X move in
         let Y : ℕ → ℤ = variable_heads (exact_step m at.period at.step before) X in
         record {

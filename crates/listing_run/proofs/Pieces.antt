@@ -1,9 +1,10 @@
 -- The pieces of a listing so far, put or added to a text, and how it ends.
 use Rattle.listing_run.proofs.Common.{◌≡◌, ◌∙◌, List, [], ◌∷◌, ◌++◌, Bool, Result, Ok, Err, Some, ap, refl, subst, sym, map-append, append_assoc, append-nil}
-use Rattle.listing_run.proofs.Common.{Put, taken, Entries, Edges, Text, IsRun, IsEnd, IsPut, IsWanting, Status, IsAt, at_more, ends_or_lacks, lacks_after}
-use Rattle.listing_run.proofs.Common.{stops_at, ListingEnd, Step, Steps, Task, IsCutListing, IsListing, IsPushed, begun, last_line, listing, status_of, text_of}
-use Rattle.listing_run.proofs.Common.{EndsAt, IsAtFirst, IsNextText, IsWalk, times_left, is_between, first_text, map, inl, inr, SinkError, TimeStep, whole}
-use Rattle.listing_run.proofs.Common.{IsLate, late_not_ok, tail_late, weaker, IsStopEnd, IsListingBeside, left, listed, memory_put, status_after, wanting}
+use Rattle.listing_run.proofs.Common.{Put, whole_put, Entries, Edges, Text, IsRun, IsEnd, IsPut, EndsOutOfMemory, Status, IsAt, at_more, ends_or_lacks}
+use Rattle.listing_run.proofs.Common.{lacks_after, stops_at, ListingEnd, Step, Steps, Task, IsCutListing, IsListing, IsPushed, first_pieces, last_line, listing}
+use Rattle.listing_run.proofs.Common.{status_of, text_of, EndsAt, IsAtFirst, IsNextText, IsWalk, times_left, is_between, first_text, map, inl, inr, SinkError}
+use Rattle.listing_run.proofs.Common.{TimeStep, whole, IsLate, late_not_ok, tail_late, weaker, IsStopEnd, IsListingBeside, left, listed, memory_put}
+use Rattle.listing_run.proofs.Common.{status_after, wanting}
 use Rattle.std.proofs.Common.{IfOk}
 use Rattle.std.specs.List.{concat}
 use Rattle.listing_run.proofs.UnderWay.{IsSolved, cut_listing, encloses_if_whole, ended, is_listing, none_solved, one_more_solved}
@@ -12,25 +13,25 @@ use Rattle.run_puts.specs.declared.puts.Status.TheVariants as status
 use Rattle.listing_run.specs.declared.text.ListingEnd.TheVariants as ends
 
 -- the pieces of one step more
-pub begun_more : (k : Task) (values : List Step) (v : Step) → begun k values ++ (text_of k v ∷ []) ≡ begun k (values ++ (v ∷ []))
+pub begun_more : (k : Task) (values : List Step) (v : Step) → first_pieces k values ++ (text_of k v ∷ []) ≡ first_pieces k (values ++ (v ∷ []))
 begun_more k values v = ap (λ ts. first_text (is_between k) k.decks.first k.digits ∷ ts) (sym (map-append (text_of k) values (v ∷ [])))
 
 module _ (k : Task) where
   -- all pieces of the steps so far are put, but the one at hand
   pub record IsUnderWay (s : Steps) (pending : Text) (puts : List Put) : Type 0 where
     pub values : List Step
-    pub here : IsAt (IsListing k) (IsCutListing k) (begun k values) pending puts
+    pub here : IsAt (IsListing k) (IsCutListing k) (first_pieces k values) pending puts
     pub solved : IsSolved k s.heads (times_left s) values
 
   pub under_way_at_first : (s : Steps) (first : Text) → first ≡ first_text (is_between k) k.decks.first k.digits → IsWalk k s → IsAtFirst k s → IsUnderWay s first []
   under_way_at_first s first same w f = record { values = []; here = record { before = []; all = ap (λ t. t ∷ []) (sym same); written = refl }; solved = none_solved k s w f }
 
-  pub under_way_more : {S : Type 0} (leads : S → List Entries → Edges → Bool → S → Type 0) (s t : Steps) (before after : S) (pending text : Text) (puts tail : List Put) → IsUnderWay s pending puts → tail ≡ taken pending ∷ [] → IsNextText leads k s t before after text → IsUnderWay t text (puts ++ tail)
+  pub under_way_more : {S : Type 0} (leads : S → List Entries → Edges → Bool → S → Type 0) (s t : Steps) (before after : S) (pending text : Text) (puts tail : List Put) → IsUnderWay s pending puts → tail ≡ whole_put pending ∷ [] → IsNextText leads k s t before after text → IsUnderWay t text (puts ++ tail)
   under_way_more leads s t before after pending text puts tail u e n =
       let P : List Text → Type 0 = λ ts. IsAt (IsListing k) (IsCutListing k) ts text (puts ++ tail) in
       record {
         values = u.values ++ (n.value ∷ []);
-        here = subst P (ap (λ x. begun k u.values ++ (x ∷ [])) n.written ∙ begun_more k u.values n.value) (at_more (IsListing k) (IsCutListing k) (begun k u.values) pending text puts tail u.here e);
+        here = subst P (ap (λ x. first_pieces k u.values ++ (x ∷ [])) n.written ∙ begun_more k u.values n.value) (at_more (IsListing k) (IsCutListing k) (first_pieces k u.values) pending text puts tail u.here e);
         solved = one_more_solved k leads s t before after n.value u.values u.solved n.next;
       }
 
@@ -38,17 +39,17 @@ module _ (k : Task) where
   IsRunOf end puts = IsRun (IsListing k) (IsCutListing k) end puts
 
   module _ (s : Steps) (pending : Text) (puts tail : List Put) (end : Status) (u : IsUnderWay s pending puts) where
-    cut_here : IsCutListing k (begun k u.values)
+    cut_here : IsCutListing k (first_pieces k u.values)
     cut_here = cut_listing k s.heads (times_left s) u.values u.solved
 
     pub ends_at_piece : IsPut pending (Some end) tail → IsRunOf end (puts ++ tail)
-    ends_at_piece h = stops_at (IsListing k) (IsCutListing k) (begun k u.values) pending puts tail end u.here cut_here h
+    ends_at_piece h = stops_at (IsListing k) (IsCutListing k) (first_pieces k u.values) pending puts tail end u.here cut_here h
 
-    pub ends_wanting : (rest : List Put) → tail ≡ taken pending ∷ [] → IsWanting end rest → IsRunOf end (puts ++ tail ++ rest)
-    ends_wanting rest e h = lacks_after (IsListing k) (IsCutListing k) (begun k u.values) pending puts tail rest end u.here cut_here e h
+    pub ends_wanting : (rest : List Put) → tail ≡ whole_put pending ∷ [] → EndsOutOfMemory end rest → IsRunOf end (puts ++ tail ++ rest)
+    ends_wanting rest e h = lacks_after (IsListing k) (IsCutListing k) (first_pieces k u.values) pending puts tail rest end u.here cut_here e h
 
-    pub ends_with_line : (rest : List Put) (last : ListingEnd) → tail ≡ taken pending ∷ [] → EndsAt k last s.heads (times_left s) → IsEnd (last_line k.decks.first.grid last) (status_of last) end rest → IsRunOf end (puts ++ tail ++ rest)
-    ends_with_line rest last e here h = ends_or_lacks (IsListing k) (IsCutListing k) (begun k u.values) pending (last_line k.decks.first.grid last) (status_of last) end puts tail rest u.here cut_here e (is_listing k s.heads (times_left s) u.values last u.solved here) h
+    pub ends_with_line : (rest : List Put) (last : ListingEnd) → tail ≡ whole_put pending ∷ [] → EndsAt k last s.heads (times_left s) → IsEnd (last_line k.decks.first.grid last) (status_of last) end rest → IsRunOf end (puts ++ tail ++ rest)
+    ends_with_line rest last e here h = ends_or_lacks (IsListing k) (IsCutListing k) (first_pieces k u.values) pending (last_line k.decks.first.grid last) (status_of last) end puts tail rest u.here cut_here e (is_listing k s.heads (times_left s) u.values last u.solved here) h
 
 concat_append : (a b : List Text) → concat (a ++ b) ≡ concat a ++ concat b
 concat_append [] b = refl
@@ -66,15 +67,15 @@ module _ (k : Task) (start : Text) where
   pub record IsText (s : Steps) (text : Text) : Type 0 where
     pub values : List Step
     pub solved : IsSolved k s.heads (times_left s) values
-    pub written : text ≡ start ++ concat (begun k values)
+    pub written : text ≡ start ++ concat (first_pieces k values)
 
   pub text_at_first : (s : Steps) (first text : Text) → first ≡ first_text (is_between k) k.decks.first k.digits → text ≡ start ++ first → IsWalk k s → IsAtFirst k s → IsText s text
   text_at_first s first text same is w f = record { values = []; solved = none_solved k s w f; written = is ∙ ap (λ t. start ++ t) (same ∙ sym (append-nil (first_text (is_between k) k.decks.first k.digits))) }
 
   -- a line was added
-  with_line : (values : List Step) (text line new : Text) → text ≡ start ++ concat (begun k values) → new ≡ text ++ line → new ≡ start ++ concat (listing k values line)
+  with_line : (values : List Step) (text line new : Text) → text ≡ start ++ concat (first_pieces k values) → new ≡ text ++ line → new ≡ start ++ concat (listing k values line)
   with_line values text line new was is =
-      is ∙ (ap (λ t. t ++ line) was ∙ (append_assoc start (concat (begun k values)) line ∙ ap (λ t. start ++ t) (sym (concat_one (begun k values) line))))
+      is ∙ (ap (λ t. t ++ line) was ∙ (append_assoc start (concat (first_pieces k values)) line ∙ ap (λ t. start ++ t) (sym (concat_one (first_pieces k values) line))))
 
   pub text_more : {S : Type 0} (leads : S → List Entries → Edges → Bool → S → Type 0) (s t : Steps) (before after : S) (text step new : Text) → IsNextText leads k s t before after step → new ≡ text ++ step → IsText s text → IsText t new
   text_more leads s t before after text step new n is so = record {
@@ -102,7 +103,7 @@ module _ (k : Task) (start : Text) where
 pub put_not_ok : (pending : Text) (end : Status) (tail : List Put) → IsPut pending (Some end) tail → end ≡ status.Ok → ⊥
 put_not_ok pending end tail h = late_not_ok end (tail_late (pending ∷ []) end tail (h []))
 
-pub wanting_not_ok : (end : Status) (tail : List Put) → IsWanting end tail → end ≡ status.Ok → ⊥
+pub wanting_not_ok : (end : Status) (tail : List Put) → EndsOutOfMemory end tail → end ≡ status.Ok → ⊥
 wanting_not_ok end tail (answer, s, t) =
     let P : Status → Type 0 = IsLate in
     late_not_ok end (subst P (sym s) (tail_late [] (status_after answer) (memory_put answer ∷ []) (wanting [] answer)))
@@ -129,15 +130,15 @@ module _ (failed : Type 0) (k : Task) where
   pub beside : (end : Status) (puts : List Put) → IsRun (IsListing k) (IsCutListing k) end puts → IsRun (IsListingBeside failed k) (IsCutListing k) end puts
   beside end puts h = weaker (IsListing k) (IsListingBeside failed k) (IsCutListing k) (λ meant pieces d. listed meant pieces d) end puts h
 
-  pub ends_stopped : (fault : SinkError) (s : Steps) (pending : Text) (puts tail rest : List Put) (end : Status) → IsUnderWay k s pending puts → tail ≡ taken pending ∷ [] → (fault ≡ error.Write → failed) → IsStopEnd fault end rest →
+  pub ends_stopped : (fault : SinkError) (s : Steps) (pending : Text) (puts tail rest : List Put) (end : Status) → IsUnderWay k s pending puts → tail ≡ whole_put pending ∷ [] → (fault ≡ error.Write → failed) → IsStopEnd fault end rest →
       IsRun (IsListingBeside failed k) (IsCutListing k) end (puts ++ tail ++ rest)
   ends_stopped error.Write s pending puts tail rest end u e why (same, none) =
       let i = u.here in
-      let both : puts ++ tail ≡ map taken (i.before ++ (pending ∷ [])) = rw (e, i.written) (sym (map-append taken i.before (pending ∷ []))) in
-      let all : puts ++ tail ≡ map taken (begun k u.values) = both ∙ ap (map taken) (sym i.all) in
+      let both : puts ++ tail ≡ map whole_put (i.before ++ (pending ∷ [])) = rw (e, i.written) (sym (map-append whole_put i.before (pending ∷ []))) in
+      let all : puts ++ tail ≡ map whole_put (first_pieces k u.values) = both ∙ ap (map whole_put) (sym i.all) in
       let Q : List Put → Type 0 = λ ps. IsRun (IsListingBeside failed k) (IsCutListing k) status.WriteFault ps in
       let cut = cut_listing k s.heads (times_left s) u.values u.solved in
-      let ran : Q (puts ++ tail) = subst Q (sym all) (whole status.WriteFault (begun k u.values) (left (begun k u.values) (why refl) cut)) in
+      let ran : Q (puts ++ tail) = subst Q (sym all) (whole status.WriteFault (first_pieces k u.values) (left (first_pieces k u.values) (why refl) cut)) in
       rw (same, none) (subst Q (sym (append-nil (puts ++ tail))) ran)
   ends_stopped error.Memory s pending puts tail rest end u e why h = beside end (puts ++ tail ++ rest) (ends_wanting k s pending puts tail end u rest e h)
 

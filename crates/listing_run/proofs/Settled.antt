@@ -4,10 +4,9 @@ use Rattle.listing_run.proofs.Common.{Ok, Err, SinkError, Bound, Entries, Edges,
 use Rattle.listing_run.proofs.Common.{AreStartHeadsFor, IsProblemFor, each_member, of_member, Text, end_line, LieBetween, IsPosed, edges_by, LiesBetweenBy}
 use Rattle.listing_run.proofs.Common.{LeadsBy, LeadsOrRests, Steps, Task, IsSettledBy, PairEncloses, Reaches, ReachesFirst, RestsOrSettles, RestsOrSettlesFirst}
 use Rattle.listing_run.proofs.Common.{rests, settled, IsAtFirst, IsNextText, IsWalk, times_left, EnclosesHistories, IsListing, last_line, listing, status_of}
-use Rattle.listing_run.proofs.Common.{AllSteps, Limits, Plain, Wide, exact_step, variable_heads, LiesBetween, ListingEnd, Step, ◌⊎◌}
+use Rattle.listing_run.proofs.Common.{AllSteps, Limits, Plain, Wide, exact_step, variable_heads, LiesBetween, ListingEnd, Step, ◌⊎◌, begun}
 use Rattle.settle_driver.specs.{HoldsPair}
 use Rattle.cell_balance.proofs.Deep.{le_trans_z}
-use Rattle.listing_run.specs.Settlers.{begun}
 use Rattle.listing_run.proofs.UnderWay.{all_left, first_same}
 use Rattle.decimal_input.proofs.FloorLaws.{mul_mono_right}
 use Rattle.run_puts.specs.declared.puts.Status.TheVariants as status

@@ -1,7 +1,7 @@
 -- The steps so far, from one to the next, and the end of a listing after them.
 use Rattle.listing_run.proofs.Common.{◌≡◌, ◌∙◌, ◌<◌, ℕ, List, [], ◌∷◌, ◌++◌, Bool, ap, arith, drop, get_or, length, refl, subst, sym, Bound, Entries, Edges}
 use Rattle.listing_run.proofs.Common.{TimeStep, start_head, times, HeadsEnclose, AreStartHeadsFor, Text, ListingEnd, Task, Step, AllSteps, EndsAt, FirstSteps}
-use Rattle.listing_run.proofs.Common.{IsStep, StepsThen, EachMember, BoundsMoves, EnclosesHistories, begun, listing, IsListing, IsCutListing, last_line}
+use Rattle.listing_run.proofs.Common.{IsStep, StepsThen, EachMember, BoundsMoves, EnclosesHistories, first_pieces, listing, IsListing, IsCutListing, last_line}
 use Rattle.listing_run.proofs.Common.{status_of, Steps, IsAtFirst, IsNext, IsNextText, IsWalk, times_left}
 use Rattle.listing_run.proofs.HistoriesBound.{AllBoundMoves, histories_bound}
 use Rattle.listing_run.specs.declared.text.ListingEnd.TheVariants as ends
@@ -67,7 +67,7 @@ module _ (k : Task) where
   pub ended : (old : List Bound) (rest : List TimeStep) (values : List Step) (last : ListingEnd) → IsSolved old rest values → EndsAt k last old rest → AllSteps k values last
   ended old rest values last = steps_end (EndsAt k last) old rest values
 
-  pub cut_listing : (old : List Bound) (rest : List TimeStep) (values : List Step) → IsSolved old rest values → IsCutListing k (begun k values)
+  pub cut_listing : (old : List Bound) (rest : List TimeStep) (values : List Step) → IsSolved old rest values → IsCutListing k (first_pieces k values)
   cut_listing old rest values s = record { values = values; steps = steps_end (λ heads times. Unit {0}) old rest values s tt; are = refl }
 
   -- no time is left after as many steps as there are times

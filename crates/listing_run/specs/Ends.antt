@@ -11,7 +11,7 @@ use Rattle.model_types.specs.declared.time_steps.TimeStep.{TimeStep}
 use Rattle.problem_builder.specs.{AreGridHeads, HeadsEnclose}
 use Rattle.deck_problems.specs.declared.problem.DeckTables.{DeckTables}
 use Rattle.step_chain.specs.declared.solved.StepFault.{StepFault}
-use Rattle.run_puts.specs.{IsWanting, Text}
+use Rattle.run_puts.specs.{EndsOutOfMemory, Text}
 use Rattle.run_puts.specs.declared.puts.Status.{Status}
 use Rattle.listing_run.specs.Listing.{BoundsMoves, text_of}
 use Rattle.listing_run.specs.Settlers.{IsSettledBy, EndsAt, IsStep, AllSteps, AllSettle}
@@ -95,7 +95,7 @@ module _ {S : Type 0} (leads : S → List Entries → Edges → Bool → S → T
 -- the puts of an end because the settler had to stop: none after a failed write
 abbrev pub IsStopEnd : SinkError → Status → List Put → Type 0
 IsStopEnd error.Write end tail = (end ≡ status.WriteFault) × (tail ≡ [])
-IsStopEnd error.Memory end tail = IsWanting end tail
+IsStopEnd error.Memory end tail = EndsOutOfMemory end tail
 
 -- Laws of listings of settled pairs: a model has one listing, and a model with a whole one has no other end. And what is listed with plain limits.
 -- there is at most one listing

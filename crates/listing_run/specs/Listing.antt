@@ -75,11 +75,11 @@ abbrev pub text_of : Task → Step → Text
 text_of k v = step_text k.decks.first k.digits v.at v.heads v.budget v.zones
 
 -- the first line, and a piece for each step
-abbrev pub begun : Task → List Step → List Text
-begun k values = first_text (is_between k) k.decks.first k.digits ∷ map (text_of k) values
+abbrev pub first_pieces : Task → List Step → List Text
+first_pieces k values = first_text (is_between k) k.decks.first k.digits ∷ map (text_of k) values
 
 abbrev pub listing : Task → List Step → Text → List Text
-listing k values last = begun k values ++ (last ∷ [])
+listing k values last = first_pieces k values ++ (last ∷ [])
 
 -- the status of a run whose listing ends so, and its last line
 abbrev pub status_of : ListingEnd → Status
@@ -115,7 +115,7 @@ time period step = record { period = period; step = step }
 pub record IsCutListing (k : Task) (pieces : List Text) : Type 0 where
   pub values : List Step
   pub steps : FirstSteps k (λ heads times. Unit {0}) values
-  pub are : pieces ≡ begun k values
+  pub are : pieces ≡ first_pieces k values
 
 -- the pieces of a listing that ends so; or, where a write beside it failed, the first ones of a listing
 pub data IsListingBeside (failed : Type 0) (k : Task) : Status → List Text → Type 0 where

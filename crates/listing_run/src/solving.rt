@@ -3,8 +3,7 @@ ghost use Rattle.std.specs.Prelude.{◌≡◌, ◌∷◌, List, IfOk, IfErr, ℕ
 ghost use Rattle.step_problem.specs.declared.heads.Bound.{Bound};
 ghost use Rattle.cell_relax.specs.{AreWords};
 ghost use Rattle.model_types.specs.declared.time_steps.TimeStep.{TimeStep};
-ghost use Rattle.problem_builder.specs.{AreGridHeads, IsActive};
-ghost use Rattle.problem_builder.specs.GridHeads.{IsNamed};
+ghost use Rattle.problem_builder.specs.{AreGridHeads, IsActive, IsCellNamed};
 ghost use Rattle.deck_problems.specs.{EachMember};
 ghost use Rattle.step_chain.specs.{EnclosesMoves};
 ghost use Rattle.listing_run.specs.Settlers.{IsStep, IsSolved};
@@ -93,7 +92,7 @@ pub fn flows_of(
 ) -> Result<Vec<ZoneFlow>, ZoneFault>
     requires zones { AreZones model.now (option_map (λ z. z.now) zones) }
     requires heads { AreGridHeads model.now heads.now }
-    requires named { (c : ℕ) → IsNamed problem.now c → IsActive model.now c }
+    requires named { (c : ℕ) → IsCellNamed problem.now c → IsActive model.now c }
     ensures flows { IfOk result (λ flows. AreFlowsOf problem.now heads.now (option_map (λ z. z.now) zones.entry) flows.items) }
     ensures fault { IfErr result (NoFlowsBy problem.now heads.now (option_map (λ z. z.now) zones.entry)) }
     ensures encloses { IfOk result (λ flows. FlowsEnclose problem.now heads.now (option_map (λ z. z.now) zones.entry) flows.items) }
@@ -115,7 +114,7 @@ pub(crate) fn step_flows(
     requires task { IsTask task.now }
     requires words { AreWords solved.now.problem solved.now.bounds }
     requires heads { AreGridHeads task.now.decks.first solved.now.heads }
-    requires named { (c : ℕ) → IsNamed solved.now.problem c → IsActive task.now.decks.first c }
+    requires named { (c : ℕ) → IsCellNamed solved.now.problem c → IsActive task.now.decks.first c }
     ensures step { IfOk result (λ flows. (old : List Bound) → IsSolved task.now at old solved.now →
         IsStep task.now at old (with_heads flows solved.now.heads)) }
     // Every solution from exact heads within the old ones lies within the step's heads, budget and flows between zones.

@@ -1,3 +1,3 @@
 pub mod Summaries
-pub use Rattle.listing_summary.specs.Summaries.{Fits, IsSummarized, count_line, counted, head_line, nothing, printed_heads, stepped, summary_of, width}
-unfoldable pub use Rattle.listing_summary.specs.Summaries.{printed, summary_text}
+pub use Rattle.listing_summary.specs.Summaries.{Fits, IsSummarized, count_line, head_line, nothing, printed_heads, summary_of, width, with_head_line, with_step}
+unfoldable pub use Rattle.listing_summary.specs.Summaries.{printed_bounds, summary_text}

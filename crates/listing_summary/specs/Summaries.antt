@@ -7,22 +7,22 @@ use Rattle.model_types.specs.declared.model.FlowModel.{FlowModel}
 use Rattle.model_types.specs.{is_active}
 use Rattle.listing_run.specs.declared.solving.Step.{Step}
 use Rattle.listing_summary.specs.declared.summary.Summary.{Summary}
-use Rattle.step_problem.specs.{IsWithin, head_limit}
+use Rattle.step_problem.specs.{IsMagnitudeAtMost, head_limit}
 use Rattle.listing_run.specs.declared.text.ListingEnd.{ListingEnd}
 use Rattle.listing_run.specs.declared.text.ListingEnd.TheVariants.{Whole}
 use Rattle.listing_run.specs.declared.steps.Task.{Task}
 use Rattle.listing_run.specs.{EnclosesHistories, AllSteps}
 use Rattle.fixed_text.specs.{fixed_text}
-use Rattle.listing_io.specs.{ended, numbers_text}
+use Rattle.listing_io.specs.{ended_line, numbers_text}
 
 -- The bounds that a step's lines HEAD print: those of the cells from c on whose IBOUND isn't 0.
-unfoldable pub printed : FlowModel → ℕ → List Bound → List Bound
-printed m c [] = []
-printed m c (b ∷ bs) = cond (is_active m c) (b ∷ []) [] ++ printed m (c + 1) bs
+unfoldable pub printed_bounds : FlowModel → ℕ → List Bound → List Bound
+printed_bounds m c [] = []
+printed_bounds m c (b ∷ bs) = cond (is_active m c) (b ∷ []) [] ++ printed_bounds m (c + 1) bs
 
 -- the bounds of all lines HEAD of a listing
 abbrev pub printed_heads : FlowModel → List Step → List Bound
-printed_heads m values = flat_map (λ v. printed m 0 v.heads) values
+printed_heads m values = flat_map (λ v. printed_bounds m 0 v.heads) values
 
 -- the upper head less the lower one
 abbrev pub width : Bound → ℤ
@@ -57,8 +57,8 @@ abbrev pub nothing : Summary
 nothing = record { steps = 0; heads = 0; widest = pos 0; low_sum = pos 0; high_sum = pos 0 }
 
 -- after one more line HEAD
-abbrev pub counted : Summary → Bound → Summary
-counted s b =
+abbrev pub with_head_line : Summary → Bound → Summary
+with_head_line s b =
     record {
       steps = s.steps;
       heads = s.heads + 1;
@@ -68,14 +68,14 @@ counted s b =
     }
 
 -- after one more step, with these heads of all cells
-abbrev pub stepped : FlowModel → Summary → List Bound → Summary
-stepped m s heads = record (fold counted s (printed m 0 heads)) { steps = s.steps + 1 }
+abbrev pub with_step : FlowModel → Summary → List Bound → Summary
+with_step m s heads = record (fold with_head_line s (printed_bounds m 0 heads)) { steps = s.steps + 1 }
 
 -- the sums are no greater than this many heads can make them
 pub record Fits (s : Summary) : Type 0 where
-  pub widest : IsWithin s.widest (2 * head_limit)
-  pub low : IsWithin s.low_sum (s.heads * head_limit)
-  pub high : IsWithin s.high_sum (s.heads * head_limit)
+  pub widest : IsMagnitudeAtMost s.widest (2 * head_limit)
+  pub low : IsMagnitudeAtMost s.low_sum (s.heads * head_limit)
+  pub high : IsMagnitudeAtMost s.high_sum (s.heads * head_limit)
 
 -- What a summary says about its task.
 -- The steps of the task up to this end have values, which enclose every history if they are all, and this is the summary
@@ -89,11 +89,11 @@ pub record IsSummarized (k : Task) (s : Summary) (last : ListingEnd) : Type 0 wh
 -- The text of a made model's summary.
 -- a line of a word and whole numbers
 abbrev pub count_line : List ℕ → List ℕ → List ℕ
-count_line word ns = ended (word ++ numbers_text ns)
+count_line word ns = ended_line (word ++ numbers_text ns)
 
 -- a line of a word and a head with 9 decimals
 abbrev pub head_line : List ℕ → ℤ → List ℕ
-head_line word z = ended (word ++ codes " " ++ fixed_text 9 z)
+head_line word z = ended_line (word ++ codes " " ++ fixed_text 9 z)
 
 unfoldable pub summary_text : ℕ → ℕ → Summary → List ℕ
 summary_text seed size s =

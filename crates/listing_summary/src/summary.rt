@@ -2,9 +2,9 @@
 ghost use Rattle.std.specs.Prelude.{◌≡◌, ◌+◌, ◌^◌, ◌+ℤ◌, ◌<◌, ◌≤◌, [], ◌∷◌, cond, length, All};
 ghost use Rattle.std.specs.Int.{int_max};
 ghost use Rattle.std.specs.List.{fold};
-ghost use Rattle.step_problem.specs.{IsHead, IsWithin};
+ghost use Rattle.step_problem.specs.{IsHead, IsMagnitudeAtMost};
 ghost use Rattle.model_types.specs.{is_active};
-ghost use Rattle.listing_summary.specs.{counted, stepped, nothing, Fits, printed, width};
+ghost use Rattle.listing_summary.specs.{with_head_line, with_step, nothing, Fits, printed_bounds, width};
 
 use model_types::FlowModel;
 use step_problem::Bound;
@@ -21,7 +21,7 @@ pub struct Summary {
 }
 
 fn plus(sum: i128, head: i64) -> i128
-    requires sum { IsWithin sum (2 ^ 101) }
+    requires sum { IsMagnitudeAtMost sum (2 ^ 101) }
     requires head { IsHead head }
     ensures { result ≡ sum +ℤ head }
 {
@@ -62,7 +62,7 @@ impl Summary {
         requires fits { Fits self.old }
         requires low { IsHead bound.low }
         requires high { IsHead bound.high }
-        ensures { self.new ≡ counted self.old bound }
+        ensures { self.new ≡ with_head_line self.old bound }
     {
         self.heads += 1;
         self.widest = max_of(width(bound), self.widest);
@@ -75,7 +75,7 @@ impl Summary {
         requires fits { Fits self.old }
         requires low { IsHead bound.low }
         requires high { IsHead bound.high }
-        ensures is { self.new ≡ counted self.old bound }
+        ensures is { self.new ≡ with_head_line self.old bound }
         ensures fits { Fits self.new }
     {
         self.add(bound);
@@ -87,7 +87,7 @@ impl Summary {
         requires fits { Fits self.old }
         requires low { IsHead bound.low }
         requires high { IsHead bound.high }
-        ensures is { self.new ≡ fold counted self.old (cond (is_active model.now cell) (bound ∷ []) []) }
+        ensures is { self.new ≡ fold with_head_line self.old (cond (is_active model.now cell) (bound ∷ []) []) }
         ensures fits { Fits self.new }
         ensures few { self.new.heads ≤ self.old.heads + 1 }
     {
@@ -101,7 +101,7 @@ impl Summary {
         requires room { self.old.heads + length heads.now ≤ 419430400000 }
         requires fits { Fits self.old }
         requires range { All (λ b. IsHead b.low × IsHead b.high) heads.now }
-        ensures is { self.new ≡ fold counted self.old (printed model.now 0 heads.now) }
+        ensures is { self.new ≡ fold with_head_line self.old (printed_bounds model.now 0 heads.now) }
         ensures fits { Fits self.new }
         ensures few { self.new.heads ≤ self.old.heads + length heads.now }
     {
@@ -117,7 +117,7 @@ impl Summary {
         requires room { self.old.heads + length heads.now ≤ 419430400000 }
         requires fits { Fits self.old }
         requires range { All (λ b. IsHead b.low × IsHead b.high) heads.now }
-        ensures is { self.new ≡ stepped model.now self.old heads.now }
+        ensures is { self.new ≡ with_step model.now self.old heads.now }
         ensures steps { self.new.steps ≡ self.old.steps + 1 }
         ensures fits { Fits self.new }
         ensures few { self.new.heads ≤ self.old.heads + length heads.now }

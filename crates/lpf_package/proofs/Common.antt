@@ -7,4 +7,4 @@ unfoldable pub use Rattle.lpf_package.specs.{contents_of, layer_at, layers_of, l
 pub use Rattle.outside.specs.{FileSet, words}
 pub use Rattle.record_lines.proofs.Forward.{begun_held, leaves, line_held}
 pub use Rattle.record_lines.proofs.Readings.{counted_gives, done, goes_on, if_clear, some_give, then_, weaker}
-pub use Rattle.record_lines.specs.{GivesOnly, Left, LineMay, LinesMay, Numbered, counted, left_from, without_comments}
+pub use Rattle.record_lines.specs.{GivesOnly, Left, LineMay, LinesMay, Numbered, each_number, left_from, without_comments}

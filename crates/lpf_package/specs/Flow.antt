@@ -3,7 +3,7 @@ use Rattle.std.specs.Prelude.{◌≡◌, ℕ, ℤ, List, Bool, not, Result, Ok, 
 use Rattle.std.specs.List.{list_any}
 use Rattle.outside.specs.{FileSet, refusal, words}
 use Rattle.outside.specs.declared.inputs.Refusal.{Refusal}
-use Rattle.record_lines.specs.{left_from, without_comments, Left, ◌>>=◌, counted, is_word, line_at}
+use Rattle.record_lines.specs.{left_from, without_comments, Left, ◌>>=◌, each_number, is_word, line_at}
 use Rattle.model_types.specs.declared.grid.Grid.{Grid}
 use Rattle.model_types.specs.declared.model.FlowModel.{FlowModel}
 use Rattle.model_types.specs.declared.period.Period.{Period}
@@ -55,20 +55,20 @@ properties_of files file x left = do
   vkcb ← layer_or files file x.rows x.cols x.has_bed no_number ss.1
   Ok (record { hk = hk.0; hani = hani.0; vka = vka.0; ss = ss.0; vkcb = vkcb.0 }, vkcb.1)
 
-abbrev pub joined : Properties → Properties → Properties
-joined above p = record { hk = above.hk ++ p.hk; hani = above.hani ++ p.hani; vka = above.vka ++ p.vka; ss = above.ss ++ p.ss; vkcb = above.vkcb ++ p.vkcb }
+abbrev pub joined_properties : Properties → Properties → Properties
+joined_properties above p = record { hk = above.hk ++ p.hk; hani = above.hani ++ p.hani; vka = above.vka ++ p.vka; ss = above.ss ++ p.ss; vkcb = above.vkcb ++ p.vkcb }
 
 -- what is read for layer k, from 0
 abbrev pub nth_layer : Grid → List Dec → Bool → ℕ → Layer
 nth_layer g chani stores k = record { rows = g.rows; cols = g.cols; chani = dec_at chani k; stores = stores; has_bed = is_nonzero (int_at g.laycbd k) }
 
 unfoldable pub layer_at : FileSet → List ℕ → Grid → List Dec → Bool → ℕ → (Properties × Left) → Result (Properties × Left) Refusal
-layer_at files file g chani stores k s = properties_of files file (nth_layer g chani stores k) s.1 >>= λ x. Ok (joined s.0 x.0, x.1)
+layer_at files file g chani stores k s = properties_of files file (nth_layer g chani stores k) s.1 >>= λ x. Ok (joined_properties s.0 x.0, x.1)
 
 -- layer by layer
 unfoldable pub layers_of : FileSet → List ℕ → Grid → List Dec → Bool → ℕ → Left → Result (Properties × Left) Refusal
 layers_of files file g chani stores count left =
-    counted (layer_at files file g chani stores) 0 count
+    each_number (layer_at files file g chani stores) 0 count
     (record { hk = []; hani = []; vka = []; ss = []; vkcb = [] }, left)
 
 -- whether a stress period is transient

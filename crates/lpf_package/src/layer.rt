@@ -2,7 +2,7 @@
 ghost use Rattle.std.specs.Prelude.{◌≡◌, IfOk, List};
 ghost use Rattle.outside.specs.{FileSet, ReadsOn};
 ghost use Rattle.record_lines.specs.{LinesMay, Gives};
-ghost use Rattle.lpf_package.specs.{properties_of, joined};
+ghost use Rattle.lpf_package.specs.{properties_of, joined_properties};
 
 use array_reader::{append, layer_or, read_layer};
 use decimal_input::dec::Dec;
@@ -75,7 +75,7 @@ pub fn properties_of<F: Folder>(
 
 /// The arrays of a layer after those of the layers above it.
 pub fn add_layer(above: Properties, layer: &Properties) -> Result<Properties, AllocError>
-    ensures { IfOk result (λ p. p ≡ joined above layer.now) }
+    ensures { IfOk result (λ p. p ≡ joined_properties above layer.now) }
 {
     Ok(Properties {
         hk: append(above.hk, layer.hk.as_slice())?,

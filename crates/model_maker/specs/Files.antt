@@ -14,8 +14,8 @@ after zero x = x
 after (suc k) x = next_state (after k x)
 
 -- the number drawn at the state x: a number below n
-abbrev pub drawn : ℕ → ℕ → ℕ
-drawn n x = next_state x / 65536 % n
+abbrev pub drawn_number : ℕ → ℕ → ℕ
+drawn_number n x = next_state x / 65536 % n
 
 abbrev pub Text : Type 0
 Text = List ℕ
@@ -50,7 +50,7 @@ bas_text n = codes "FREE\nINTERNAL 1 (FREE) -1\n" ++ texts_below n (λ i. ibound
 
 -- HK of a cell, from 1 to 9: one draw
 abbrev pub hk_text : ℕ → Text
-hk_text x = decimal (1 + drawn 9 x)
+hk_text x = decimal (1 + drawn_number 9 x)
 
 -- HK of a row, a draw for each cell in turn
 abbrev pub hk_row : ℕ → ℕ → Text
@@ -67,8 +67,8 @@ lpf_text n x = codes "0 -1E+30 0\n0 0\n0 0\n1 1\n0 0\n0 0\n" ++ layer_text n x +
 -- a well in layer 2: its row and its column, from 1 to n, and its pumping rate, from 1 to 500
 abbrev pub wel_text : ℕ → ℕ → Text
 wel_text n x =
-    codes "1 0\n1 0\n2 " ++ decimal (1 + drawn n x) ++ codes " " ++ decimal (1 + drawn n (after 1 x)) ++ codes " -"
-    ++ decimal (1 + drawn 500 (after 2 x)) ++ codes "\n"
+    codes "1 0\n1 0\n2 " ++ decimal (1 + drawn_number n x) ++ codes " " ++ decimal (1 + drawn_number n (after 1 x)) ++ codes " -"
+    ++ decimal (1 + drawn_number 500 (after 2 x)) ++ codes "\n"
 
 -- the river's reach in a row of layer 1, in the last column: its stage, its conductance and its bottom
 abbrev pub reach_text : ℕ → ℕ → Text

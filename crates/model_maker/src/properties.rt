@@ -1,6 +1,6 @@
 // The file of the layers' properties.
 ghost use Rattle.std.specs.Prelude.{◌≡◌, ◌*◌, ◌<◌, ◌≤◌, ◌++◌, codes, IfOk};
-ghost use Rattle.model_maker.specs.Files.{after, next_state, gap, hk_row, hk_text, layer_text, lpf_text, texts_below, drawn};
+ghost use Rattle.model_maker.specs.Files.{after, next_state, gap, hk_row, hk_text, layer_text, lpf_text, texts_below, drawn_number};
 
 use fixed_text::push_number;
 use std::alloc::{AllocError, Global};
@@ -102,7 +102,7 @@ impl Draws {
     /// Draws a number below n.
     pub(crate) fn draw(&mut self, n: u64) -> u64
         requires some { 0 < n }
-        ensures number { result ≡ drawn n self.old.x }
+        ensures number { result ≡ drawn_number n self.old.x }
         ensures below { result < n }
         ensures next { self.new.x ≡ next_state self.old.x }
     {

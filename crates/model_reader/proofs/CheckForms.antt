@@ -1,8 +1,8 @@
 -- A test of cells or of columns that is passed with one file's name in its refusals is passed with any other.
-use Rattle.model_reader.proofs.Common.{done, goes_on, GivesOnly, HasBasics, at_cell, cell_step, checked, fault_at, StartHead, Thickness, IsDec, IsStarted}
+use Rattle.model_reader.proofs.Common.{done, goes_on, GivesOnly, HasBasics, at_cell, cell_step, check_result, fault_at, StartHead, Thickness, IsDec, IsStarted}
 use Rattle.model_reader.proofs.Common.{IsNewPeriod, cell_tested, chosen_cell, column_step, column_tested, columns_tested, evap_fault, source, SameBut}
 use Rattle.model_reader.proofs.Common.{with_properties, IsGrid, IsTimed, cell_count, int_at, is_nonzero, layer_size, Grid, Limits, FlowModel, Period, Refusal}
-use Rattle.model_reader.proofs.Common.{Area, counted, All, Bool, List, None, Ok, Option, Result, Some, ap, length, pos, refl, subst, suc, sum, sum_by, sym}
+use Rattle.model_reader.proofs.Common.{Area, each_number, All, Bool, List, None, Ok, Option, Result, Some, ap, length, pos, refl, subst, suc, sum, sum_by, sym}
 use Rattle.model_reader.proofs.Common.{zero, ℕ, ℤ, ◌+◌, ◌∙◌, ◌≡◌, ◌≤◌, if◌then◌else◌, IsDiscretized, IsGridWithin, IsOfBeds, HasFlow, is_transient, steps, []}
 use Rattle.model_reader.proofs.Common.{cond, map, not, ◌∷◌, ◌||◌, length-map, with_basics}
 use Rattle.array_text.specs.{IsShort}
@@ -14,8 +14,8 @@ use Rattle.outside.specs.declared.codes.Code.{Code}
 use Rattle.lpf_package.specs.declared.layer.Properties.{Properties}
 
 -- where each step that is passed is passed otherwise too
-passed_again : (step other : ℕ → Unit {0} → Result (Unit {0}) Refusal) → ((i : ℕ) → step i tt ≡ Ok tt → other i tt ≡ Ok tt) → (n i : ℕ) → GivesOnly (λ u. counted other i n tt ≡ Ok tt) (counted step i n tt)
-unfolding counted
+passed_again : (step other : ℕ → Unit {0} → Result (Unit {0}) Refusal) → ((i : ℕ) → step i tt ≡ Ok tt → other i tt ≡ Ok tt) → (n i : ℕ) → GivesOnly (λ u. each_number other i n tt ≡ Ok tt) (each_number step i n tt)
+unfolding each_number
 passed_again step other again zero i = done refl
 passed_again step other again (suc n) i = goes_on (step i tt) _ (λ u e. rw (again i e) (passed_again step other again n (i + 1)))
 
@@ -23,8 +23,8 @@ cell_again : (g : Grid) (file other : List ℕ) (c : ℕ) (o : Option Code) → 
 cell_again g file other c None h = refl
 cell_again g file other c (Some code) h = absurd cc
 
-pub checked_again : (m : FlowModel) (file other : List ℕ) (check : Check) → checked m file check ≡ Ok tt → checked m other check ≡ Ok tt
-unfolding checked
+pub checked_again : (m : FlowModel) (file other : List ℕ) (check : Check) → check_result m file check ≡ Ok tt → check_result m other check ≡ Ok tt
+unfolding check_result
 checked_again m file other check h = (passed_again (cell_step m file check) (cell_step m other check) (λ c k. cell_again m.grid file other c (fault_at check m c) k) (cell_count m.grid) 0).gives tt h
 
 tested_again : (file other : List ℕ) (g : Grid) (c : ℕ) (o : Option Code) → cell_tested file g c o ≡ Ok tt → cell_tested other g c o ≡ Ok tt
@@ -62,7 +62,7 @@ pub record IsSound (limits : Limits) (m : FlowModel) : Type 0 where
   pub ibound : length m.ibound ≡ cell_count m.grid
   pub strt : (length m.strt ≡ cell_count m.grid) × All IsDec m.strt
   pub flow : HasFlow m
-  pub passed : (check : Check) (file : List ℕ) → checked m file check ≡ Ok tt
+  pub passed : (check : Check) (file : List ℕ) → check_result m file check ≡ Ok tt
 
 -- what is known of a model after LPF
 pub record IsFlow (limits : Limits) (m : FlowModel) : Type 0 where
@@ -74,8 +74,8 @@ pub record IsFlow (limits : Limits) (m : FlowModel) : Type 0 where
 abbrev pub staged : FlowModel → ℤ → ℤ → List Period → FlowModel
 staged core nrchop nevtop ps = record core { nrchop = nrchop; nevtop = nevtop; periods = ps }
 
-pub checks_kept : (core : FlowModel) (nrchop nevtop : ℤ) (ps : List Period) (check : Check) (file : List ℕ) → checked (staged core nrchop nevtop ps) file check ≡ checked core file check
-unfolding checked fault_at
+pub checks_kept : (core : FlowModel) (nrchop nevtop : ℤ) (ps : List Period) (check : Check) (file : List ℕ) → check_result (staged core nrchop nevtop ps) file check ≡ check_result core file check
+unfolding check_result fault_at
 checks_kept core nrchop nevtop ps Thickness file = refl
 checks_kept core nrchop nevtop ps x file = refl
 
@@ -121,22 +121,22 @@ sound_again limits core nrchop nevtop ps same times h = record {
   passed = λ check file. checks_kept core nrchop nevtop ps check file ∙ h.passed check file;
 }
 
-thickness_kept : (m : FlowModel) (c : Bool) (layvka : List ℤ) (p : Properties) (file : List ℕ) → checked (with_properties m c layvka p) file Thickness ≡ checked m file Thickness
-unfolding checked fault_at
+thickness_kept : (m : FlowModel) (c : Bool) (layvka : List ℤ) (p : Properties) (file : List ℕ) → check_result (with_properties m c layvka p) file Thickness ≡ check_result m file Thickness
+unfolding check_result fault_at
 thickness_kept m c layvka p file = refl
 
-heads_kept : (m : FlowModel) (c : Bool) (layvka : List ℤ) (p : Properties) (file : List ℕ) → checked (with_properties m c layvka p) file StartHead ≡ checked m file StartHead
-unfolding checked fault_at
+heads_kept : (m : FlowModel) (c : Bool) (layvka : List ℤ) (p : Properties) (file : List ℕ) → check_result (with_properties m c layvka p) file StartHead ≡ check_result m file StartHead
+unfolding check_result fault_at
 heads_kept m c layvka p file = refl
 
-all_passed : (m : FlowModel) (c : Bool) (layvka : List ℤ) (p : Properties) (dis bas lpf : List ℕ) → checked m dis Thickness ≡ Ok tt → checked m bas StartHead ≡ Ok tt → checked (with_properties m c layvka p) lpf PropertyCheck ≡ Ok tt
-    → (check : Check) (file : List ℕ) → checked (with_properties m c layvka p) file check ≡ Ok tt
+all_passed : (m : FlowModel) (c : Bool) (layvka : List ℤ) (p : Properties) (dis bas lpf : List ℕ) → check_result m dis Thickness ≡ Ok tt → check_result m bas StartHead ≡ Ok tt → check_result (with_properties m c layvka p) lpf PropertyCheck ≡ Ok tt
+    → (check : Check) (file : List ℕ) → check_result (with_properties m c layvka p) file check ≡ Ok tt
 all_passed m c layvka p dis bas lpf thick heads good Thickness file = checked_again (with_properties m c layvka p) dis file Thickness (thickness_kept m c layvka p dis ∙ thick)
 all_passed m c layvka p dis bas lpf thick heads good StartHead file = checked_again (with_properties m c layvka p) bas file StartHead (heads_kept m c layvka p bas ∙ heads)
 all_passed m c layvka p dis bas lpf thick heads good PropertyCheck file = checked_again (with_properties m c layvka p) lpf file PropertyCheck good
 
 pub flow_is : (limits : Limits) (b basic flow : FlowModel) (dis bas lpf : List ℕ) → IsStarted limits b → HasBasics b basic → HasFlow flow → SameBut basic flow
-    → checked basic dis Thickness ≡ Ok tt → checked basic bas StartHead ≡ Ok tt → checked flow lpf PropertyCheck ≡ Ok tt → IsFlow limits flow
+    → check_result basic dis Thickness ≡ Ok tt → check_result basic bas StartHead ≡ Ok tt → check_result flow lpf PropertyCheck ≡ Ok tt → IsFlow limits flow
 flow_is limits b basic flow dis bas lpf started basics has same thick heads good =
     let p : Properties = record { hk = flow.hk; hani = flow.hani; vka = flow.vka; ss = flow.ss; vkcb = flow.vkcb } in
     let only : flow ≡ with_properties (with_basics b basic.ibound basic.strt) flow.coefficient flow.layvka p = same ∙ ap (λ (m : FlowModel). with_properties m flow.coefficient flow.layvka p) basics.only in
@@ -148,8 +148,8 @@ flow_is limits b basic flow dis bas lpf started basics has same thick heads good
         strt = basics.strt;
         flow = subst (λ (m : FlowModel). HasFlow m) only has;
         passed = λ check file.
-            ap (λ (m : FlowModel). checked (with_properties m flow.coefficient flow.layvka p) file check) (sym basics.only)
-            ∙ all_passed basic flow.coefficient flow.layvka p dis bas lpf thick heads (subst (λ (m : FlowModel). checked m lpf PropertyCheck ≡ Ok tt) same good) check file;
+            ap (λ (m : FlowModel). check_result (with_properties m flow.coefficient flow.layvka p) file check) (sym basics.only)
+            ∙ all_passed basic flow.coefficient flow.layvka p dis bas lpf thick heads (subst (λ (m : FlowModel). check_result m lpf PropertyCheck ≡ Ok tt) same good) check file;
       };
       new = started.begun.periods;
       options = (ap (λ (m : FlowModel). m.nrchop) started.begun.new, ap (λ (m : FlowModel). m.nevtop) started.begun.new);

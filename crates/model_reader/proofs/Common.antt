@@ -20,7 +20,7 @@ unfoldable pub use Rattle.list_package.specs.{package_of}
 pub use Rattle.list_package.specs.declared.entries.ListKind.{ListKind}
 pub use Rattle.list_package.specs.declared.entries.ListKind.TheVariants.{Drains, Generals, Rivers, Wells}
 pub use Rattle.lpf_package.specs.{HasFlow, SameBut, is_transient, lpf_of, with_properties}
-pub use Rattle.model_reader.specs.{names_in, needed, stress_in, stresses, where_named}
+pub use Rattle.model_reader.specs.{names_in, needed_file, stress_in, stresses, where_named}
 unfoldable pub use Rattle.model_reader.specs.{bas_in, basics_tested, dis_in, file_in, lpf_in, model_of, reads, with_stresses}
 pub use Rattle.model_types.specs.{HasSize, IsBedChecked, IsBedValid, IsCellValid, IsGrid, IsGrowing, IsLayerArray, IsModel, IsPeriod, IsTimed, bottom_at}
 pub use Rattle.model_types.specs.{cell_count, dec_at, has_bed, int_at, is_active, is_int, is_nonzero, layer_size, lowest, number_one, top_at}
@@ -34,7 +34,7 @@ pub use Rattle.name_file.specs.{NamesMay, file_of}
 pub use Rattle.name_file.specs.Pairs.{Pairs}
 pub use Rattle.name_file.specs.declared.package.Package.TheVariants.{Bas, Chd, Dis, Drn, Evt, Ghb, Lpf, Rch, Riv, Wel}
 pub use Rattle.number_limits.specs.{at_cell, cell_step, is_checked_bed, is_positive, is_same_number, is_thick}
-unfoldable pub use Rattle.number_limits.specs.{checked, fault_at}
+unfoldable pub use Rattle.number_limits.specs.{check_result, fault_at}
 pub use Rattle.number_limits.specs.declared.passing.Check.TheVariants.{Properties, StartHead, Thickness}
 pub use Rattle.outside.specs.{FileSet, InputCounts, ReadsOn, file_at, input_fault}
 pub use Rattle.outside.specs.declared.inputs.InputFault.{InputFault}
@@ -44,6 +44,6 @@ pub use Rattle.period_arrays.specs.declared.area.Area.{Area}
 pub use Rattle.record_lines.proofs.Loops.{stops_all}
 pub use Rattle.record_lines.proofs.Readings.{done, goes_on, then_, weaker}
 pub use Rattle.record_lines.specs.{GivesOnly, Has, Stops, StopsText, ◌>>=◌}
-unfoldable pub use Rattle.record_lines.specs.{counted}
+unfoldable pub use Rattle.record_lines.specs.{each_number}
 pub use Rattle.stress_packages.specs.{drains, generals, recharge_arrays, rivers, wells}
 unfoldable pub use Rattle.stress_packages.specs.{rch_of}

@@ -1,7 +1,7 @@
 -- A model that is read, in reading order.
-use Rattle.model_reader.proofs.Common.{All, List, Ok, subst, sym, ℕ, ◌≡◌, All-weaker, done, goes_on, then_, weaker, GivesOnly, HasBasics, checked, StartHead}
-use Rattle.model_reader.proofs.Common.{Thickness, IsStarted, dis_is, HasFlow, SameBut, bas_in, basics_tested, dis_in, lpf_in, model_of, names_in, needed, reads}
-use Rattle.model_reader.proofs.Common.{IsTimed, Limits, FlowModel, Pairs, Bas, Dis, Lpf, FileSet, file_at}
+use Rattle.model_reader.proofs.Common.{All, List, Ok, subst, sym, ℕ, ◌≡◌, All-weaker, done, goes_on, then_, weaker, GivesOnly, HasBasics, check_result}
+use Rattle.model_reader.proofs.Common.{StartHead, Thickness, IsStarted, dis_is, HasFlow, SameBut, bas_in, basics_tested, dis_in, lpf_in, model_of, names_in}
+use Rattle.model_reader.proofs.Common.{needed_file, reads, IsTimed, Limits, FlowModel, Pairs, Bas, Dis, Lpf, FileSet, file_at}
 use Rattle.bas_package.proofs.BasForms.{bas_is}
 use Rattle.number_limits.specs.declared.passing.Check.TheVariants.{Properties as PropertyCheck}
 use Rattle.lpf_package.proofs.LpfForms.{lpf_is}
@@ -12,8 +12,8 @@ use Rattle.model_reader.proofs.StageForms.{IsStressed, first_stage, stresses_are
 -- a model with IBOUND and STRT that passed the tests of thickness and of starting heads
 record IsTested (dis bas : List ℕ) (begun basic : FlowModel) : Type 0 where
   pub basics : HasBasics begun basic
-  pub thick : checked basic dis Thickness ≡ Ok tt
-  pub heads : checked basic bas StartHead ≡ Ok tt
+  pub thick : check_result basic dis Thickness ≡ Ok tt
+  pub heads : check_result basic bas StartHead ≡ Ok tt
 
 -- a model that is read
 pub record IsRead (limits : Limits) (m : FlowModel) : Type 0 where
@@ -32,9 +32,9 @@ module _ (limits : Limits) (files : FileSet) where
   unfolding dis_in
   begun_is dis = goes_on (file_at files dis) _ (λ bytes e. dis_is limits files dis bytes)
 
-  both_tested : (dis bas : List ℕ) (basic : FlowModel) → GivesOnly (λ u. (checked basic dis Thickness ≡ Ok tt) × (checked basic bas StartHead ≡ Ok tt)) (basics_tested dis bas basic)
+  both_tested : (dis bas : List ℕ) (basic : FlowModel) → GivesOnly (λ u. (check_result basic dis Thickness ≡ Ok tt) × (check_result basic bas StartHead ≡ Ok tt)) (basics_tested dis bas basic)
   unfolding basics_tested
-  both_tested dis bas basic = goes_on (checked basic dis Thickness) _ (λ thick a. record { gives = λ u b. (a, b) })
+  both_tested dis bas basic = goes_on (check_result basic dis Thickness) _ (λ thick a. record { gives = λ u b. (a, b) })
 
   basic_is : (dis bas : List ℕ) (begun : FlowModel) → GivesOnly (IsTested dis bas begun) (bas_in files dis bas begun)
   unfolding bas_in
@@ -42,17 +42,17 @@ module _ (limits : Limits) (files : FileSet) where
       goes_on (file_at files bas) _ (λ bytes e. then_ _ (bas_is files bas bytes begun) (λ basic is. then_ _ (both_tested dis bas basic)
       (λ tested both. done (record { basics = is; thick = both.0; heads = both.1 }))))
 
-  lpf_read : (lpf : List ℕ) (basic : FlowModel) → GivesOnly (λ flow. HasFlow flow × SameBut basic flow × (checked flow lpf PropertyCheck ≡ Ok tt)) (lpf_in files lpf basic)
+  lpf_read : (lpf : List ℕ) (basic : FlowModel) → GivesOnly (λ flow. HasFlow flow × SameBut basic flow × (check_result flow lpf PropertyCheck ≡ Ok tt)) (lpf_in files lpf basic)
   unfolding lpf_in
   lpf_read lpf basic =
-      goes_on (file_at files lpf) _ (λ bytes a. then_ _ (lpf_is files lpf bytes basic) (λ flow is. goes_on (checked flow lpf PropertyCheck) _ (λ good b. done (is.0, is.1, b))))
+      goes_on (file_at files lpf) _ (λ bytes a. then_ _ (lpf_is files lpf bytes basic) (λ flow is. goes_on (check_result flow lpf PropertyCheck) _ (λ good b. done (is.0, is.1, b))))
 
   pub model_is : (names : Pairs) → GivesOnly (IsRead limits) (model_of limits files names)
   unfolding model_of
   model_is names =
-      let dis = needed Dis names in
-      let bas = needed Bas names in
-      let lpf = needed Lpf names in
+      let dis = needed_file Dis names in
+      let bas = needed_file Bas names in
+      let lpf = needed_file Lpf names in
       then_ _ (begun_is dis) (λ begun a. then_ _ (basic_is dis bas begun) (λ basic b. then_ _ (lpf_read lpf basic) (λ flow c.
       let f = flow_is limits begun basic flow dis bas lpf a b.basics c.0 c.1 b.thick b.heads c.2 in
       weaker (stresses_are limits flow f.sound.discretized.grid.size files names (first_stage limits flow f.options.0 f.options.1 f.new)) (λ m s. read_with limits flow m f s))))

@@ -1,7 +1,7 @@
 -- Readings one after the other, and what comes of the whole.
-use Rattle.model_reader.proofs.Common.{◌≡◌, ℕ, List, Ok, length, refl, sym, subst, FileSet, file_at, input_fault, Stops, StopsText, FlowModel, checked, bas_in}
-use Rattle.model_reader.proofs.Common.{basics_tested, lpf_in, lpf_of, ◌+◌, ◌<◌, Result, ◌>>=◌, Has, stress_in, with_stresses, ◌∙◌, drop, drop-cons, get_or}
-use Rattle.model_reader.proofs.Common.{add-one, ReadsOn, ◌≤◌, InputCounts, Properties, stops_all, Pairs, bas_of, Refusal, InputFault, Limits, drop_all}
+use Rattle.model_reader.proofs.Common.{◌≡◌, ℕ, List, Ok, length, refl, sym, subst, FileSet, file_at, input_fault, Stops, StopsText, FlowModel, check_result}
+use Rattle.model_reader.proofs.Common.{bas_in, basics_tested, lpf_in, lpf_of, ◌+◌, ◌<◌, Result, ◌>>=◌, Has, stress_in, with_stresses, ◌∙◌, drop, drop-cons}
+use Rattle.model_reader.proofs.Common.{get_or, add-one, ReadsOn, ◌≤◌, InputCounts, Properties, stops_all, Pairs, bas_of, Refusal, InputFault, Limits, drop_all}
 use Rattle.outside.specs.declared.inputs.TextFault.{TextFault}
 use Rattle.outside.specs.declared.traits.Folder.{Ghosts as FolderOf}
 use Rattle.name_file.specs.declared.package.Package.{Package}
@@ -52,6 +52,6 @@ unfolding bas_in
 bas_next files dis bas bytes begun read basic a same b = rw (a, ← same, b) refl
 
 pub lpf_next : (files : FileSet) (lpf bytes : List ℕ) (basic read flow : FlowModel) → file_at files lpf ≡ Ok bytes → read ≡ basic → lpf_of files lpf bytes read ≡ Ok flow
-    → lpf_in files lpf basic ≡ (checked flow lpf Properties >>= λ good. Ok flow)
+    → lpf_in files lpf basic ≡ (check_result flow lpf Properties >>= λ good. Ok flow)
 unfolding lpf_in
 lpf_next files lpf bytes basic read flow a same b = rw (a, ← same, b) refl

@@ -11,7 +11,7 @@ use Rattle.model_types.specs.declared.model.FlowModel.{FlowModel}
 use Rattle.dis_package.specs.{dis_of}
 use Rattle.bas_package.specs.{bas_of}
 use Rattle.lpf_package.specs.{lpf_of}
-use Rattle.number_limits.specs.{checked}
+use Rattle.number_limits.specs.{check_result}
 use Rattle.number_limits.specs.declared.passing.Check.TheVariants.{Thickness, StartHead, Properties}
 use Rattle.name_file.specs.declared.package.Package.{Package}
 use Rattle.list_package.specs.{given_heads, package_of}
@@ -26,8 +26,8 @@ names_in files name = do
   names_of name bytes
 
 -- the file of a package that every model has
-abbrev pub needed : Package → Pairs → List ℕ
-needed asked names = unwrap_or (file_of asked names) []
+abbrev pub needed_file : Package → Pairs → List ℕ
+needed_file asked names = unwrap_or (file_of asked names) []
 
 -- the model with a package, if the name file names one
 abbrev pub where_named : Option (List ℕ) → (List ℕ → FlowModel → Result FlowModel Refusal) → FlowModel → Result FlowModel Refusal
@@ -70,8 +70,8 @@ dis_in limits files dis = do
 -- the thickness of cells is refused with the file of the discretization, and then starting heads with that of BAS6
 unfoldable pub basics_tested : List ℕ → List ℕ → FlowModel → Result (Unit {0}) Refusal
 basics_tested dis bas basic = do
-  thick ← checked basic dis Thickness
-  checked basic bas StartHead
+  thick ← check_result basic dis Thickness
+  check_result basic bas StartHead
 
 unfoldable pub bas_in : FileSet → List ℕ → List ℕ → FlowModel → Result FlowModel Refusal
 bas_in files dis bas begun = do
@@ -84,15 +84,15 @@ unfoldable pub lpf_in : FileSet → List ℕ → FlowModel → Result FlowModel 
 lpf_in files lpf basic = do
   bytes ← file_at files lpf
   flow ← lpf_of files lpf bytes basic
-  good ← checked flow lpf Properties
+  good ← check_result flow lpf Properties
   Ok flow
 
 -- DIS, BAS6, LPF, and then the stresses
 unfoldable pub model_of : Limits → FileSet → Pairs → Result FlowModel Refusal
 model_of limits files names = do
-  begun ← dis_in limits files (needed Dis names)
-  basic ← bas_in files (needed Dis names) (needed Bas names) begun
-  flow ← lpf_in files (needed Lpf names) basic
+  begun ← dis_in limits files (needed_file Dis names)
+  basic ← bas_in files (needed_file Dis names) (needed_file Bas names) begun
+  flow ← lpf_in files (needed_file Lpf names) basic
   with_stresses limits files names stresses flow
 
 -- the model that a name file describes, or the first refusal

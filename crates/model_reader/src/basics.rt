@@ -4,15 +4,15 @@ ghost use Rattle.outside.specs.{FileSet, ReadsOn, IsGoodName, folder_name, TextM
 ghost use Rattle.record_lines.specs.{Has, HasText};
 ghost use Rattle.decimal_input.specs.{IsDec};
 ghost use Rattle.model_types.specs.{IsGrid};
-ghost use Rattle.number_limits.specs.{checked};
+ghost use Rattle.number_limits.specs.{check_result};
 ghost use Rattle.dis_package.specs.{IsBegun};
 ghost use Rattle.model_reader.specs.{dis_in, basics_tested, bas_in, lpf_in};
 
 use bas_package::read_bas;
-use number_limits::{Check, check_cells};
 use dis_package::read_dis;
 use lpf_package::read_lpf;
 use model_types::{FlowModel, Limits};
+use number_limits::{Check, check_cells};
 use outside::{Folder, InputFault, TextFault, read_input};
 use std::alloc::Global;
 
@@ -43,7 +43,7 @@ fn check_model(
 ) -> Result<FlowModel, TextFault>
     requires grid { IsGrid model.grid }
     requires strt { All IsDec model.strt }
-    ensures check { HasText (λ _. tt) result (checked model file.now check) }
+    ensures check { HasText (λ _. tt) result (check_result model file.now check) }
     ensures same { IfOk result (λ m. m ≡ model) }
 {
     match check_cells(alloc, &model, file, check) {

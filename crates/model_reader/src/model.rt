@@ -4,7 +4,7 @@ ghost use Rattle.outside.specs.{FileSet, ReadsOn, IsGoodName, folder_name};
 ghost use Rattle.record_lines.specs.{Has};
 ghost use Rattle.name_file.specs.{NamesMay, file_of, is_needed};
 ghost use Rattle.model_types.specs.{IsModel};
-ghost use Rattle.model_reader.specs.{model_of, reads, names_in, needed};
+ghost use Rattle.model_reader.specs.{model_of, reads, names_in, needed_file};
 
 use crate::basics::{bas_in, dis_in, lpf_in};
 use crate::stresses::with_stresses;
@@ -90,7 +90,7 @@ pub fn read_name_file<F: Folder>(
 /// The file of a package that every model has.
 pub fn file_needed(names: &Names, asked: Package) -> &str
     requires asked { IsTrue (is_needed asked) }
-    ensures file { result.now ≡ needed asked names.now }
+    ensures file { result.now ≡ needed_file asked names.now }
     ensures pair { Contains names.now (asked, result.now) }
     ensures good { IsGoodName result.now }
 {

@@ -1,9 +1,9 @@
 -- Flags, arrays of one layer, and arrays of layers are read as written.
 use Rattle.model_text.proofs.Common.{◌≡◌, ℕ, zero, suc, ◌+◌, ◌^◌, ◌<◌, ◌≤◌, Bool, true, false, ◌&&◌, nat_lt, nat_le, if◌then◌else◌, List, [], ◌∷◌, length, drop}
-use Rattle.model_text.proofs.Common.{All, Ok, refl, arith, ℤ, pos, negsuc, codes, FileSet, is_comment, counted, is_word, Grid, HasSize, is_int, layer_size}
-use Rattle.model_text.proofs.Common.{int_at, array_or, flag_at, flag_if, is_option, option_at, IsWhole, is_layer, layer_step, layers_tested, layers_at, IsShort}
-use Rattle.model_text.proofs.Common.{integer_word, Line, IsLine, integer_array, Takes, integer_is_word, word_by_test, IsLayers, number_at, integer, arrays}
-use Rattle.model_text.proofs.Common.{digits_spell, takes_none, takes_where, last_takes, and_parts, leb-true}
+use Rattle.model_text.proofs.Common.{All, Ok, refl, arith, ℤ, pos, negsuc, codes, FileSet, is_comment, each_number, is_word, Grid, HasSize, is_int, layer_size}
+use Rattle.model_text.proofs.Common.{int_at, array_or, flag_at, flag_if, is_option, option_at, CoversLayer, is_layer, layer_step, layers_tested, layers_at}
+use Rattle.model_text.proofs.Common.{IsShort, integer_word, Line, IsLine, integer_array, Takes, integer_is_word, word_by_test, IsLayers, number_at, integer}
+use Rattle.model_text.proofs.Common.{arrays, digits_spell, takes_none, takes_where, last_takes, and_parts, leb-true}
 use Rattle.model_text.proofs.FrameTexts.{integer_item, no_keyword}
 use Rattle.model_text.proofs.DisTexts.{decimal_is_item}
 
@@ -48,8 +48,8 @@ flag_if_reads file line true listed = flag_reads file line listed []
 flag_if_reads file line false listed = refl
 
 module _ (files : FileSet) (file : List ℕ) (g : Grid) (size : HasSize g) where
-  tests_pass : (xs : List ℤ) → ((i : ℕ) → i < layer_size g → is_layer g (int_at xs i) ≡ true) → (count i : ℕ) → i + count ≡ layer_size g → counted (layer_step file g xs) i count tt ≡ Ok tt
-  unfolding counted
+  tests_pass : (xs : List ℤ) → ((i : ℕ) → i < layer_size g → is_layer g (int_at xs i) ≡ true) → (count i : ℕ) → i + count ≡ layer_size g → each_number (layer_step file g xs) i count tt ≡ Ok tt
+  unfolding each_number
   tests_pass xs h zero i e = refl
   tests_pass xs h (suc count) i e =
       let low : i < layer_size g = omega arith in
@@ -61,7 +61,7 @@ module _ (files : FileSet) (file : List ℕ) (g : Grid) (size : HasSize g) where
   unfolding layers_tested
   layers_pass xs h = tests_pass xs h (layer_size g) 0 (omega arith)
 
-  layers_anew : (xs : List ℤ) → IsWhole g xs → All (λ z. IsShort z) xs → ((i : ℕ) → i < layer_size g → is_layer g (int_at xs i) ≡ true)
+  layers_anew : (xs : List ℤ) → CoversLayer g xs → All (λ z. IsShort z) xs → ((i : ℕ) → i < layer_size g → is_layer g (int_at xs i) ≡ true)
       → Takes (layers_at files file g) (integer_array g.rows g.cols xs) (λ left. (xs, left))
   unfolding layers_at
   layers_anew xs whole short good =

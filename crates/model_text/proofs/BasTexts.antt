@@ -1,9 +1,9 @@
 -- The file of BAS6 is read as written.
 use Rattle.model_text.proofs.Common.{◌≡◌, ℕ, zero, suc, ◌+◌, ◌*◌, ◌<◌, List, [], ◌∷◌, ◌++◌, length, drop, Result, Ok, refl, sym, arith, false, codes, flat_map}
-use Rattle.model_text.proofs.Common.{range_with_len, drop_all, drop-drop, take-append-drop, FileSet, Refusal, Left, is_comment, appended, real, layer_array}
-use Rattle.model_text.proofs.Common.{real_layer, integer_layer, layers, Grid, FlowModel, layer_size, cell_count, IsShort, Line, line_text, text, Takes}
-use Rattle.model_text.proofs.Common.{line_by_test, arrays, layer_values, each_layer, IsDiscretized, IsBasic, bas_item_1, bas_item_2, bas_item_3, bas_item_4}
-use Rattle.model_text.proofs.Common.{bas_lines, head_item, basics_of, with_basics, bas_of, takes_none, then_takes, last_takes, line_takes}
+use Rattle.model_text.proofs.Common.{range_with_len, drop_all, drop-drop, take-append-drop, FileSet, Refusal, Left, is_comment, appended_readings, real}
+use Rattle.model_text.proofs.Common.{layer_array, real_layer, integer_layer, layers, Grid, FlowModel, layer_size, cell_count, IsShort, Line, line_text, text}
+use Rattle.model_text.proofs.Common.{Takes, line_by_test, arrays, layer_values, each_layer, IsDiscretized, IsBasic, bas_item_1, bas_item_2, bas_item_3}
+use Rattle.model_text.proofs.Common.{bas_item_4, bas_lines, head_item, basics_of, with_basics, bas_of, takes_none, then_takes, last_takes, line_takes}
 use Rattle.array_reader.specs.{whole}
 use Rattle.model_text.specs.{real_layer as real_layer_lines, integer_layer as integer_layer_lines}
 use Rattle.bas_package.specs.{option_line}
@@ -20,15 +20,15 @@ module _ {X : Type 0} (read : Left → Result (List X × Left) Refusal) (g : Gri
       let back : drop ((k + 1) * layer_size g) xs ≡ drop (layer_size g) (drop (k * layer_size g) xs) = rw e (sym (drop-drop (layer_size g) (k * layer_size g) xs)) in
       rw back (take-append-drop (layer_size g) (drop (k * layer_size g) xs))
 
-  layers_from : (count k : ℕ) → k + count ≡ g.layers → Takes (appended count read) (flat_map lines (range_with_len k count)) (λ left. (drop (k * layer_size g) xs, left))
-  unfolding appended
+  layers_from : (count k : ℕ) → k + count ≡ g.layers → Takes (appended_readings count read) (flat_map lines (range_with_len k count)) (λ left. (drop (k * layer_size g) xs, left))
+  unfolding appended_readings
   layers_from zero k e =
       let same : k ≡ g.layers = omega arith in
       let none : drop (k * layer_size g) xs ≡ [] = drop_all (k * layer_size g) xs (rw same (omega arith)) in
       rw none takes_none
   layers_from (suc count) k e = then_takes _ (each k (omega arith)) (last_takes _ (layers_from count (k + 1) (omega arith)) (λ left. rw (from_layer k) refl))
 
-  layers_take : Takes (appended g.layers read) (each_layer g lines) (λ left. (xs, left))
+  layers_take : Takes (appended_readings g.layers read) (each_layer g lines) (λ left. (xs, left))
   layers_take = let none : 0 * layer_size g ≡ 0 = omega arith in rw none at (layers_from g.layers 0 (omega arith))
 
 module _ (files : FileSet) (file : List ℕ) (m : FlowModel) (d : IsDiscretized m) (b : IsBasic m) where

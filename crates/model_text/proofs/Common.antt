@@ -24,14 +24,14 @@ pub use Rattle.array_text.proofs.LineTexts.{then_takes}
 pub use Rattle.array_text.proofs.NumberTexts.{integer_reads, number_reads, one, short_exponent}
 pub use Rattle.array_text.proofs.WordTexts.{all_pass, count_is_word, integer_is_word, line_by_test, number_is_word, word_by_test}
 pub use Rattle.array_text.specs.{IsLine, IsShort, IsWord, IsWordByte, Line, Takes}
-unfoldable pub use Rattle.array_text.specs.{integer_array, integer_word, line_text, number_after, number_word, numbered_lines, real_array, row_line, row_lines}
-unfoldable pub use Rattle.array_text.specs.{text, unread}
+unfoldable pub use Rattle.array_text.specs.{integer_array, integer_word, left_of_lines, line_text, number_after, number_word, numbered_lines, real_array}
+unfoldable pub use Rattle.array_text.specs.{row_line, row_lines, text}
 pub use Rattle.bas_package.specs.{with_basics}
 unfoldable pub use Rattle.bas_package.specs.{bas_of, basics_of, head_item}
 pub use Rattle.decimal_input.specs.{IsDec, Ratio, is_digit}
-unfoldable pub use Rattle.decimal_input.specs.{ratio, scaled, units_of}
+unfoldable pub use Rattle.decimal_input.specs.{ratio, scaled_ratio, units_of}
 pub use Rattle.decimal_input.specs.declared.dec.Dec.{Dec}
-pub use Rattle.dis_package.specs.{begun, is_growth, is_time, kind_of, known, without_stresses}
+pub use Rattle.dis_package.specs.{is_growth, is_time, kind_of, kind_or_refusal, model_of_grid, without_stresses}
 unfoldable pub use Rattle.dis_package.specs.{beds_of, bottom_at, bottoms_of, count_at, dis_of, frame_of, grid_of, head_of, size_at, time_of, widths}
 pub use Rattle.evt_package.specs.{evaporation_arrays}
 unfoldable pub use Rattle.evt_package.specs.{evt_of}
@@ -39,7 +39,7 @@ pub use Rattle.list_package.specs.{Differ, Kind, first_fault, given_heads, is_le
 unfoldable pub use Rattle.list_package.specs.{cell_at, entry_at, entry_of, header_of, item_line, list_at, lists_of, new_list}
 pub use Rattle.lpf_package.specs.{is_transient, nth_layer, with_properties}
 unfoldable pub use Rattle.lpf_package.specs.{contents_of, layer_at, layers_of, lpf_of, properties_of, settings_of, storage_layer}
-pub use Rattle.model_reader.specs.{needed, stress_in, stresses, where_named}
+pub use Rattle.model_reader.specs.{needed_file, stress_in, stresses, where_named}
 unfoldable pub use Rattle.model_reader.specs.{bas_in, basics_tested, dis_in, lpf_in, model_of, names_in, reads, with_stresses}
 pub use Rattle.model_text.specs.{AreNames, HasFlow, HasLists, HasPackage, IsBasic, IsDiscretized, IsEntry, IsFileName, IsGridWithin, IsLayers, IsListOf}
 pub use Rattle.model_text.specs.{IsOfBeds, IsReadAgain, IsWritable, LacksPackage, ListPackagesReadAsWritten, ListsReadAsWritten, ModelsReadAreReadAsWritten}
@@ -66,17 +66,17 @@ pub use Rattle.name_file.specs.declared.package.Package.{Package}
 pub use Rattle.name_file.specs.declared.package.Package.TheVariants.{Bas, Chd, Dis, Drn, Evt, Ghb, Lpf, Rch, Riv, Wel}
 pub use Rattle.number_limits.proofs.SignLemmas.{positive_is}
 pub use Rattle.number_limits.specs.{is_positive, within}
-unfoldable pub use Rattle.number_limits.specs.{checked, fault_at, is_at_least, is_at_most, is_thick}
+unfoldable pub use Rattle.number_limits.specs.{check_result, fault_at, is_at_least, is_at_most, is_thick}
 pub use Rattle.number_limits.specs.declared.passing.Check.TheVariants.{StartHead, Thickness}
 pub use Rattle.outside.specs.{File, FileSet, bytes_under, file_at, folder_name, with_limit, words}
 unfoldable pub use Rattle.outside.specs.{is_good_name}
 pub use Rattle.outside.specs.declared.inputs.Refusal.{Refusal}
-pub use Rattle.period_arrays.specs.{ArrayKind, HasArrays, IsReals, IsWhole, array_or, contents, flag_if, is_layer, is_option, layer_step, no_area, nothing_yet}
-pub use Rattle.period_arrays.specs.{unit_if, with_area}
+pub use Rattle.period_arrays.specs.{ArrayKind, CoversLayer, HasArrays, IsReals, array_or, contents, flag_if, is_layer, is_option, layer_step, no_area}
+pub use Rattle.period_arrays.specs.{nothing_yet, unit_if, with_area}
 unfoldable pub use Rattle.period_arrays.specs.{area_at, arrays_in, arrays_of, flag_at, flags_of, layers_at, layers_tested, option_at, option_line, period_at}
 unfoldable pub use Rattle.period_arrays.specs.{periods_of, tested_area}
 pub use Rattle.period_arrays.specs.declared.area.Area.{Area}
 pub use Rattle.record_lines.specs.{Left, Numbered, beginning, begins_with, is_comment, is_word, left_from, next_number, without_comments, ◌>>=◌}
-unfoldable pub use Rattle.record_lines.specs.{appended, counted, for_each, name_at, repeated, word_at}
+unfoldable pub use Rattle.record_lines.specs.{appended_readings, each_number, for_each, name_at, repeated_reading, word_at}
 pub use Rattle.stress_packages.specs.{drains, generals, recharge_arrays, rivers, wells}
 unfoldable pub use Rattle.stress_packages.specs.{rch_of}

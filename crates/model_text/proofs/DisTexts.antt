@@ -2,10 +2,11 @@
 use Rattle.model_text.proofs.Common.{◌≡◌, ℕ, ◌^◌, ◌<◌, ◌≤◌, ◌==◌, true, false, List, [], ◌∷◌, ◌++◌, append_assoc, length, map, All, Ok, refl, arith, ◌+◌}
 use Rattle.model_text.proofs.Common.{Result, codes, decimal, All-head, All-from_recursion, All-cons, nat_tests, FileSet, words, is_comment, Left}
 use Rattle.model_text.proofs.Common.{without_comments, left_from, next_number, for_each, begins_with, ◌>>=◌, Numbered, FlowModel, HasSize, without_stresses}
-use Rattle.model_text.proofs.Common.{beds_of, begun, head_of, dis_of, IsWord, Line, IsLine, line_text, text, number_after, Takes, numbered_lines, unread}
-use Rattle.model_text.proofs.Common.{word_by_test, count_is_word, integer_is_word, each_layer, dis_item_1, dis_item_2, dis_item_3, dis_item_4, dis_item_5}
-use Rattle.model_text.proofs.Common.{dis_item_6, dis_item_7, dis_lines, IsDiscretized, IsGridWithin, Limits, is_digit, digits_spell, then_takes, last_takes}
-use Rattle.model_text.proofs.Common.{line_takes, line_words, text_left, next_line, takes_none, free_lists, append-nil, flat_map, AllZip, Refusal, item_line}
+use Rattle.model_text.proofs.Common.{beds_of, model_of_grid, head_of, dis_of, IsWord, Line, IsLine, line_text, text, number_after, Takes, numbered_lines}
+use Rattle.model_text.proofs.Common.{left_of_lines, word_by_test, count_is_word, integer_is_word, each_layer, dis_item_1, dis_item_2, dis_item_3, dis_item_4}
+use Rattle.model_text.proofs.Common.{dis_item_5, dis_item_6, dis_item_7, dis_lines, IsDiscretized, IsGridWithin, Limits, is_digit, digits_spell, then_takes}
+use Rattle.model_text.proofs.Common.{last_takes, line_takes, line_words, text_left, next_line, takes_none, free_lists, append-nil, flat_map, AllZip, Refusal}
+use Rattle.model_text.proofs.Common.{item_line}
 use Rattle.model_text.proofs.GridTexts.{grid_takes}
 use Rattle.model_text.proofs.FrameTexts.{frame_reads, beds_read}
 use Rattle.model_text.proofs.TimeTexts.{periods_take}
@@ -20,8 +21,8 @@ item_takes {line = line} {back = back} f file h plain k = record {
   reads = λ n rest. rw (next_line file n line (back ++ rest), line_words line h.words, plain) ((k n (line_words line h.words)).reads (next_number n) rest);
 }
 
-items_left : (n : ℕ) (line : Line) (others : List Line) → is_comment (line_text line) ≡ false → without_comments (unread n (line ∷ others)) ≡ unread n (line ∷ others)
-unfolding unread numbered_lines
+items_left : (n : ℕ) (line : Line) (others : List Line) → is_comment (line_text line) ≡ false → without_comments (left_of_lines n (line ∷ others)) ≡ left_of_lines n (line ∷ others)
+unfolding left_of_lines numbered_lines
 items_left n line others item = rw item refl
 
 -- a file, from its first line on, where that is no comment
@@ -102,7 +103,7 @@ module _ (m : FlowModel) (h : IsDiscretized m) where
   unfolding head_of
   head_takes limits file w = line_takes _ file frame_is_line (λ n e. rw (e, frame_reads limits file n m h w) (last_takes _ (beds_take file) (λ left. refl)))
 
-  pub dis_reads : (limits : Limits) (files : FileSet) (file : List ℕ) → IsGridWithin limits m.grid → dis_of limits files file (text (dis_lines m)) ≡ Ok (begun m.grid m.lenuni (map without_stresses m.periods))
+  pub dis_reads : (limits : Limits) (files : FileSet) (file : List ℕ) → IsGridWithin limits m.grid → dis_of limits files file (text (dis_lines m)) ≡ Ok (model_of_grid m.grid m.lenuni (map without_stresses m.periods))
   unfolding dis_of dis_lines
   dis_reads limits files file w =
       let g = m.grid in

@@ -1,10 +1,10 @@
 -- The entries of a list are read as written.
 use Rattle.model_text.proofs.Common.{◌≡◌, ℕ, ◌+◌, ◌^◌, ◌<◌, Bool, true, false, List, [], ◌∷◌, length, map, get_or, set, All, None, Ok, refl, sym, subst, arith}
-use Rattle.model_text.proofs.Common.{decimal, All-append, All-map, All-weaker, All-head, All-tail, All-from_recursion, Dec, repeated, Grid, CellId, cell_count}
-use Rattle.model_text.proofs.Common.{layer_of, row_of, column_of, place, HasSize, row_below, column_below, layer_below, entry_of, entry_at, is_left_out}
-use Rattle.model_text.proofs.Common.{no_marks, new_list, Kind, first_fault, Differ, IsWord, number_word, Line, IsLine, Takes, count_is_word, list_item_6}
-use Rattle.model_text.proofs.Common.{IsEntry, IsDec, number_at, number, zero, suc, cond, replicate, ◌∙◌, AllPairs, get_or-set_other, takes_none, then_takes}
-use Rattle.model_text.proofs.Common.{last_takes, line_takes}
+use Rattle.model_text.proofs.Common.{decimal, All-append, All-map, All-weaker, All-head, All-tail, All-from_recursion, Dec, repeated_reading, Grid, CellId}
+use Rattle.model_text.proofs.Common.{cell_count, layer_of, row_of, column_of, place, HasSize, row_below, column_below, layer_below, entry_of, entry_at}
+use Rattle.model_text.proofs.Common.{is_left_out, no_marks, new_list, Kind, first_fault, Differ, IsWord, number_word, Line, IsLine, Takes, count_is_word}
+use Rattle.model_text.proofs.Common.{list_item_6, IsEntry, IsDec, number_at, number, zero, suc, cond, replicate, ◌∙◌, AllPairs, get_or-set_other, takes_none}
+use Rattle.model_text.proofs.Common.{then_takes, last_takes, line_takes}
 use Rattle.model_text.proofs.FrameTexts.{decimal_item, number_item, is_entry, cell_reads}
 use Rattle.model_text.proofs.TimeTexts.{canonical_word}
 
@@ -57,8 +57,8 @@ pub record WritesNumbers {E : Type 0} (kind : Kind E) (cell : E → ℕ) (number
   pub place_is : (at : CellId) (c : List Dec) → kind.place (kind.entry at c) ≡ at.0
 
 -- numbers are read as written
-numbers_read : (file : List ℕ) (line : ℕ) (ds : List Dec) → All IsDec ds → repeated (length ds) (number_at number file line) (map number_word ds) ≡ Ok (ds, [])
-unfolding repeated
+numbers_read : (file : List ℕ) (line : ℕ) (ds : List Dec) → All IsDec ds → repeated_reading (length ds) (number_at number file line) (map number_word ds) ≡ Ok (ds, [])
+unfolding repeated_reading
 numbers_read file line [] h = refl
 numbers_read file line (d ∷ ds) h =
     rw (number_item file line d (All-head (λ x. IsDec x) d ds h), numbers_read file line ds (All-tail (λ x. IsDec x) d ds h)) refl
@@ -83,7 +83,7 @@ module _ {E : Type 0} (kind : Kind E) (cell : E → ℕ) (numbers : E → List D
   made_reads file line marks at c low count canonical passes free =
       let few = small at.0 low in
       let ws = map number_word (numbers (kind.entry at c)) in
-      let read : repeated (length kind.columns) (number_at number file line) ws ≡ Ok (c, []) = rw (w.numbers_are at c count, ← count) (numbers_read file line c canonical) in
+      let read : repeated_reading (length kind.columns) (number_at number file line) ws ≡ Ok (c, []) = rw (w.numbers_are at c count, ← count) (numbers_read file line c canonical) in
       rw (decimal_item file line (layer_of g at.0 + 1) few.0, decimal_item file line (row_of g at.0 + 1) few.1, decimal_item file line (column_of g at.0 + 1) few.2, read, cell_reads g h file line at low, passes, free) refl
 
   made_is_line : (at : CellId) (c : List Dec) → at.0 < cell_count g → length c ≡ length kind.columns → All IsDec c → IsLine (list_item_6 g at.0 (numbers (kind.entry at c)))
@@ -111,8 +111,8 @@ module _ {E : Type 0} (kind : Kind E) (cell : E → ℕ) (numbers : E → List D
       (λ n e. rw (e, left_out at.0 (numbers (kind.entry at c)) low, made_reads file n marks at c low count canonical passes unmarked) takes_none)))
 
   entries_take : (file : List ℕ) (marks : List Bool) (xs : List E) → All IsGood xs → AreFree kind marks xs
-      → Takes (λ left. repeated (length xs) (entry_at kind file g) (marks, left)) (map entry_line xs) (λ left. (xs, (marks_after kind marks xs, left)))
-  unfolding repeated
+      → Takes (λ left. repeated_reading (length xs) (entry_at kind file g) (marks, left)) (map entry_line xs) (λ left. (xs, (marks_after kind marks xs, left)))
+  unfolding repeated_reading
   entries_take file marks [] good free = takes_none
   entries_take file marks (x ∷ xs) good free =
       then_takes _ (entry_takes file marks x (All-head (λ y. IsGood y) x xs good) free.0)

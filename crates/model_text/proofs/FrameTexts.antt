@@ -1,13 +1,13 @@
 -- DIS items 1 and 2 are read as written.
 use Rattle.model_text.proofs.Common.{◌≡◌, ℕ, suc, ◌+◌, ◌-◌, ◌*◌, ◌<◌, ◌≤◌, true, List, [], ◌∷◌, ◌++◌, length, take, map, nat_le, All, Ok, refl, sym, ap, ◌∙◌}
 use Rattle.model_text.proofs.Common.{arith, ℤ, pos, codes, decimal, map-append, length-take-le, take_more, take_all, All-nil, All-cons, All-append, All-take}
-use Rattle.model_text.proofs.Common.{All-weaker, nat_tests, Left, next_number, repeated, beginning, is_word, integer, value_at, value_alone, zero_at, number}
-use Rattle.model_text.proofs.Common.{canonical, number_at, Grid, FlowModel, HasSize, IsGrid, int_at, most_layers, most_in_row, most_cells, no_number}
-use Rattle.model_text.proofs.Common.{cell_count, layer_of, row_of, column_of, size_at, frame_of, beds_of, count_at, IsShort, IsWord, integer_word, Line, unread}
-use Rattle.model_text.proofs.Common.{row_line, number_word, IsWrittenAs, on_line, value_reads, values_read, last_word, line_begins, alone_begins, same_start}
-use Rattle.model_text.proofs.Common.{row_is_words, integer_written, dis_item_1, dis_item_2, IsDiscretized, IsGridWithin, Limits, layers_few, in_row_few, ◌^◌}
-use Rattle.model_text.proofs.Common.{nat_lt, Some, Dec, IsDec, is_digit, within, number_reads, integer_reads, ◌==◌, false, drop, All-head, CellId, row_below}
-use Rattle.model_text.proofs.Common.{column_below, layer_below, place_gives, cell_at, is_left_out, digits_spell}
+use Rattle.model_text.proofs.Common.{All-weaker, nat_tests, Left, next_number, repeated_reading, beginning, is_word, integer, value_at, value_alone, zero_at}
+use Rattle.model_text.proofs.Common.{number, canonical, number_at, Grid, FlowModel, HasSize, IsGrid, int_at, most_layers, most_in_row, most_cells, no_number}
+use Rattle.model_text.proofs.Common.{cell_count, layer_of, row_of, column_of, size_at, frame_of, beds_of, count_at, IsShort, IsWord, integer_word, Line}
+use Rattle.model_text.proofs.Common.{left_of_lines, row_line, number_word, IsWrittenAs, on_line, value_reads, values_read, last_word, line_begins, alone_begins}
+use Rattle.model_text.proofs.Common.{same_start, row_is_words, integer_written, dis_item_1, dis_item_2, IsDiscretized, IsGridWithin, Limits, layers_few}
+use Rattle.model_text.proofs.Common.{in_row_few, ◌^◌, nat_lt, Some, Dec, IsDec, is_digit, within, number_reads, integer_reads, ◌==◌, false, drop, All-head}
+use Rattle.model_text.proofs.Common.{CellId, row_below, column_below, layer_below, place_gives, cell_at, is_left_out, digits_spell}
 use Rattle.std.specs.Char.{to_ascii_lowercase}
 
 -- Counts in lines.
@@ -64,12 +64,12 @@ frame_reads limits file line m h w =
 
 -- a reading of one value begins on the next line
 value_begins : (file : List ℕ) (n : ℕ) (line : Line) (others : List Line) → All (λ w. IsWord w) line
-    → value_at integer file (beginning, unread n (line ∷ others)) ≡ value_at integer file (on_line n [] line, unread (next_number n) others)
+    → value_at integer file (beginning, left_of_lines n (line ∷ others)) ≡ value_at integer file (on_line n [] line, left_of_lines (next_number n) others)
 unfolding value_at
 value_begins file n line others h = rw (line_begins n line others h) refl
 
 zero_begins : (file : List ℕ) (n : ℕ) (line : Line) (others : List Line) → All (λ w. IsWord w) line
-    → zero_at file (beginning, unread n (line ∷ others)) ≡ zero_at file (on_line n [] line, unread (next_number n) others)
+    → zero_at file (beginning, left_of_lines n (line ∷ others)) ≡ zero_at file (on_line n [] line, left_of_lines (next_number n) others)
 unfolding zero_at
 zero_begins file n line others h = rw (value_begins file n line others h) refl
 
@@ -90,23 +90,23 @@ module _ (file : List ℕ) (n : ℕ) (others : List Line) where
   end_word = integer_word (pos 0) ∷ []
 
   beds_after : (above : List ℤ) → All (λ z. IsShort z) above
-      → beds_of file (length above + 1) (unread n ((map integer_word above ++ end_word) ∷ others)) ≡ Ok (above ++ (pos 0 ∷ []), unread (next_number n) others)
-  unfolding beds_of repeated
+      → beds_of file (length above + 1) (left_of_lines n ((map integer_word above ++ end_word) ∷ others)) ≡ Ok (above ++ (pos 0 ∷ []), left_of_lines (next_number n) others)
+  unfolding beds_of repeated_reading
   beds_after [] h =
       let words = All-cons (λ w. IsWord w) (integer_word (pos 0)) [] (zero_written).is_word (All-nil (λ w. IsWord w)) in
-      rw (zero_begins file n end_word others words, zero_reads file n [] (unread (next_number n) others)) refl
+      rw (zero_begins file n end_word others words, zero_reads file n [] (left_of_lines (next_number n) others)) refl
   beds_after (z ∷ zs) h =
       let written = All-weaker (λ x. IsShort x) (λ x. IsWrittenAs integer integer_word x) integer_written (z ∷ zs) h in
       let words = All-append (λ w. IsWord w) (map integer_word (z ∷ zs)) end_word (row_is_words_map (z ∷ zs) written) (All-cons (λ w. IsWord w) (integer_word (pos 0)) [] (zero_written).is_word (All-nil (λ w. IsWord w))) in
       let start = alone_begins integer file n (map integer_word (z ∷ zs) ++ end_word) others words in
       let count : length (z ∷ zs) + 1 - 1 ≡ suc (length zs) = omega arith in
-      let first = same_start (length zs) (value_alone integer file) (beginning, unread n ((map integer_word (z ∷ zs) ++ end_word) ∷ others)) (on_line n [] (map integer_word (z ∷ zs) ++ end_word), unread (next_number n) others) start in
-      let read = values_read integer integer_word file n [] (z ∷ zs) end_word (unread (next_number n) others) written in
-      rw (count, first, read, zero_reads file n (last_word integer_word [] (z ∷ zs)) (unread (next_number n) others)) refl
+      let first = same_start (length zs) (value_alone integer file) (beginning, left_of_lines n ((map integer_word (z ∷ zs) ++ end_word) ∷ others)) (on_line n [] (map integer_word (z ∷ zs) ++ end_word), left_of_lines (next_number n) others) start in
+      let read = values_read integer integer_word file n [] (z ∷ zs) end_word (left_of_lines (next_number n) others) written in
+      rw (count, first, read, zero_reads file n (last_word integer_word [] (z ∷ zs)) (left_of_lines (next_number n) others)) refl
 
 -- item 2
 pub beds_read : (file : List ℕ) (n : ℕ) (others : List Line) (g : Grid) → IsGrid g → All (λ z. IsShort z) g.laycbd
-    → beds_of file g.layers (unread n (dis_item_2 g ∷ others)) ≡ Ok (g.laycbd, unread (next_number n) others)
+    → beds_of file g.layers (left_of_lines n (dis_item_2 g ∷ others)) ≡ Ok (g.laycbd, left_of_lines (next_number n) others)
 unfolding dis_item_2 row_line
 beds_read file n others g h short =
     let some : 1 ≤ g.layers = h.size.layers.0 in

@@ -1,10 +1,10 @@
 -- A model is read as written.
 use Rattle.model_text.proofs.Common.{with_limit, FileSet, file_at, ◌≡◌, ℕ, ◌≤◌, pos, Bool, true, false, if◌then◌else◌, List, [], ◌∷◌, length, map, All, Some}
 use Rattle.model_text.proofs.Common.{None, Ok, refl, ap, list_any, Pairs, is_same_package, file_of, Package, Dis, Bas, Lpf, Wel, Riv, Drn, Ghb, Rch, Chd, Evt}
-use Rattle.model_text.proofs.Common.{FlowModel, Period, HasSize, cell_of, stress_in, stresses, with_stresses, names_in, needed, dis_in, basics_tested, bas_in}
-use Rattle.model_text.proofs.Common.{lpf_in, model_of, reads, text, numbers_of, heads_of, packages, AreNames, has, lines_of, written, IsWritable, rch_lines}
-use Rattle.model_text.proofs.Common.{evt_lines, Limits, recharge_arrays, rch_of, wells, rivers, drains, generals, evaporation_arrays, evt_of, length-map, begun}
-use Rattle.model_text.proofs.Common.{without_stresses, with_basics, given_heads, checked, fault_at, Thickness, StartHead}
+use Rattle.model_text.proofs.Common.{FlowModel, Period, HasSize, cell_of, stress_in, stresses, with_stresses, names_in, needed_file, dis_in, basics_tested}
+use Rattle.model_text.proofs.Common.{bas_in, lpf_in, model_of, reads, text, numbers_of, heads_of, packages, AreNames, has, lines_of, written, IsWritable}
+use Rattle.model_text.proofs.Common.{rch_lines, evt_lines, Limits, recharge_arrays, rch_of, wells, rivers, drains, generals, evaporation_arrays, evt_of}
+use Rattle.model_text.proofs.Common.{length-map, model_of_grid, without_stresses, with_basics, given_heads, check_result, fault_at, Thickness, StartHead}
 use Rattle.model_text.proofs.DisTexts.{dis_reads}
 use Rattle.number_limits.specs.declared.passing.Check.TheVariants.{Properties}
 use Rattle.model_reader.proofs.CheckForms.{checks_kept}
@@ -44,14 +44,14 @@ all_back (p ∷ ps) = ap (λ (qs : List Period). p ∷ qs) (all_back ps)
 
 -- the model after DIS and BAS6
 abbrev basic_part : FlowModel → FlowModel
-basic_part m = with_basics (begun m.grid m.lenuni (map without_stresses m.periods)) m.ibound m.strt
+basic_part m = with_basics (model_of_grid m.grid m.lenuni (map without_stresses m.periods)) m.ibound m.strt
 
-thickness_kept : (m : FlowModel) (file : List ℕ) → checked (basic_part m) file Thickness ≡ checked m file Thickness
-unfolding checked fault_at
+thickness_kept : (m : FlowModel) (file : List ℕ) → check_result (basic_part m) file Thickness ≡ check_result m file Thickness
+unfolding check_result fault_at
 thickness_kept m file = refl
 
-heads_kept : (m : FlowModel) (file : List ℕ) → checked (basic_part m) file StartHead ≡ checked m file StartHead
-unfolding checked fault_at
+heads_kept : (m : FlowModel) (file : List ℕ) → check_result (basic_part m) file StartHead ≡ check_result m file StartHead
+unfolding check_result fault_at
 heads_kept m file = refl
 
 bare_twice : (ps : List Period) → map without_stresses (map without_stresses ps) ≡ map without_stresses ps
@@ -65,10 +65,10 @@ module _ (limits : Limits) (m : FlowModel) (w : IsWritable limits m) (names : Pa
   size : HasSize m.grid
   size = w.discretization.grid.size
 
-  needed_is : (k : Package) → has m k ≡ true → needed k pairs ≡ names k
+  needed_is : (k : Package) → has m k ≡ true → needed_file k pairs ≡ names k
   needed_is k h = rw (named k, h) refl
 
-  dis_there : dis_in limits files (names Dis) ≡ Ok (begun m.grid m.lenuni (map without_stresses m.periods))
+  dis_there : dis_in limits files (names Dis) ≡ Ok (model_of_grid m.grid m.lenuni (map without_stresses m.periods))
   unfolding dis_in
   dis_there = rw (there Dis refl) (dis_reads m w.discretization limits files (names Dis) w.within)
 
@@ -76,10 +76,10 @@ module _ (limits : Limits) (m : FlowModel) (w : IsWritable limits m) (names : Pa
   unfolding basics_tested
   basics_pass dis bas = rw (thickness_kept m dis, w.passed Thickness dis, heads_kept m bas, w.passed StartHead bas) refl
 
-  bas_there : bas_in files (names Dis) (names Bas) (begun m.grid m.lenuni (map without_stresses m.periods)) ≡ Ok (basic_part m)
+  bas_there : bas_in files (names Dis) (names Bas) (model_of_grid m.grid m.lenuni (map without_stresses m.periods)) ≡ Ok (basic_part m)
   unfolding bas_in
   bas_there =
-      let read = bas_reads files (names Bas) m w.discretization w.basic (begun m.grid m.lenuni (map without_stresses m.periods)) refl in
+      let read = bas_reads files (names Bas) m w.discretization w.basic (model_of_grid m.grid m.lenuni (map without_stresses m.periods)) refl in
       rw (there Bas refl, read, basics_pass (names Dis) (names Bas)) refl
 
   lpf_there : lpf_in files (names Lpf) (basic_part m) ≡ Ok (staged m (pos 0) (pos 0) without_stresses)

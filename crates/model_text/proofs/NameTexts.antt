@@ -2,9 +2,9 @@
 use Rattle.model_text.proofs.Common.{◌≡◌, ℕ, ◌≤◌, Bool, true, false, nat_le, ◌&&◌, List, [], ◌∷◌, ◌++◌, append_assoc, length, map, filter, All, Some, None, Ok}
 use Rattle.model_text.proofs.Common.{refl, arith, list_any, append-nil, All-nil, All-cons, All-head, All-tail, All-from_recursion, nat_tests, is_good_name}
 use Rattle.model_text.proofs.Common.{next_number, word_at, name_at, Pairs, is_same_package, file_of, has_package, file_in, after_package, after_line}
-use Rattle.model_text.proofs.Common.{after_lines, names_of, Package, Dis, Bas, Lpf, IsWord, IsWordByte, Line, IsLine, line_text, text, numbered_lines, unread}
-use Rattle.model_text.proofs.Common.{packages, file_type, file_unit, name_item, IsFileName, AreNames, is_same, is_itself, line_words, text_left, All-weaker}
-use Rattle.model_text.proofs.Common.{list_all-from_AllPass}
+use Rattle.model_text.proofs.Common.{after_lines, names_of, Package, Dis, Bas, Lpf, IsWord, IsWordByte, Line, IsLine, line_text, text, numbered_lines}
+use Rattle.model_text.proofs.Common.{left_of_lines, packages, file_type, file_unit, name_item, IsFileName, AreNames, is_same, is_itself, line_words, text_left}
+use Rattle.model_text.proofs.Common.{All-weaker, list_all-from_AllPass}
 use Rattle.name_file.specs.{whole}
 use Rattle.model_text.proofs.DisTexts.{line_is_item}
 use Rattle.model_text.proofs.PackageTexts.{type_is_word, unit_is_word, type_is_item, type_reads, type_is_kept, unit_is_integer, AreApart, packages_apart}
@@ -105,7 +105,7 @@ module _ (names : Package → List ℕ) (name : List ℕ) (h : AreNames names na
 
   pub names_read : (p : Package → Bool) → p Dis ≡ true → p Bas ≡ true → p Lpf ≡ true
       → names_of name (text (map (name_item names) (filter p packages))) ≡ Ok (pairs_of names p packages)
-  unfolding names_of whole unread
+  unfolding names_of whole left_of_lines
   names_read p dis bas lpf =
       let left = text_left 1 (map (name_item names) (filter p packages)) (all_are_lines (filter p packages)) in
       let none : All (λ k. has_package k [] ≡ false) packages = λ i d lt. refl in

@@ -1,10 +1,10 @@
 -- LPF items 1 to 6 are read as written.
 use Rattle.model_text.proofs.Common.{◌≡◌, ℕ, zero, suc, ◌+◌, ◌≤◌, Bool, true, false, List, [], ◌∷◌, length, replicate, All, Ok, refl, ap, arith, pos, codes}
-use Rattle.model_text.proofs.Common.{list_any, length-replicate, All-nil, All-cons, All-append, All-replicate, Dec, Left, next_number, counted, beginning}
+use Rattle.model_text.proofs.Common.{list_any, length-replicate, All-nil, All-cons, All-append, All-replicate, Dec, Left, next_number, each_number, beginning}
 use Rattle.model_text.proofs.Common.{is_word, number, integer, canonical, significant, zeros, value_at, free_list, zero_at, zero_step, zero_list, FlowModel}
-use Rattle.model_text.proofs.Common.{IsWord, Line, IsLine, unread, number_after, row_line, Takes, word_by_test, line_by_test, IsWrittenAs, on_line, value_reads}
-use Rattle.model_text.proofs.Common.{line_begins, free_list_reads, free_lists, storage_option, lpf_item_1, lpf_zeros, lpf_item_4, lpf_item_5, IsDiscretized}
-use Rattle.model_text.proofs.Common.{HasFlow, settings_of, one_line, takes_none, then_takes, last_takes, line_takes}
+use Rattle.model_text.proofs.Common.{IsWord, Line, IsLine, left_of_lines, number_after, row_line, Takes, word_by_test, line_by_test, IsWrittenAs, on_line}
+use Rattle.model_text.proofs.Common.{value_reads, line_begins, free_list_reads, free_lists, storage_option, lpf_item_1, lpf_zeros, lpf_item_4, lpf_item_5}
+use Rattle.model_text.proofs.Common.{IsDiscretized, HasFlow, settings_of, one_line, takes_none, then_takes, last_takes, line_takes}
 use Rattle.lpf_package.specs.{option_line}
 use Rattle.model_text.proofs.FrameTexts.{zero_item, zero_number_item}
 
@@ -19,25 +19,25 @@ step_reads : (file : List ℕ) (i n : ℕ) (last : List ℕ) (ws : Line) (left :
 unfolding zero_step zero_at
 step_reads file i n last ws left = rw (value_reads integer file n last (codes "0") ws left (pos 0) zero_word zero_reads) refl
 
-steps_read : (file : List ℕ) (count i n : ℕ) (left : Left) → counted (zero_step file) i count (on_line n (codes "0") (replicate count (codes "0")), left) ≡ Ok (on_line n (codes "0") [], left)
-unfolding counted
+steps_read : (file : List ℕ) (count i n : ℕ) (left : Left) → each_number (zero_step file) i count (on_line n (codes "0") (replicate count (codes "0")), left) ≡ Ok (on_line n (codes "0") [], left)
+unfolding each_number
 steps_read file zero i n left = refl
 steps_read file (suc count) i n left = rw (step_reads file i n (codes "0") (replicate count (codes "0")) left, steps_read file count (i + 1) n left) refl
 
 step_begins : (file : List ℕ) (i n : ℕ) (line : Line) (others : List Line) → All (λ w. IsWord w) line
-    → zero_step file i (beginning, unread n (line ∷ others)) ≡ zero_step file i (on_line n [] line, unread (next_number n) others)
+    → zero_step file i (beginning, left_of_lines n (line ∷ others)) ≡ zero_step file i (on_line n [] line, left_of_lines (next_number n) others)
 unfolding zero_step zero_at value_at
 step_begins file i n line others h = rw (line_begins n line others h) refl
 
 steps_begin : (file : List ℕ) (count n : ℕ) (others : List Line)
-    → counted (zero_step file) 0 (suc count) (beginning, unread n (replicate (suc count) (codes "0") ∷ others)) ≡ Ok (on_line n (codes "0") [], unread (next_number n) others)
-unfolding counted
+    → each_number (zero_step file) 0 (suc count) (beginning, left_of_lines n (replicate (suc count) (codes "0") ∷ others)) ≡ Ok (on_line n (codes "0") [], left_of_lines (next_number n) others)
+unfolding each_number
 steps_begin file count n others =
     let words = All-replicate (λ w. IsWord w) (suc count) (codes "0") zero_word in
     rw (
       step_begins file 0 n (replicate (suc count) (codes "0")) others words,
-      step_reads file 0 n [] (replicate count (codes "0")) (unread (next_number n) others),
-      steps_read file count (0 + 1) n (unread (next_number n) others),
+      step_reads file 0 n [] (replicate count (codes "0")) (left_of_lines (next_number n) others),
+      steps_read file count (0 + 1) n (left_of_lines (next_number n) others),
     ) refl
 
 zeros_by : (file : List ℕ) (count : ℕ) → 1 ≤ count → Takes (zero_list file count) (replicate count (codes "0") ∷ []) (λ left. (tt, left))

@@ -1,9 +1,9 @@
 -- DIS item 7 is read as written.
 use Rattle.model_text.proofs.Common.{◌≡◌, ℕ, ◌+◌, ◌*◌, ◌≤◌, ◌⊎◌, inl, inr, Bool, true, false, ◌||◌, List, [], ◌∷◌, length, map, nat_le, sum_by, fold, All, Ok}
-use Rattle.model_text.proofs.Common.{refl, arith, codes, decimal, All-head, All-tail, nat_tests, Dec, IsDec, Ratio, ratio, Refusal, repeated, Period}
-use Rattle.model_text.proofs.Common.{without_stresses, kind_of, known, is_growth, is_time, time_of, IsWord, number_word, IsLine, Takes, short_exponent}
-use Rattle.model_text.proofs.Common.{word_by_test, number_is_word, count_is_word, steady_word, dis_item_7, is_at_most, is_at_least, takes_none, line_takes}
-use Rattle.model_text.proofs.Common.{All-from_recursion, then_takes, last_takes, IsTimed, IsGrowing, number_one, sum_by_from, positive_is}
+use Rattle.model_text.proofs.Common.{refl, arith, codes, decimal, All-head, All-tail, nat_tests, Dec, IsDec, Ratio, ratio, Refusal, repeated_reading, Period}
+use Rattle.model_text.proofs.Common.{without_stresses, kind_of, kind_or_refusal, is_growth, is_time, time_of, IsWord, number_word, IsLine, Takes}
+use Rattle.model_text.proofs.Common.{short_exponent, word_by_test, number_is_word, count_is_word, steady_word, dis_item_7, is_at_most, is_at_least, takes_none}
+use Rattle.model_text.proofs.Common.{line_takes, All-from_recursion, then_takes, last_takes, IsTimed, IsGrowing, number_one, sum_by_from, positive_is}
 use Rattle.dis_package.specs.{period_at, periods_of}
 use Rattle.decimal_input.specs.Ratios.{den, AtMost}
 use Rattle.dis_package.specs.declared.periods.Time.{Time}
@@ -27,7 +27,7 @@ time_is_line p h = record {
 abbrev time : Period → Time
 time p = record { perlen = p.perlen; nstp = p.nstp; tsmult = p.tsmult; steady = p.steady }
 
-steady_known : (b : Bool) (r : Refusal) → known (kind_of (steady_word b ∷ [])) r ≡ Ok b
+steady_known : (b : Bool) (r : Refusal) → kind_or_refusal (kind_of (steady_word b ∷ [])) r ≡ Ok b
 steady_known true r = refl
 steady_known false r = refl
 
@@ -68,8 +68,8 @@ abbrev steps_after : ℕ → List Period → ℕ
 steps_after steps ps = fold (λ a p. a + p.nstp) steps ps
 
 periods_repeat : (file : List ℕ) (steps : ℕ) (ps : List Period) → All (λ p. IsTimed p) ps → steps_after steps ps ≤ 100000
-    → Takes (λ left. repeated (length ps) (period_at file) (steps, left)) (map dis_item_7 ps) (λ left. (map without_stresses ps, (steps_after steps ps, left)))
-unfolding repeated
+    → Takes (λ left. repeated_reading (length ps) (period_at file) (steps, left)) (map dis_item_7 ps) (λ left. (map without_stresses ps, (steps_after steps ps, left)))
+unfolding repeated_reading
 periods_repeat file steps [] h room = takes_none
 periods_repeat file steps (p ∷ ps) h room =
     let low : steps + p.nstp ≤ 100000 = omega (arith, room, sum_by_from (λ q. q.nstp) (steps + p.nstp) ps) in

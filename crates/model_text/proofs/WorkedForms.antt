@@ -5,8 +5,8 @@ use Rattle.model_text.proofs.Common.{number_word, integer_word, line_text, text,
 use Rattle.model_text.proofs.Common.{IsBasic, HasFlow, IsEntry, IsListOf, deck_name, deck_names, IsWritable, written, dis_lines, dis_item_1, dis_item_2}
 use Rattle.model_text.proofs.Common.{dis_item_3, dis_item_4, dis_item_5, dis_item_6, dis_item_7, bas_lines, bas_item_1, bas_item_2, bas_item_3, bas_item_4}
 use Rattle.model_text.proofs.Common.{lpf_lines, lpf_item_1, lpf_zeros, lpf_item_4, lpf_item_5, lpf_arrays, name_item, deck, ThreeCells, wells, rivers, drains}
-use Rattle.model_text.proofs.Common.{generals, recharge_arrays, evaporation_arrays, no_area, IsDec, scaled, ratio, units_of, counted, checked, fault_at}
-use Rattle.model_text.proofs.Common.{is_at_most, is_thick, Thickness, given_heads, Kind}
+use Rattle.model_text.proofs.Common.{generals, recharge_arrays, evaporation_arrays, no_area, IsDec, scaled_ratio, ratio, units_of, each_number, check_result}
+use Rattle.model_text.proofs.Common.{fault_at, is_at_most, is_thick, Thickness, given_heads, Kind}
 use Rattle.model_text.proofs.FileTexts.{good_names}
 use Rattle.model_text.proofs.ModelTexts.{model_reads}
 use Rattle.number_limits.specs.declared.passing.Check.{Check}
@@ -72,8 +72,8 @@ flow = record {
   beds = of_beds;
 }
 
-passed : (check : Check) (file : List ℕ) → checked three_cells file check ≡ Ok tt
-unfolding checked fault_at counted is_thick units_of is_at_most scaled ratio
+passed : (check : Check) (file : List ℕ) → check_result three_cells file check ≡ Ok tt
+unfolding check_result fault_at each_number is_thick units_of is_at_most scaled_ratio ratio
 passed Thickness file = refl
 passed x file = refl
 

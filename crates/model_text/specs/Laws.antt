@@ -12,7 +12,7 @@ use Rattle.evt_package.specs.{evaporation_arrays, evt_of}
 use Rattle.array_text.specs.{text, IsShort}
 use Rattle.model_text.specs.Lists.{rch_lines, evt_lines, numbers_of, heads_of, list_lines}
 use Rattle.model_text.specs.Readable.{HasPackage, LacksPackage, with_areas, IsBasic}
-use Rattle.dis_package.specs.{IsDiscretized, IsGridWithin, begun, dis_of, without_stresses}
+use Rattle.dis_package.specs.{IsDiscretized, IsGridWithin, model_of_grid, dis_of, without_stresses}
 use Rattle.lpf_package.specs.{HasFlow, with_properties, lpf_of}
 use Rattle.std.specs.List.{AllZip, AllPairs}
 use Rattle.decimal_input.specs.declared.dec.Dec.{Dec}
@@ -21,7 +21,7 @@ use Rattle.model_types.specs.declared.period.Period.{Period}
 use Rattle.list_package.specs.{given_heads, Kind, IsListOf, lists_of, with_list}
 use Rattle.bas_package.specs.{with_basics, bas_of}
 use Rattle.model_text.specs.Discretization.{dis_lines, bas_lines, lpf_lines}
-use Rattle.number_limits.specs.{checked}
+use Rattle.number_limits.specs.{check_result}
 use Rattle.number_limits.specs.declared.passing.Check.{Check}
 use Rattle.decimal_input.specs.{IsDec}
 use Rattle.model_types.specs.declared.grid.CellId.{CellId}
@@ -45,7 +45,7 @@ pub record IsWritable (limits : Limits) (m : FlowModel) : Type 0 where
   pub within : IsGridWithin limits m.grid
   pub basic : IsBasic m
   pub flow : HasFlow m
-  pub passed : (check : Check) (file : List ℕ) → checked m file check ≡ Ok tt
+  pub passed : (check : Check) (file : List ℕ) → check_result m file check ≡ Ok tt
   pub wel : HasLists limits wells m
   pub riv : HasLists limits rivers m
   pub drn : HasLists limits drains m
@@ -92,12 +92,12 @@ pub record ListPackagesReadAsWritten : Type 0 where
 -- the file of DIS gives the grid, LENUNI and the stress periods by limits that the grid keeps
 abbrev pub DisReadsAsWritten : Type 0
 DisReadsAsWritten = (limits : Limits) (files : FileSet) (file : List ℕ) (m : FlowModel) → IsDiscretized m → IsGridWithin limits m.grid →
-    dis_of limits files file (text (dis_lines m)) ≡ Ok (begun m.grid m.lenuni (map without_stresses m.periods))
+    dis_of limits files file (text (dis_lines m)) ≡ Ok (model_of_grid m.grid m.lenuni (map without_stresses m.periods))
 
 -- the file of BAS6 gives IBOUND and STRT to a model with this grid
 abbrev pub BasReadsAsWritten : Type 0
-BasReadsAsWritten = (files : FileSet) (file : List ℕ) (m begun : FlowModel) → IsDiscretized m → IsBasic m → begun.grid ≡ m.grid →
-    bas_of files file (text (bas_lines m)) begun ≡ Ok (with_basics begun m.ibound m.strt)
+BasReadsAsWritten = (files : FileSet) (file : List ℕ) (m model_of_grid : FlowModel) → IsDiscretized m → IsBasic m → model_of_grid.grid ≡ m.grid →
+    bas_of files file (text (bas_lines m)) model_of_grid ≡ Ok (with_basics model_of_grid m.ibound m.strt)
 
 -- the file of LPF gives the properties to a model with this grid and these times
 abbrev pub LpfReadsAsWritten : Type 0

@@ -1,11 +1,11 @@
 -- The heads of constant-head cells (TM 6-A16, chapters 4 and 6, BAS and CHD; where the manual leaves room, this program's choice).
 use Rattle.std.specs.Prelude.{ℕ, ◌-◌, Option, Some, None, take, pos, Bool, cond, not, ◌&&◌, ◌==◌, int_lt, List, length, filter, map, is_some, reverse}
-use Rattle.decimal_input.specs.{number, Ratio, Fraction, signed, negated}
+use Rattle.decimal_input.specs.{number, Ratio, Fraction, as_fraction, opposite}
 use Rattle.decimal_input.specs.Fractions.{plus, times}
 use Rattle.model_types.specs.declared.model.FlowModel.{FlowModel}
 use Rattle.model_types.specs.declared.entry.Given.{Given}
 use Rattle.model_types.specs.Layers.{dec_at, int_at, is_active}
-use Rattle.model_types.specs.Times.{period_at, passed}
+use Rattle.model_types.specs.Times.{period_at, part_passed}
 use Rattle.std.specs.List.{range_with_len, find, flat_map}
 use Rattle.model_types.specs.declared.period.Period.{Period}
 use Rattle.model_types.specs.declared.given_heads.Kind.{Kind}
@@ -64,7 +64,7 @@ start_head m c = number (dec_at m.strt c)
 
 -- Shead + (Ehead - Shead) * f
 abbrev pub between_heads : Given → Ratio → Fraction
-between_heads x f = plus (number x.shead) (times (plus (number x.ehead) (negated (number x.shead))) (signed f))
+between_heads x f = plus (number x.shead) (times (plus (number x.ehead) (opposite (number x.shead))) (as_fraction f))
 
 module _ (m : FlowModel) where
   -- the head that a constant cell keeps: the Ehead of the last list that named it, or STRT where none has
@@ -76,7 +76,7 @@ module _ (m : FlowModel) (p n : ℕ) where
   -- the head at step n of period p. Where the period's list names the cell it lies between Shead and Ehead, by the
   -- part of the period that has passed; else it is the head that the cell keeps.
   abbrev pub head_or_kept : Option Given → ℕ → Fraction
-  head_or_kept (Some x) c = between_heads x (passed (period_at m p) n)
+  head_or_kept (Some x) c = between_heads x (part_passed (period_at m p) n)
   head_or_kept None c = kept_head m (last_given (take (p - 1) m.periods) c) c
 
   unfoldable pub constant_head : ℕ → Fraction

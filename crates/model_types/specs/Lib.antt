@@ -25,6 +25,6 @@ unfoldable pub use Rattle.model_types.specs.Sources.{entries_of}
 pub use Rattle.model_types.specs.Sources.FixedSource.{FromStorage, ToConstant, ToGeneral}
 pub use Rattle.model_types.specs.Sources.FlowSource.{Pumped, Received}
 pub use Rattle.model_types.specs.Times.{entries, multiplier, no_period, no_stresses, period_at, steps_of}
-unfoldable pub use Rattle.model_types.specs.Times.{geometric, passed, power, step_length, times}
+unfoldable pub use Rattle.model_types.specs.Times.{geometric, part_passed, power, step_length, times}
 pub use Rattle.model_types.specs.Valid.{AreStresses, IsBedChecked, IsBedValid, IsCellValid, IsEntryList, IsEntryValid, IsEvapValid, IsGivenList, IsGivenValid}
 pub use Rattle.model_types.specs.Valid.{IsGrowing, IsLayerArray, IsModel, IsPeriod, IsTimed, number_one}

@@ -3,7 +3,7 @@ use Rattle.std.specs.Prelude.{ℕ, suc, ◌+◌, ◌*◌, ℤ, pos, negsuc, Bool
 use Rattle.std.specs.Prelude.{length, IfSome, ◌^◌, neg_ℤ, ◌+ℤ◌, ◌≤ℤ◌, unsigned_abs}
 use Rattle.std.specs.List.{range_with_len, list_any}
 use Rattle.decimal_input.specs.declared.dec.Dec.{Dec}
-use Rattle.decimal_input.specs.{number, size, Ratio, over, Fraction, signed, negated, IsDec, EnclosesSigned, IsSignedFloor, IsSignedCeiling}
+use Rattle.decimal_input.specs.{number, size, Ratio, over, Fraction, as_fraction, opposite, IsDec, EnclosesSigned, IsSignedFloor, IsSignedCeiling}
 use Rattle.decimal_input.specs.Ratios.{times}
 use Rattle.decimal_input.specs.Fractions.{plus, times as product}
 use Rattle.model_types.specs.declared.model.FlowModel.{FlowModel}
@@ -61,7 +61,7 @@ module _ (m : FlowModel) (p : ℕ) where
 module _ (m : FlowModel) where
   -- recharge as a flow into the cell: RECH * DELR * DELC
   abbrev pub recharge_flow : ℕ → Dec → Fraction
-  recharge_flow c rate = product (number rate) (signed (area m c))
+  recharge_flow c rate = product (number rate) (as_fraction (area m c))
 
   -- evapotranspiration as a conductance: EVTR * DELR * DELC / EXDP
   abbrev pub evap_conductance : ℕ → EvapSource → Ratio
@@ -69,7 +69,7 @@ module _ (m : FlowModel) where
 
 -- the extinction elevation, which lies the extinction depth below the surface
 abbrev pub extinction : EvapSource → Fraction
-extinction x = plus (number x.surface) (negated (number x.depth))
+extinction x = plus (number x.surface) (opposite (number x.depth))
 
 -- What DIS promises of a grid: its limits, and the lengths and the signs of its lists.
 -- The tests of the readers on single numbers of the input. The limits are this program's own.

@@ -58,8 +58,8 @@ abbrev pub multiplier : Period → Ratio
 multiplier p = cond p.steady one (size p.tsmult)
 
 -- F, the part of the period that has passed at the end of step n: G(n) / G(NSTP), and all of it at the last step or where PERLEN is 0
-unfoldable pub passed : Period → ℕ → Ratio
-passed p n = cond (n == p.nstp || p.perlen.digits == 0) one (over (geometric (multiplier p) n) (geometric (multiplier p) p.nstp))
+unfoldable pub part_passed : Period → ℕ → Ratio
+part_passed p n = cond (n == p.nstp || p.perlen.digits == 0) one (over (geometric (multiplier p) n) (geometric (multiplier p) p.nstp))
 
 -- the time steps of period p, and of the whole model in order
 abbrev pub steps_of : FlowModel → ℕ → List TimeStep

@@ -11,4 +11,4 @@ pub use Rattle.model_text.specs.{packages, rch_items, storage_option}
 unfoldable pub use Rattle.model_text.specs.{deck_text, dis_item_1, file_text, file_texts, list_item_2, list_item_5, list_item_6, list_lines, period_list}
 unfoldable pub use Rattle.model_text.specs.{written}
 pub use Rattle.model_types.specs.declared.model.FlowModel.{FlowModel}
-unfoldable pub use Rattle.model_writer.specs.{chosen, entry_line, line_bytes, part_bytes, spaced}
+unfoldable pub use Rattle.model_writer.specs.{chosen_bytes, entry_line, line_bytes, part_bytes, spaced_words}

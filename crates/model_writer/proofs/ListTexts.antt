@@ -2,8 +2,8 @@
 use Rattle.model_writer.proofs.Common.{part_bytes, ◌≡◌, ℕ, ◌≤◌, List, [], ◌∷◌, ◌++◌, length, map, max, fold, codes, decimal, arith, ◌+◌, ◌<◌, ap, ◌∙◌, take}
 use Rattle.model_writer.proofs.Common.{get_or, Bool, true, false, refl, sym, filter, append_assoc, flat_map, length-map, take_more, map-append, append-nil}
 use Rattle.model_writer.proofs.Common.{number_word, text, row_line, Line, list_item_2, list_item_5, list_item_6, list_lines, period_list, deck_name, deck_names}
-use Rattle.model_writer.proofs.Common.{deck_text, file_line, file_text, file_texts, packages, name_item, has, package_file, written, line_bytes, spaced}
-use Rattle.model_writer.proofs.Common.{entry_line, chosen, flat_map-append, FlowModel}
+use Rattle.model_writer.proofs.Common.{deck_text, file_line, file_text, file_texts, packages, name_item, has, package_file, written, line_bytes, spaced_words}
+use Rattle.model_writer.proofs.Common.{entry_line, chosen_bytes, flat_map-append, FlowModel}
 use Rattle.decimal_input.specs.declared.dec.Dec.{Dec}
 use Rattle.model_types.specs.declared.grid.Grid.{Grid}
 use Rattle.model_types.specs.{place}
@@ -15,7 +15,7 @@ some_words [] some = some
 some_words (x ∷ xs) some = grind (arith, length-map)
 
 pub entry_bytes : {E : Type 0} (g : Grid) (number : E → ℕ) (numbers : E → List Dec) (x : E) → 1 ≤ length (numbers x) →
-    line_bytes (entry_line g number numbers x) ≡ spaced decimal (place g (number x)) ++ line_bytes (row_line number_word (numbers x))
+    line_bytes (entry_line g number numbers x) ≡ spaced_words decimal (place g (number x)) ++ line_bytes (row_line number_word (numbers x))
 unfolding entry_line list_item_6 row_line
 entry_bytes g number numbers x some = then_line decimal (place g (number x)) (map number_word (numbers x)) (some_words (numbers x) some)
 
@@ -61,42 +61,42 @@ pub ruleset items = (no_lines, one_more_line, no_part, one_more_part, one_more_l
 
 -- The text of a deck: its files, one after another.
 -- an item that is chosen, and one that isn't
-pub chosen_is : {X : Type 0} (is : X → Bool) (bytes : X → List ℕ) (x : X) → is x ≡ true → chosen is bytes x ≡ bytes x
-unfolding chosen
+pub chosen_is : {X : Type 0} (is : X → Bool) (bytes : X → List ℕ) (x : X) → is x ≡ true → chosen_bytes is bytes x ≡ bytes x
+unfolding chosen_bytes
 chosen_is is bytes x h = rw h refl
 
-pub chosen_not : {X : Type 0} (is : X → Bool) (bytes : X → List ℕ) (x : X) → is x ≡ false → chosen is bytes x ≡ []
-unfolding chosen
+pub chosen_not : {X : Type 0} (is : X → Bool) (bytes : X → List ℕ) (x : X) → is x ≡ false → chosen_bytes is bytes x ≡ []
+unfolding chosen_bytes
 chosen_not is bytes x h = rw h refl
 
 pub ruleset one_item = (chosen_is, chosen_not)
 
 pub one_more : {X : Type 0} (is : X → Bool) (bytes : X → List ℕ) (xs : List X) (i : ℕ) (d : X) (start before after : List ℕ) → i < length xs →
-    before ≡ start ++ flat_map (chosen is bytes) (take i xs) → after ≡ before ++ chosen is bytes (get_or xs i d) → after ≡ start ++ flat_map (chosen is bytes) (take (i + 1) xs)
+    before ≡ start ++ flat_map (chosen_bytes is bytes) (take i xs) → after ≡ before ++ chosen_bytes is bytes (get_or xs i d) → after ≡ start ++ flat_map (chosen_bytes is bytes) (take (i + 1) xs)
 one_more is bytes xs i d start before after lt h one =
-    one ∙ ap (λ t. t ++ chosen is bytes (get_or xs i d)) h ∙ append_assoc start (flat_map (chosen is bytes) (take i xs)) (chosen is bytes (get_or xs i d))
-    ∙ ap (λ t. start ++ (flat_map (chosen is bytes) (take i xs) ++ t)) (sym (append-nil (chosen is bytes (get_or xs i d))))
-    ∙ ap (λ t. start ++ t) (sym (ap (flat_map (chosen is bytes)) (take_more xs i d lt) ∙ flat_map-append (chosen is bytes) (take i xs) (get_or xs i d ∷ [])))
+    one ∙ ap (λ t. t ++ chosen_bytes is bytes (get_or xs i d)) h ∙ append_assoc start (flat_map (chosen_bytes is bytes) (take i xs)) (chosen_bytes is bytes (get_or xs i d))
+    ∙ ap (λ t. start ++ (flat_map (chosen_bytes is bytes) (take i xs) ++ t)) (sym (append-nil (chosen_bytes is bytes (get_or xs i d))))
+    ∙ ap (λ t. start ++ t) (sym (ap (flat_map (chosen_bytes is bytes)) (take_more xs i d lt) ∙ flat_map-append (chosen_bytes is bytes) (take i xs) (get_or xs i d ∷ [])))
 
-chosen_of : {X : Type 0} (is : X → Bool) (bytes : X → List ℕ) (xs : List X) → flat_map (chosen is bytes) xs ≡ flat_map bytes (filter is xs)
+chosen_of : {X : Type 0} (is : X → Bool) (bytes : X → List ℕ) (xs : List X) → flat_map (chosen_bytes is bytes) xs ≡ flat_map bytes (filter is xs)
 chosen_of is bytes [] = refl
 chosen_of is bytes (x ∷ xs) = by_case (chosen_of is bytes xs) (is x) refl
   where
-    by_case : flat_map (chosen is bytes) xs ≡ flat_map bytes (filter is xs) → (b : Bool) → is x ≡ b → flat_map (chosen is bytes) (x ∷ xs) ≡ flat_map bytes (filter is (x ∷ xs))
-    by_case rest true h = ap (λ t. t ++ flat_map (chosen is bytes) xs) (chosen_is is bytes x h) ∙ rw h (ap (λ t. bytes x ++ t) rest)
-    by_case rest false h = ap (λ t. t ++ flat_map (chosen is bytes) xs) (chosen_not is bytes x h) ∙ rw h rest
+    by_case : flat_map (chosen_bytes is bytes) xs ≡ flat_map bytes (filter is xs) → (b : Bool) → is x ≡ b → flat_map (chosen_bytes is bytes) (x ∷ xs) ≡ flat_map bytes (filter is (x ∷ xs))
+    by_case rest true h = ap (λ t. t ++ flat_map (chosen_bytes is bytes) xs) (chosen_is is bytes x h) ∙ rw h (ap (λ t. bytes x ++ t) rest)
+    by_case rest false h = ap (λ t. t ++ flat_map (chosen_bytes is bytes) xs) (chosen_not is bytes x h) ∙ rw h rest
 
 lines_of : {X : Type 0} (line : X → Line) (xs : List X) → text (map line xs) ≡ flat_map (λ x. line_bytes (line x)) xs
 lines_of line [] = text-nil
 lines_of line (x ∷ xs) = text-cons (line x) (map line xs) ∙ ap (λ t. line_bytes (line x) ++ t) (lines_of line xs)
 
-pub deck_is : (m : FlowModel) (start first names files out : List ℕ) → start ≡ [] → first ≡ start ++ file_line deck_name → names ≡ first ++ flat_map (chosen (has m) (part_bytes m true)) packages
-    → files ≡ names ++ flat_map (chosen (has m) (part_bytes m false)) packages → out ≡ files ++ codes "END\n" → out ≡ deck_text m
+pub deck_is : (m : FlowModel) (start first names files out : List ℕ) → start ≡ [] → first ≡ start ++ file_line deck_name → names ≡ first ++ flat_map (chosen_bytes (has m) (part_bytes m true)) packages
+    → files ≡ names ++ flat_map (chosen_bytes (has m) (part_bytes m false)) packages → out ≡ files ++ codes "END\n" → out ≡ deck_text m
 unfolding deck_text written file_texts file_text part_bytes
 deck_is m start first names files out none a b d e =
     let kinds = filter (has m) packages in
-    let named : flat_map (chosen (has m) (part_bytes m true)) packages ≡ text (map (name_item deck_names) kinds) =
+    let named : flat_map (chosen_bytes (has m) (part_bytes m true)) packages ≡ text (map (name_item deck_names) kinds) =
     chosen_of (has m) (part_bytes m true) packages ∙ sym (lines_of (name_item deck_names) kinds) in
-    let others : flat_map (chosen (has m) (part_bytes m false)) packages ≡ file_texts (map (package_file m deck_names) kinds) =
+    let others : flat_map (chosen_bytes (has m) (part_bytes m false)) packages ≡ file_texts (map (package_file m deck_names) kinds) =
     chosen_of (has m) (part_bytes m false) packages ∙ sym (flat_map-map file_text (package_file m deck_names) kinds) in
     rw (e, d, b, a, none, named, others) refl

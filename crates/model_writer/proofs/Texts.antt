@@ -1,8 +1,8 @@
 -- The bytes of lines, one after another.
 use Rattle.model_writer.proofs.Common.{◌≡◌, ℕ, suc, ◌+◌, ◌≤◌, ◌<◌, List, [], ◌∷◌, ◌++◌, refl, sym, ap, ◌∙◌, length, take, drop, get_or, map, ◌-◌, arith}
 use Rattle.model_writer.proofs.Common.{append_assoc, flat_map, range_with_len, flat_map-append, take_more, append-nil, map-append, map-id, Line, line_text}
-use Rattle.model_writer.proofs.Common.{text, row_line, row_lines, in_rows, line_bytes, spaced, replicate, replicate_next, Bool, true, false, codes, decimal}
-use Rattle.model_writer.proofs.Common.{lit≤, FlowModel, integer_word, dis_item_1, storage_option}
+use Rattle.model_writer.proofs.Common.{text, row_line, row_lines, in_rows, line_bytes, spaced_words, replicate, replicate_next, Bool, true, false, codes}
+use Rattle.model_writer.proofs.Common.{decimal, lit≤, FlowModel, integer_word, dis_item_1, storage_option}
 use Rattle.std.proofs.lemmas.List.FromFn.{map-range_with_len_more}
 
 pub text-nil : text [] ≡ []
@@ -22,20 +22,20 @@ text-append (line ∷ ls) more =
 pub ruleset texts = (text-nil, text-cons, text-append, append_assoc, append-nil)
 
 -- words with a blank after each, and then one more or the words of a line
-pub spaced-nil : {X : Type 0} (word : X → List ℕ) → spaced word [] ≡ []
-unfolding spaced
+pub spaced-nil : {X : Type 0} (word : X → List ℕ) → spaced_words word [] ≡ []
+unfolding spaced_words
 spaced-nil word = refl
 
 pub spaced_more : {X : Type 0} (word : X → List ℕ) (xs : List X) (i : ℕ) (d : X) → i < length xs →
-    spaced word (take (i + 1) xs) ≡ spaced word (take i xs) ++ (word (get_or xs i d) ++ (32 ∷ []))
-unfolding spaced
+    spaced_words word (take (i + 1) xs) ≡ spaced_words word (take i xs) ++ (word (get_or xs i d) ++ (32 ∷ []))
+unfolding spaced_words
 spaced_more word xs i d lt =
     ap (flat_map (λ y. word y ++ (32 ∷ []))) (take_more xs i d lt)
     ∙ flat_map-append (λ y. word y ++ (32 ∷ [])) (take i xs) (get_or xs i d ∷ [])
     ∙ ap (λ t. flat_map (λ y. word y ++ (32 ∷ [])) (take i xs) ++ t) (append-nil (word (get_or xs i d) ++ (32 ∷ [])))
 
-pub spaced_line : {X : Type 0} (word : X → List ℕ) (xs : List X) (w : List ℕ) (ws : Line) → line_bytes (map word xs ++ (w ∷ ws)) ≡ spaced word xs ++ line_bytes (w ∷ ws)
-unfolding line_bytes line_text spaced
+pub spaced_line : {X : Type 0} (word : X → List ℕ) (xs : List X) (w : List ℕ) (ws : Line) → line_bytes (map word xs ++ (w ∷ ws)) ≡ spaced_words word xs ++ line_bytes (w ∷ ws)
+unfolding line_bytes line_text spaced_words
 spaced_line word [] w ws = refl
 spaced_line word (x ∷ []) w ws = grind (arith, append_assoc)
 spaced_line word (x ∷ y ∷ xs) w ws = grind (arith, append_assoc, spaced_line word (y ∷ xs) w ws)
@@ -44,7 +44,7 @@ pub line_of_none : {X : Type 0} (word : X → List ℕ) → line_bytes (row_line
 unfolding line_bytes line_text row_line
 line_of_none word = refl
 
-pub line_of_last : {X : Type 0} (word : X → List ℕ) (front : List X) (x : X) → line_bytes (row_line word (front ++ (x ∷ []))) ≡ spaced word front ++ (word x ++ (10 ∷ []))
+pub line_of_last : {X : Type 0} (word : X → List ℕ) (front : List X) (x : X) → line_bytes (row_line word (front ++ (x ∷ []))) ≡ spaced_words word front ++ (word x ++ (10 ∷ []))
 unfolding line_bytes line_text row_line
 line_of_last word front x = ap line_bytes (map-append word front (x ∷ [])) ∙ spaced_line word front (word x) []
 
@@ -94,15 +94,15 @@ next_layer f k = ap (λ xs. text (flat_map f xs)) (range-more k) ∙ next_part f
 
 pub ruleset layers = (no_layers, next_layer)
 
-pub spaced_push : {X : Type 0} (word : X → List ℕ) (xs : List X) (x : X) → spaced word (xs ++ (x ∷ [])) ≡ spaced word xs ++ (word x ++ (32 ∷ []))
-unfolding spaced
+pub spaced_push : {X : Type 0} (word : X → List ℕ) (xs : List X) (x : X) → spaced_words word (xs ++ (x ∷ [])) ≡ spaced_words word xs ++ (word x ++ (32 ∷ []))
+unfolding spaced_words
 spaced_push word xs x =
     flat_map-append (λ y. word y ++ (32 ∷ [])) xs (x ∷ []) ∙ ap (λ t. flat_map (λ y. word y ++ (32 ∷ [])) xs ++ t) (append-nil (word x ++ (32 ∷ [])))
 
 -- A line of one word several times.
 -- words that are in bytes already
 unfoldable pub repeated_words : ℕ → List ℕ → List ℕ
-repeated_words count word = spaced (λ w. w) (replicate count word)
+repeated_words count word = spaced_words (λ w. w) (replicate count word)
 
 pub no_words : (word : List ℕ) → repeated_words 0 word ≡ []
 unfolding repeated_words
@@ -110,7 +110,7 @@ no_words word = spaced-nil (λ w. w)
 
 pub one_more_word : (count : ℕ) (word : List ℕ) → repeated_words (count + 1) word ≡ repeated_words count word ++ (word ++ (32 ∷ []))
 unfolding repeated_words
-one_more_word count word = ap (spaced (λ w. w)) (replicate_next count word) ∙ spaced_push (λ w. w) (replicate count word) word
+one_more_word count word = ap (spaced_words (λ w. w)) (replicate_next count word) ∙ spaced_push (λ w. w) (replicate count word) word
 
 -- the same line, as a row of words
 words_line : (ws : List (List ℕ)) → line_bytes ws ≡ line_bytes (row_line (λ w. w) ws)
@@ -127,13 +127,13 @@ last_word count word some =
 pub ruleset repeats = (no_words, one_more_word, last_word)
 
 -- Words with a blank after each, and then a line.
-pub then_line : {X : Type 0} (word : X → List ℕ) (xs : List X) (line : Line) → 1 ≤ length line → line_bytes (map word xs ++ line) ≡ spaced word xs ++ line_bytes line
+pub then_line : {X : Type 0} (word : X → List ℕ) (xs : List X) (line : Line) → 1 ≤ length line → line_bytes (map word xs ++ line) ≡ spaced_words word xs ++ line_bytes line
 then_line word xs [] some = absurd (let none : 1 ≤ 0 = some in omega arith)
 then_line word xs (w ∷ ws) some = spaced_line word xs w ws
 
 -- Lines of words that are known.
 pub size_line : (m : FlowModel) → line_bytes (dis_item_1 m)
-    ≡ spaced decimal (m.grid.layers ∷ m.grid.rows ∷ m.grid.cols ∷ length m.periods ∷ []) ++ (codes "0 " ++ line_bytes (row_line integer_word (m.lenuni ∷ [])))
+    ≡ spaced_words decimal (m.grid.layers ∷ m.grid.rows ∷ m.grid.cols ∷ length m.periods ∷ []) ++ (codes "0 " ++ line_bytes (row_line integer_word (m.lenuni ∷ [])))
 unfolding dis_item_1 line_bytes line_text row_line
 size_line m = then_line decimal (m.grid.layers ∷ m.grid.rows ∷ m.grid.cols ∷ length m.periods ∷ []) (codes "0" ∷ integer_word m.lenuni ∷ []) (lit≤ tt)
 

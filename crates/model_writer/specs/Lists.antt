@@ -29,12 +29,12 @@ unfoldable pub line_bytes : Line → List ℕ
 line_bytes line = line_text line ++ (10 ∷ [])
 
 -- words with a blank after each
-unfoldable pub spaced : {X : Type 0} → (X → List ℕ) → List X → List ℕ
-spaced word xs = flat_map (λ x. word x ++ (32 ∷ [])) xs
+unfoldable pub spaced_words : {X : Type 0} → (X → List ℕ) → List X → List ℕ
+spaced_words word xs = flat_map (λ x. word x ++ (32 ∷ [])) xs
 
 -- the bytes of an item that is chosen, and none of another one
-unfoldable pub chosen : {X : Type 0} → (X → Bool) → (X → List ℕ) → X → List ℕ
-chosen is bytes x = if is x then bytes x else []
+unfoldable pub chosen_bytes : {X : Type 0} → (X → Bool) → (X → List ℕ) → X → List ℕ
+chosen_bytes is bytes x = if is x then bytes x else []
 
 -- a package's line in the name file, or its file after its line
 unfoldable pub part_bytes : FlowModel → Bool → Package → List ℕ

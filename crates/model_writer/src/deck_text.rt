@@ -3,7 +3,7 @@ ghost use Rattle.std.specs.Prelude.{◌≡◌, ◌++◌, IfOk};
 ghost use Rattle.std.specs.List.{flat_map};
 ghost use Rattle.model_types.specs.{HasSize};
 ghost use Rattle.model_text.specs.{deck_names, deck_text, file_line, file_text, has, package_file, packages};
-ghost use Rattle.model_writer.specs.{chosen, part_bytes};
+ghost use Rattle.model_writer.specs.{chosen_bytes, part_bytes};
 
 use crate::names::{names_of, push_name};
 use crate::packages::{PACKAGES, has_package, push_package};
@@ -42,7 +42,7 @@ fn push_part_if(
     kind: Package,
 ) -> Result<(), AllocError>
     requires { HasSize model.now.grid }
-    ensures { IfOk result (λ _. text.new.items ≡ text.old.items ++ chosen (has model.now) (part_bytes model.now named) kind) }
+    ensures { IfOk result (λ _. text.new.items ≡ text.old.items ++ chosen_bytes (has model.now) (part_bytes model.now named) kind) }
 {
     if !has_package(model, kind) {
         return Ok(());
@@ -58,7 +58,7 @@ fn push_part_if(
 #[tactic(auto, using(crate::proofs::Texts::texts))]
 fn push_parts(text: &mut Vec<u8>, model: &FlowModel, named: bool) -> Result<(), AllocError>
     requires { HasSize model.now.grid }
-    ensures { IfOk result (λ _. text.new.items ≡ text.old.items ++ flat_map (chosen (has model.now) (part_bytes model.now named)) packages) }
+    ensures { IfOk result (λ _. text.new.items ≡ text.old.items ++ flat_map (chosen_bytes (has model.now) (part_bytes model.now named)) packages) }
 {
     for kind in PACKAGES {
         push_part_if(text, model, named, kind)?;

@@ -60,7 +60,7 @@ fn push_bottoms(bytes: &mut Vec<u8>, grid: &Grid) -> Result<(), AllocError>
     Ok(())
 }
 
-#[tactic(auto, using(crate::proofs::Texts::spaces, crate::proofs::Texts::texts), unfolding(model_text::specs::Discretization::dis_item_7, crate::specs::Lists::line_bytes, array_text::specs::Lines::line_text, crate::specs::Lists::spaced))]
+#[tactic(auto, using(crate::proofs::Texts::spaces, crate::proofs::Texts::texts), unfolding(model_text::specs::Discretization::dis_item_7, crate::specs::Lists::line_bytes, array_text::specs::Lines::line_text, crate::specs::Lists::spaced_words))]
 fn push_time(bytes: &mut Vec<u8>, period: &Period) -> Result<(), AllocError>
     ensures { IfOk result (λ _. bytes.new.items ≡ bytes.old.items ++ line_bytes (dis_item_7 period.now)) }
 {

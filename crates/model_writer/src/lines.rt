@@ -1,7 +1,7 @@
 // Values as a line.
 ghost use Rattle.std.specs.Prelude.{◌≡◌, ◌++◌, IfOk, ℕ, List, [], ◌∷◌, codes, map, max, fold, length};
 ghost use Rattle.array_text.specs.{row_line, text};
-ghost use Rattle.model_writer.specs.{line_bytes, spaced, entry_line};
+ghost use Rattle.model_writer.specs.{line_bytes, spaced_words, entry_line};
 ghost use Rattle.std.specs.List.{flat_map};
 ghost use Rattle.decimal_input.specs.declared.dec.Dec.{Dec};
 ghost use Rattle.model_types.specs.{place, HasSize};
@@ -18,7 +18,7 @@ use std::alloc::AllocError;
 /// Appends values with a blank after each.
 #[tactic(auto, using(crate::proofs::Texts::spaces, crate::proofs::Texts::texts))]
 pub(crate) fn push_spaced<T: Word>(bytes: &mut Vec<u8>, values: &[T]) -> Result<(), AllocError>
-    ensures { IfOk result (λ _. bytes.new.items ≡ bytes.old.items ++ spaced T.word values.now) }
+    ensures { IfOk result (λ _. bytes.new.items ≡ bytes.old.items ++ spaced_words T.word values.now) }
 {
     for value in values {
         value.push_to(bytes)?;

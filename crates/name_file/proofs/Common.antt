@@ -2,8 +2,8 @@
 pub use Rattle.std.proofs.Common.{All, Contains, List, None, Ok, Option, Some, [], arith, false, is_some, length, refl, rules, sym, true, ℕ, ◌++◌, ◌∙◌, ◌∷◌}
 pub use Rattle.std.proofs.Common.{◌≡◌}
 pub use Rattle.std.proofs.lemmas.List.Elements.{All-contains, All-head, All-nil, All-push, All-tail}
-pub use Rattle.name_file.specs.{AreFiles, IsWhole, NamesMay, after_type, after_words, file_of, ghosts, has_package, is_integer, is_needed, is_passed_over}
-pub use Rattle.name_file.specs.{is_same_package, package_of, packages_of, the_type}
+pub use Rattle.name_file.specs.{AreFiles, HasNeededPackages, NamesMay, after_type, after_words, file_of, ghosts, has_package, is_integer, is_needed}
+pub use Rattle.name_file.specs.{is_passed_over, is_same_package, package_of, packages_of, the_type}
 unfoldable pub use Rattle.name_file.specs.{after_line, after_lines, after_package, file_in, names_of, whole}
 pub use Rattle.name_file.specs.Pairs.{Pairs}
 pub use Rattle.name_file.specs.declared.package.Package.{Package}

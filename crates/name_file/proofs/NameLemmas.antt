@@ -1,7 +1,7 @@
 -- A package that is new goes last; and a name file goes on, stops or ends line by line.
 use Rattle.name_file.proofs.Common.{◌≡◌, ℕ, false, List, [], ◌∷◌, ◌++◌, Option, Some, None, Ok, refl, ◌∙◌, is_some, Package, Pairs, has_package, after_line}
 use Rattle.name_file.proofs.Common.{after_lines, Left, Numbered, Dis, Bas, Lpf, Wel, is_same_package, file_of, true, sym, Contains, rules, arith, All-contains}
-use Rattle.name_file.proofs.Common.{All-push, IsGoodName, AreFiles, IsWhole, is_needed, packages_of, ghosts, the_type, StopsText}
+use Rattle.name_file.proofs.Common.{All-push, IsGoodName, AreFiles, HasNeededPackages, is_needed, packages_of, ghosts, the_type, StopsText}
 use Rattle.record_lines.proofs.Loops.{ends_all}
 use Rattle.std.specs.Prelude.{IsTrue}
 use Rattle.std.specs.Map.{lookup, keys_of}
@@ -98,7 +98,7 @@ one_more found name old new h absent good e =
       good = All-push (λ pair. IsGoodName pair.1) old (found, name) h.good good;
     })
 
-pub is_there : (asked : Package) (names : Pairs) → IsWhole names → IsTrue (is_needed asked) → has_package asked names ≡ true
+pub is_there : (asked : Package) (names : Pairs) → HasNeededPackages names → IsTrue (is_needed asked) → has_package asked names ≡ true
 is_there Dis names h needed = h.discretization
 is_there Bas names h needed = h.basic
 is_there Lpf names h needed = h.flow

@@ -41,7 +41,7 @@ pub record AreFiles (names : Pairs) : Type 0 where
   pub good : All (λ pair. IsGoodName pair.1) names
 
 -- every model has the discretization, the basic package and the layer-property flow package
-pub record IsWhole (names : Pairs) : Type 0 where
+pub record HasNeededPackages (names : Pairs) : Type 0 where
   pub discretization : has_package Dis names ≡ true
   pub basic : has_package Bas names ≡ true
   pub flow : has_package Lpf names ≡ true

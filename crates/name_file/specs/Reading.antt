@@ -75,14 +75,14 @@ after_lines file (line ∷ others) names = do
   next ← after_line file line names
   after_lines file others next
 
-abbrev pub missing : List ℕ → Result Pairs Refusal
-missing file = Err (refusal MissingPackage file 0)
+abbrev pub missing_refusal : List ℕ → Result Pairs Refusal
+missing_refusal file = Err (refusal MissingPackage file 0)
 
 -- the packages that every model has are present
 unfoldable pub whole : List ℕ → Pairs → Result Pairs Refusal
 whole file names =
     if has_package Dis names then (if has_package Bas names
-    then (if has_package Lpf names then Ok names else missing file) else missing file) else missing file
+    then (if has_package Lpf names then Ok names else missing_refusal file) else missing_refusal file) else missing_refusal file
 
 -- the pairs of a name file, or its first refusal
 unfoldable pub names_of : List ℕ → List ℕ → Result Pairs Refusal

@@ -1,7 +1,7 @@
 ghost use Rattle.std.specs.Prelude.{◌≡◌, IfSome, IsTrue, is_some, slice_get, Contains, MatchOption, [], ◌∷◌, ◌++◌, OnOk, false};
 ghost use Rattle.std.specs.Option.{option_map};
 ghost use Rattle.outside.specs.{IsGoodName};
-ghost use Rattle.name_file.specs.Pairs.{Pairs, IsWhole, file_of, is_needed, packages_of, AreFiles, has_package};
+ghost use Rattle.name_file.specs.Pairs.{Pairs, HasNeededPackages, file_of, is_needed, packages_of, AreFiles, has_package};
 
 use crate::package::Package;
 use indexmap::IndexMap;
@@ -22,7 +22,7 @@ impl Model for Names {
 
     ghost view = { λ n. n.files };
 
-    ghost invariant = { λ n. IsWhole n.files };
+    ghost invariant = { λ n. HasNeededPackages n.files };
 }
 
 impl Names {

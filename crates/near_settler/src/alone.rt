@@ -11,17 +11,17 @@ use step_problem::{Barrier, Bound, Problem, SettleFault, Settler};
 /// Settles as a `PlainSettler` with this many sweeps does, on the calling thread. A guess after the first sweeps only
 /// saves time, as does what is kept from one step to the next.
 #[derive(Drop)]
-pub struct AloneSettler<S: Guesser = NearGuesser> {
+pub struct SerialSettler<S: Guesser = NearGuesser> {
     rounds: u32,
     guessing: Guessing<S>,
 }
 
-impl AloneSettler<NearGuesser> {
+impl SerialSettler<NearGuesser> {
     /// A settler of at most `rounds` plain sweeps.
-    pub fn new(rounds: u32) -> AloneSettler<NearGuesser>
-        ensures { AloneSettler.rounds result ≡ rounds }
+    pub fn new(rounds: u32) -> SerialSettler<NearGuesser>
+        ensures { SerialSettler.rounds result ≡ rounds }
     {
-        AloneSettler::with_guesser(NearGuesser, rounds)
+        SerialSettler::with_guesser(NearGuesser, rounds)
     }
 }
 
@@ -44,19 +44,19 @@ fn sweep(
     }
 }
 
-impl<S: Guesser> AloneSettler<S> {
+impl<S: Guesser> SerialSettler<S> {
     /// A settler of at most `rounds` plain sweeps, which tries the heads of any guesser.
-    pub fn with_guesser(guesser: S, rounds: u32) -> AloneSettler<S>
-        ensures { AloneSettler.rounds result ≡ rounds }
+    pub fn with_guesser(guesser: S, rounds: u32) -> SerialSettler<S>
+        ensures { SerialSettler.rounds result ≡ rounds }
     {
-        AloneSettler {
+        SerialSettler {
             rounds,
             guessing: Guessing::new(guesser),
         }
     }
 }
 
-impl<S: Guesser> Settler for AloneSettler<S> {
+impl<S: Guesser> Settler for SerialSettler<S> {
     ghost pairs = { settled };
 
     ghost rounds = { λ s. s.rounds };

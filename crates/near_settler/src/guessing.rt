@@ -1,7 +1,7 @@
 // Settling from guessed heads.
 ghost use Rattle.step_problem.specs.{IsBarrier, Settles};
 
-use head_guess::{Guess, Kept, guess_beside, guess_heads};
+use head_guess::{Guess, Kept, guess_heads, guess_in_two_threads};
 use settle_driver::{PlainSettler, settle_near};
 use std::alloc::{AllocError, Global};
 use std::cell::Cell;
@@ -116,19 +116,19 @@ const CELLS_OF_TWO: usize = 4_000;
 
 /// Guesses heads near the settled ones, both sides in two threads where there are two workers or more, and many cells.
 #[derive(Drop)]
-pub struct BesideGuesser<'a, R: Threads> {
+pub struct TwoThreadGuesser<'a, R: Threads> {
     rt: &'a R,
     workers: u32,
 }
 
-impl<'a, R: Threads> BesideGuesser<'a, R> {
+impl<'a, R: Threads> TwoThreadGuesser<'a, R> {
     /// A guesser for a run of this many workers, with the handle that it borrows.
-    pub fn new(rt: &'a R, workers: u32) -> BesideGuesser<'a, R> {
-        BesideGuesser { rt, workers }
+    pub fn new(rt: &'a R, workers: u32) -> TwoThreadGuesser<'a, R> {
+        TwoThreadGuesser { rt, workers }
     }
 }
 
-impl<R: Threads> Guesser for BesideGuesser<'_, R> {
+impl<R: Threads> Guesser for TwoThreadGuesser<'_, R> {
     fn guess(
         &self,
         alloc: Global,
@@ -139,6 +139,6 @@ impl<R: Threads> Guesser for BesideGuesser<'_, R> {
         if self.workers < 2 || p.len() < CELLS_OF_TWO {
             return guess_heads(alloc, p, b, kept);
         }
-        guess_beside(self.rt, alloc, p, b, kept)
+        guess_in_two_threads(self.rt, alloc, p, b, kept)
     }
 }

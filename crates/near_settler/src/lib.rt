@@ -7,6 +7,6 @@ mod first;
 mod guessing;
 mod settling;
 
-pub use alone::AloneSettler;
-pub use guessing::{BesideGuesser, Guesser, NearGuesser};
+pub use alone::SerialSettler;
+pub use guessing::{Guesser, NearGuesser, TwoThreadGuesser};
 pub use settling::NearSettler;

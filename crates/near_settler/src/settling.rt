@@ -4,7 +4,7 @@ ghost use Rattle.step_problem.specs.{AreOnTheWay, IsBarrier, Settles};
 ghost use Rattle.settle_driver.specs.{IsPlan, AddsPhases, had_memory};
 
 use crate::first::{first_phases, first_plan, has_few_cells, plan_for};
-use crate::guessing::{BesideGuesser, Guesser, Guessing};
+use crate::guessing::{Guesser, Guessing, TwoThreadGuesser};
 use outside::Gate;
 use settle_driver::{NoViewer, Plan, Viewer, WatchSettler};
 use std::alloc::Global;
@@ -14,7 +14,12 @@ use step_problem::{Barrier, Bound, Problem, SettleFault};
 /// Settles by workers in threads, with the handle and the gate that it borrows. Its plan's rounds are plain phases;
 /// what it does beside them only saves time, as does what it keeps from one step to the next.
 #[derive(Drop)]
-pub struct NearSettler<'a, R: Threads + Sync, G: Gate + Sync, S: Guesser = BesideGuesser<'a, R>> {
+pub struct NearSettler<
+    'a,
+    R: Threads + Sync,
+    G: Gate + Sync,
+    S: Guesser = TwoThreadGuesser<'a, R>,
+> {
     rt: &'a R,
     gate: &'a G,
     plan: Plan,
@@ -22,13 +27,13 @@ pub struct NearSettler<'a, R: Threads + Sync, G: Gate + Sync, S: Guesser = Besid
     pub ghost plan_fits: { IsPlan plan },
 }
 
-impl<'a, R: Threads + Sync, G: Gate + Sync> NearSettler<'a, R, G, BesideGuesser<'a, R>> {
+impl<'a, R: Threads + Sync, G: Gate + Sync> NearSettler<'a, R, G, TwoThreadGuesser<'a, R>> {
     /// A settler whose guesses are made in two threads, if its plan has two workers or more.
-    pub fn new(rt: &'a R, plan: Plan, gate: &'a G) -> NearSettler<'a, R, G, BesideGuesser<'a, R>>
+    pub fn new(rt: &'a R, plan: Plan, gate: &'a G) -> NearSettler<'a, R, G, TwoThreadGuesser<'a, R>>
         requires { IsPlan plan }
         ensures { result.plan ≡ plan }
     {
-        NearSettler::with_guesser(rt, plan, gate, BesideGuesser::new(rt, plan.workers))
+        NearSettler::with_guesser(rt, plan, gate, TwoThreadGuesser::new(rt, plan.workers))
     }
 }
 

@@ -12,5 +12,5 @@ pub use Rattle.model_types.specs.{IsGrid, IsHeadNumber, IsPositive, IsThick, bot
 pub use Rattle.model_types.specs.{number_one, top_at}
 pub use Rattle.model_types.specs.declared.model.FlowModel.{FlowModel}
 pub use Rattle.number_limits.specs.{at_cell, cell_step, code_of, has_room, is_head, is_one, is_positive, is_same_number, passes}
-unfoldable pub use Rattle.number_limits.specs.{checked, fault_at, is_at_least, is_at_most, is_thick}
+unfoldable pub use Rattle.number_limits.specs.{check_result, fault_at, is_at_least, is_at_most, is_thick}
 pub use Rattle.record_lines.proofs.Loops.{each_step, step_goes_on, steps_done, steps_end}

@@ -1,6 +1,6 @@
 -- Where all checks passed, no cell has a fault.
 use Rattle.number_limits.proofs.Common.{◌≡◌, ℕ, ◌<◌, Bool, true, false, List, Option, Some, None, Ok, refl, arith, cell_count, is_active, FlowModel, at_cell}
-use Rattle.number_limits.proofs.Common.{cell_step, checked, code_of, fault_at, passes, each_step, not, ◌||◌, if◌then◌else◌}
+use Rattle.number_limits.proofs.Common.{cell_step, check_result, code_of, fault_at, passes, each_step, not, ◌||◌, if◌then◌else◌}
 use Rattle.outside.specs.declared.codes.Code.{Code}
 use Rattle.model_types.specs.declared.grid.Grid.{Grid}
 use Rattle.number_limits.specs.declared.passing.Check.{Check}
@@ -9,8 +9,8 @@ no_fault : (g : Grid) (file : List ℕ) (c : ℕ) (x : Option Code) → at_cell 
 no_fault g file c None h = refl
 no_fault g file c (Some code) h = absurd cc
 
-pub all_passed : (m : FlowModel) (file : List ℕ) (check : Check) → checked m file check ≡ Ok tt → (c : ℕ) → c < cell_count m.grid → fault_at check m c ≡ None
-unfolding checked
+pub all_passed : (m : FlowModel) (file : List ℕ) (check : Check) → check_result m file check ≡ Ok tt → (c : ℕ) → c < cell_count m.grid → fault_at check m c ≡ None
+unfolding check_result
 all_passed m file check h c lt = no_fault m.grid file c (fault_at check m c) (each_step (cell_step m file check) (cell_count m.grid) 0 h c (omega arith) (omega (arith, lt)))
 
 passed_of : (check : Check) (m : FlowModel) (c : ℕ) → fault_at check m c ≡ None → is_active m c ≡ true → passes check m c ≡ true
@@ -23,5 +23,5 @@ passed_of check m c e active = by_case (is_active m c) (passes check m c) active
     by_case false false f g = absurd (let clash : false ≡ true = f in cc)
 
 -- an active cell passes a check that refused none
-pub each_passed : (m : FlowModel) (file : List ℕ) (check : Check) → checked m file check ≡ Ok tt → (c : ℕ) → c < cell_count m.grid → is_active m c ≡ true → passes check m c ≡ true
+pub each_passed : (m : FlowModel) (file : List ℕ) (check : Check) → check_result m file check ≡ Ok tt → (c : ℕ) → c < cell_count m.grid → is_active m c ≡ true → passes check m c ≡ true
 each_passed m file check h c lt active = passed_of check m c (all_passed m file check h c lt) active

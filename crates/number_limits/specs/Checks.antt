@@ -2,7 +2,7 @@
 use Rattle.std.specs.Prelude.{ℕ, List, Option, Some, None, Result, Ok, Err, ◌+◌, Bool, true, not, ◌&&◌, ◌||◌, nat_lt, nat_le, if◌then◌else◌}
 use Rattle.outside.specs.declared.codes.Code.{Code}
 use Rattle.outside.specs.declared.inputs.Refusal.{Refusal}
-use Rattle.record_lines.specs.{counted}
+use Rattle.record_lines.specs.{each_number}
 use Rattle.model_types.specs.declared.grid.Grid.{Grid}
 use Rattle.model_types.specs.declared.model.FlowModel.{FlowModel}
 use Rattle.model_types.specs.{cell_count, place, layer_size, dec_at, is_active, has_bed, top_at, bottom_at, lowest}
@@ -54,5 +54,5 @@ at_cell g file c (Some code) = Err (record { code = code; file = file; line = 0;
 abbrev pub cell_step : FlowModel → List ℕ → Check → ℕ → Unit {0} → Result (Unit {0}) Refusal
 cell_step m file check c s = at_cell m.grid file c (fault_at check m c)
 
-unfoldable pub checked : FlowModel → List ℕ → Check → Result (Unit {0}) Refusal
-checked m file check = counted (cell_step m file check) 0 (cell_count m.grid) tt
+unfoldable pub check_result : FlowModel → List ℕ → Check → Result (Unit {0}) Refusal
+check_result m file check = each_number (cell_step m file check) 0 (cell_count m.grid) tt

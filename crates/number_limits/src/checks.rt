@@ -3,7 +3,7 @@ ghost use Rattle.std.specs.Prelude.{◌≡◌, ◌<◌, All};
 ghost use Rattle.decimal_input.specs.{IsDec};
 ghost use Rattle.model_types.specs.{cell_count, IsGrid};
 ghost use Rattle.record_lines.specs.{HasText};
-ghost use Rattle.number_limits.specs.{cell_step, checked};
+ghost use Rattle.number_limits.specs.{cell_step, check_result};
 
 use crate::passing::{Check, fault_at};
 use model_types::{CellId, FlowModel, place_of};
@@ -36,7 +36,7 @@ fn check_cell(
 
 /// The first cell, by ascending number, that fails a check is refused, with line 0 and its layer, row and column.
 /// `file` is the file that is refused.
-#[tactic(auto, unfolding(crate::specs::Checks::checked))]
+#[tactic(auto, unfolding(crate::specs::Checks::check_result))]
 pub fn check_cells(
     alloc: Global,
     model: &FlowModel,
@@ -45,7 +45,7 @@ pub fn check_cells(
 ) -> Result<(), TextFault>
     requires grid { IsGrid model.now.grid }
     requires strt { All IsDec model.now.strt }
-    ensures { HasText (λ _. tt) result (checked model.now file.now check) }
+    ensures { HasText (λ _. tt) result (check_result model.now file.now check) }
 {
     let cells = model.grid.cell_count();
     for cell in 0..cells {

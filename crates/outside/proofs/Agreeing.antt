@@ -1,7 +1,7 @@
 -- Some files agree with what was read, whatever it is.
 use Rattle.outside.proofs.Common.{◌≡◌, ℕ, ◌+◌, Bool, true, false, List, [], ◌∷◌, cond, Option, None, IfSome, arith, refl, sym, subst, ◌∙◌, inl, inr, Some}
 use Rattle.outside.proofs.Common.{get_or, Contains, length-replicate, bytes_eq, File, bytes_under, Read, IsAsFound, AgreeWith, reading_of, FileSet, IsOneMore}
-use Rattle.outside.proofs.Common.{with_limit, ReadState, AgreesWith, FoundNames, IsNamedBy, FoundMay, lines, words, IsFound, IsWithin, Contains-get_or}
+use Rattle.outside.proofs.Common.{with_limit, ReadState, AgreesWith, FoundNames, IsNamedBy, FoundMay, lines, words, IsFound, IsNoLongerThan, Contains-get_or}
 use Rattle.outside.proofs.Common.{Contains-append_right}
 use Rattle.std.specs.Prelude.{IsSomeAnd, replicate}
 use Rattle.std.proofs.lemmas.Slice.Eq.{bytes_eq-Decides}
@@ -108,7 +108,7 @@ module _ (given : List (List ℕ)) (readings : List Read) where
 
 -- What a folder answers, by the readings that it keeps.
 -- what is under a name, and within the limit
-pub is_found : (files : List File) (name : List ℕ) (limit : ℕ) (found : Found) → IsAsFound (bytes_under name files) limit found → IsWithin limit found → IsFound files name limit found
+pub is_found : (files : List File) (name : List ℕ) (limit : ℕ) (found : Found) → IsAsFound (bytes_under name files) limit found → IsNoLongerThan limit found → IsFound files name limit found
 is_found files name limit (Bytes v) is within = (is, within)
 is_found files name limit Missing is within = is
 is_found files name limit TooLong is within = is

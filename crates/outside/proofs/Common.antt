@@ -7,9 +7,9 @@ pub use Rattle.std.proofs.lemmas.List.{drop-take, length-replicate, take_rest}
 pub use Rattle.std.proofs.lemmas.List.Elements.{All-map, Contains-append_right, Contains-get_or}
 pub use Rattle.std.specs.Io.KnownBytes.{Appends, Consumes, Keeps}
 pub use Rattle.std.specs.Str.{IsUtf8, bytes_eq}
-pub use Rattle.outside.specs.{AgreeWith, AgreesWith, File, FileSet, FoundMay, FoundNames, IsAsFound, IsFound, IsGoodName, IsNameByte, IsNamedBy, IsOneMore}
-pub use Rattle.outside.specs.{IsWithin, Put, PutMakes, PutsMake, Read, ReadState, Seen, bytes_under, folder_name, kept_at, lines, reading_of, the_row, the_type}
-pub use Rattle.outside.specs.{with_limit, words}
+pub use Rattle.outside.specs.{AgreeWith, AgreesWith, File, FileSet, FoundMay, FoundNames, IsAsFound, IsFound, IsGoodName, IsNameByte, IsNamedBy, IsNoLongerThan}
+pub use Rattle.outside.specs.{IsOneMore, Put, PutMakes, PutsMake, Read, ReadState, Seen, bytes_under, folder_name, kept_at, lines, reading_of, the_row}
+pub use Rattle.outside.specs.{the_type, with_limit, words}
 unfoldable pub use Rattle.outside.specs.{is_good_name}
 pub use base.Logic.{SProp, ent}
 pub use contract.Monad.{Fun}

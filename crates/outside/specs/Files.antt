@@ -31,16 +31,16 @@ IsFound files name limit Missing = bytes_under name files ≡ None
 IsFound files name limit TooLong = IsSomeAnd (bytes_under name files) (λ bytes. limit < length bytes)
 
 -- bytes that were found are at most this many
-abbrev pub IsWithin : ℕ → Found → Type 0
-IsWithin limit (Bytes v) = length v.items ≤ limit
-IsWithin limit Missing = Unit {0}
-IsWithin limit TooLong = Unit {0}
+abbrev pub IsNoLongerThan : ℕ → Found → Type 0
+IsNoLongerThan limit (Bytes v) = length v.items ≤ limit
+IsNoLongerThan limit Missing = Unit {0}
+IsNoLongerThan limit TooLong = Unit {0}
 
 -- what a reading of all remaining bytes, at most limit, returns
-abbrev pub IsWhole : ℕ → Option (List ℕ) → Found → Type 0
-IsWhole limit left (Bytes v) = IfSome left (λ bytes. v.items ≡ bytes) × (length v.items ≤ limit)
-IsWhole limit left Missing = ⊥
-IsWhole limit left TooLong = IfSome left (λ bytes. limit < length bytes)
+abbrev pub IsWholeReading : ℕ → Option (List ℕ) → Found → Type 0
+IsWholeReading limit left (Bytes v) = IfSome left (λ bytes. v.items ≡ bytes) × (length v.items ≤ limit)
+IsWholeReading limit left Missing = ⊥
+IsWholeReading limit left TooLong = IfSome left (λ bytes. limit < length bytes)
 
 -- What a folder of the system has read, and which files agree with it. It has one limit for all.
 -- a reading: the name that was asked for, and what was found

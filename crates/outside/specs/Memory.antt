@@ -2,7 +2,7 @@
 use Rattle.std.specs.Prelude.{◌≡◌, ℕ, List, [], ◌∷◌, ◌++◌, take, cond, None, Some, Option, Ok, Err, Result, Contains}
 use Rattle.std.specs.Bool.{nat_eq}
 use Rattle.outside.specs.Files.{File}
-use Rattle.outside.specs.Puts.{counted, Seen}
+use Rattle.outside.specs.Puts.{next_count, Seen}
 use Rattle.outside.specs.declared.traits.FolderError.{FolderError}
 use Rattle.outside.specs.declared.traits.FolderError.TheVariants as folder
 use Rattle.outside.specs.declared.traits.SinkError.{SinkError}
@@ -39,16 +39,16 @@ kept_at (f ∷ script) call = cond (nat_eq f.call call) (Some f.kept) (kept_at s
 
 -- a call that the script names fails and is a fault; every other one returns a result
 abbrev pub ReadsInMemory : {T : Type 0} → FolderState → Result T FolderError → FolderState → Type 0
-ReadsInMemory old (Ok found) new = (Contains old.script (counted old.calls) → ⊥) × (new ≡ record old { calls = counted old.calls })
-ReadsInMemory old (Err folder.Read) new = Contains old.script (counted old.calls)
-    × (new ≡ record old { calls = counted old.calls; faults = counted old.faults })
-ReadsInMemory old (Err folder.Memory) new = (Contains old.script (counted old.calls) → ⊥) × (new ≡ record old { calls = counted old.calls })
+ReadsInMemory old (Ok found) new = (Contains old.script (next_count old.calls) → ⊥) × (new ≡ record old { calls = next_count old.calls })
+ReadsInMemory old (Err folder.Read) new = Contains old.script (next_count old.calls)
+    × (new ≡ record old { calls = next_count old.calls; faults = next_count old.faults })
+ReadsInMemory old (Err folder.Memory) new = (Contains old.script (next_count old.calls) → ⊥) × (new ≡ record old { calls = next_count old.calls })
 
 -- a put that the script names fails, is a fault and keeps this much of its piece; every other one is
 -- taken whole; a put that lacks memory keeps nothing, and is no fault
 abbrev pub PutsInMemory : {T : Type 0} → SinkState → List ℕ → Result T SinkError → SinkState → Type 0
-PutsInMemory old piece (Ok done) new = (kept_at old.script (counted old.calls) ≡ None)
-    × (new ≡ record old { bytes = old.bytes ++ piece; calls = counted old.calls })
-PutsInMemory old piece (Err sink.Write) new = (kept : ℕ) × (kept_at old.script (counted old.calls) ≡ Some kept)
-    × (new ≡ record old { bytes = old.bytes ++ take kept piece; calls = counted old.calls; faults = counted old.faults })
-PutsInMemory old piece (Err sink.Memory) new = new ≡ record old { calls = counted old.calls }
+PutsInMemory old piece (Ok done) new = (kept_at old.script (next_count old.calls) ≡ None)
+    × (new ≡ record old { bytes = old.bytes ++ piece; calls = next_count old.calls })
+PutsInMemory old piece (Err sink.Write) new = (kept : ℕ) × (kept_at old.script (next_count old.calls) ≡ Some kept)
+    × (new ≡ record old { bytes = old.bytes ++ take kept piece; calls = next_count old.calls; faults = next_count old.faults })
+PutsInMemory old piece (Err sink.Memory) new = new ≡ record old { calls = next_count old.calls }

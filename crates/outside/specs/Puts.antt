@@ -16,8 +16,8 @@ pub record Rose (old new : ℕ) : Type 0 where
   pub more : (old < new) ⊎ (new ≡ 2 ^ 64 - 1)
 
 -- one more, up to the end
-abbrev pub counted : ℕ → ℕ
-counted n = min (n + 1) (2 ^ 64 - 1)
+abbrev pub next_count : ℕ → ℕ
+next_count n = min (n + 1) (2 ^ 64 - 1)
 
 -- a failed read raises the folder's count, and no other result changes it
 abbrev pub ReadCounts : {T : Type 0} → ℕ → ℕ → Result T FolderError → Type 0
@@ -64,9 +64,9 @@ PutsMake old [] new = old ≡ new
 PutsMake old (put ∷ puts) new = (mid : Seen) × PutMakes old put mid × PutsMake mid puts new
 
 -- a piece that was taken whole
-abbrev pub taken : List ℕ → Put
-taken piece = record { piece = piece; answer = Ok tt }
+abbrev pub whole_put : List ℕ → Put
+whole_put piece = record { piece = piece; answer = Ok tt }
 
 -- a piece that was not taken whole, with its fault
-abbrev pub refused : List ℕ → SinkError → Put
-refused piece error = record { piece = piece; answer = Err error }
+abbrev pub failed_put : List ℕ → SinkError → Put
+failed_put piece error = record { piece = piece; answer = Err error }

@@ -1,6 +1,6 @@
 ghost use Rattle.std.specs.Prelude.{◌≡◌, ℕ, ◌<◌, ◌≤◌, List, [], length, take, refl, IfOk, IfSome, IfNone, Some, ◌++◌};
 ghost use Rattle.std.specs.Io.KnownBytes.{Appends, Consumes, IsAtEnd, Keeps};
-ghost use Rattle.outside.specs.Files.{IsWhole};
+ghost use Rattle.outside.specs.Files.{IsWholeReading};
 ghost use Rattle.outside.specs.Puts.{Put, PutsMake, Seen};
 ghost use Rattle.std.specs.Borrow.{ftrue};
 
@@ -30,7 +30,7 @@ fn read_part<S: Read>(from: &mut S, piece: &mut [u8]) -> Option<usize>
 /// All that a reader has left, if that is at most `limit` bytes. It stops reading once a read
 /// returned nothing or failed, or past the limit.
 pub fn read_whole<S: Read>(alloc: Global, from: &mut S, limit: u64) -> Result<Found, FolderError>
-    ensures { IfOk result (IsWhole limit (S.remaining from.old)) }
+    ensures { IfOk result (IsWholeReading limit (S.remaining from.old)) }
 {
     let mut bytes = Vec::new(alloc);
     let mut piece = [0u8; 4096];

@@ -2,7 +2,8 @@
 ghost use Rattle.std.specs.Prelude.{◌≡◌, ℕ, [], List, IfErr, IfOk, IfSome, IsSomeAnd, OnErr, OnOk, map, option_map, Option};
 ghost use Rattle.outside.specs.Names.{FoundMay};
 ghost use Rattle.outside.specs.Puts.{ReadCounts};
-ghost use Rattle.outside.specs.Files.{FileSet, IsFound, IsOneMore, IsWithin, ReadState, AgreesWith, IsNamed, MayAsk, reading_of, Read, FoundNames, IsAsFound};
+ghost use Rattle.outside.specs.Files.{FileSet, IsFound, IsOneMore, IsNoLongerThan, ReadState, AgreesWith, IsNamed, MayAsk, reading_of, Read, FoundNames};
+ghost use Rattle.outside.specs.Files.{IsAsFound};
 
 use crate::real::read_whole;
 use crate::traits::{Folder, FolderError, Found};
@@ -60,7 +61,7 @@ impl<'a, R: Files> RealFolder<'a, R> {
         ensures given { self.new.given ≡ self.old.given }
         ensures limit { self.new.limit ≡ self.old.limit }
         ensures readings { self.new.readings ≡ self.old.readings }
-        ensures within { IfOk result (IsWithin limit) }
+        ensures within { IfOk result (IsNoLongerThan limit) }
         ensures counts { ReadCounts self.old.faults self.new.faults result }
     {
         let found = match open_named(self.rt, name) {
@@ -124,7 +125,7 @@ impl<'a, R: Files> Folder for RealFolder<'a, R> {
         ensures counts { ReadCounts self.old.faults self.new.faults result }
 
         // The bytes that it returns are not too long, whichever files agree.
-        ensures within { IfOk result (λ found. IsWithin self.old.limit found) }
+        ensures within { IfOk result (λ found. IsNoLongerThan self.old.limit found) }
 
         // It has no fault of its own: a name that was answered before is no read fault.
         ensures again { IfSome (reading_of name.now self.old.readings) (λ _. IfErr result (λ fault. fault ≡ FolderError.Memory)) }
@@ -159,7 +160,7 @@ impl Reading {
     /// A copy of what it found, with this limit.
     pub(crate) fn answer(&self, alloc: Global, limit: u64) -> Result<Found, AllocError>
         ensures found { IfOk result (λ found. (under : Option (List ℕ)) → IsAsFound under limit self.now.found → IsAsFound under limit found) }
-        ensures within { IfOk result (IsWithin limit) }
+        ensures within { IfOk result (IsNoLongerThan limit) }
         ensures words { IfOk result (λ found. (name : List ℕ) → FoundNames name found → FoundNames name self.now.found) }
     {
         Ok(match &self.found {

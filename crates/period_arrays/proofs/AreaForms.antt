@@ -12,7 +12,7 @@ use Rattle.std.proofs.lemmas.Bool.{leb-true}
 use Rattle.std.proofs.lemmas.List.{get_or_default}
 use Rattle.array_text.proofs.LayerForms.{layer_is}
 use Rattle.period_arrays.specs.declared.flags.Contents.{Contents}
-use Rattle.period_arrays.specs.declared.flags.Flags.{Flags}
+use Rattle.period_arrays.specs.declared.flags.ArraysReadAnew.{ArraysReadAnew}
 
 -- What is read of the option and the flags of a package of arrays.
 reused : (a b : Bool) → (a && not b) ≡ false → not a ≡ false → b ≡ true
@@ -21,7 +21,7 @@ reused true false e f = absurd (let clash : true ≡ false = e in cc)
 reused false b e f = absurd (let clash : true ≡ false = f in cc)
 
 -- an array that isn't read anew is one of the period before
-record AreFlags (contents : Contents) (listed : Bool) (flags : Flags) : Type 0 where
+record AreFlags (contents : Contents) (listed : Bool) (flags : ArraysReadAnew) : Type 0 where
   surface : contents.evaporates ≡ true → flags.surface ≡ false → listed ≡ true
   rate : flags.rate ≡ false → listed ≡ true
   depth : contents.evaporates ≡ true → flags.depth ≡ false → listed ≡ true
@@ -116,7 +116,7 @@ module _ (files : FileSet) (file : List ℕ) (g : Grid) where
     abbrev its : Contents
     its = record { evaporates = evaporates; layered = is_int option 2 }
 
-    arrays_are : (f : Flags) (s : InForce) (left : Left) → AreFlags its s.listed f → IsInForce evaporates g option s → GivesOnly (λ x. IsArea evaporates g option x.0) (arrays_of files file g f s.area left)
+    arrays_are : (f : ArraysReadAnew) (s : InForce) (left : Left) → AreFlags its s.listed f → IsInForce evaporates g option s → GivesOnly (λ x. IsArea evaporates g option x.0) (arrays_of files file g f s.area left)
     unfolding arrays_of
     arrays_are f s left are so =
         let last = s.area in

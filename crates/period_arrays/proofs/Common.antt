@@ -13,4 +13,4 @@ pub use Rattle.period_arrays.specs.declared.area.InForce.{InForce}
 pub use Rattle.record_lines.proofs.Forward.{begun_held, leaves}
 pub use Rattle.record_lines.proofs.Loops.{each_step, step_goes_on, steps_done, steps_end, stops_all, with_front}
 pub use Rattle.record_lines.proofs.Readings.{done, goes_on, if_clear, if_passed, some_give, then_, weaker}
-pub use Rattle.record_lines.specs.{GivesOnly, Left, LineMay, LinesMay, Numbered, counted, for_each, left_from, line_at, without_comments}
+pub use Rattle.record_lines.specs.{GivesOnly, Left, LineMay, LinesMay, Numbered, each_number, for_each, left_from, line_at, without_comments}

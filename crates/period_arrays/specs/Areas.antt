@@ -2,13 +2,13 @@
 use Rattle.std.specs.Prelude.{ℕ, Bool, true, false, List, [], Result, Ok, if◌then◌else◌, ℤ, pos, negsuc, not, ◌&&◌, nat_lt, nat_le, Err, Some}
 use Rattle.outside.specs.{FileSet, words, refusal}
 use Rattle.outside.specs.declared.inputs.Refusal.{Refusal}
-use Rattle.record_lines.specs.{line_at, Left, ◌>>=◌, counted}
+use Rattle.record_lines.specs.{line_at, Left, ◌>>=◌, each_number}
 use Rattle.array_reader.specs.{real_layer, integer_layer, number_at, integer}
 use Rattle.model_types.specs.declared.grid.Grid.{Grid}
 use Rattle.period_arrays.specs.declared.area.Area.{Area}
 use Rattle.period_arrays.specs.declared.area.InForce.{InForce}
 use Rattle.period_arrays.specs.declared.flags.Contents.{Contents}
-use Rattle.period_arrays.specs.declared.flags.Flags.{Flags}
+use Rattle.period_arrays.specs.declared.flags.ArraysReadAnew.{ArraysReadAnew}
 use Rattle.outside.specs.declared.codes.Code.TheVariants.{OutOfProfile, NothingToReuse, CellOutside}
 use Rattle.outside.specs.declared.codes.Code.{Code}
 use Rattle.model_types.specs.{layer_size, place, int_at, is_int}
@@ -41,7 +41,7 @@ abbrev pub flag_if : Bool → List ℕ → ℕ → Bool → List (List ℕ) → 
 flag_if present file line listed words = if present then flag_at file line listed words else Ok (false, words)
 
 -- INSURF INEVTR INEXDP INIEVT; of recharge INRECH INIRCH; the layers' flag is there only under option 2
-unfoldable pub flags_of : Contents → List ℕ → ℕ → Bool → List (List ℕ) → Result Flags Refusal
+unfoldable pub flags_of : Contents → List ℕ → ℕ → Bool → List (List ℕ) → Result ArraysReadAnew Refusal
 flags_of contents file line listed words = do
   surface ← flag_if contents.evaporates file line listed words
   rate ← flag_at file line listed surface.1
@@ -65,7 +65,7 @@ layer_step file grid xs i s = if is_layer grid (int_at xs i) then Ok tt else Err
 
 -- the first number of an array that is refused
 unfoldable pub layers_tested : List ℕ → Grid → List ℤ → Result (Unit {0}) Refusal
-layers_tested file grid xs = counted (layer_step file grid xs) 0 (layer_size grid) tt
+layers_tested file grid xs = each_number (layer_step file grid xs) 0 (layer_size grid) tt
 
 -- an array of layers, which is tested as soon as it is read
 unfoldable pub layers_at : FileSet → List ℕ → Grid → Left → Result (List ℤ × Left) Refusal
@@ -86,7 +86,7 @@ abbrev pub array_or : {X : Type 0} → (Left → Result (List X × Left) Refusal
 array_or read anew before left = if anew then read left else Ok (before, left)
 
 -- SURF, EVTR, EXDP and IEVT; of recharge RECH and IRCH
-unfoldable pub arrays_of : FileSet → List ℕ → Grid → Flags → Area → Left → Result (Area × Left) Refusal
+unfoldable pub arrays_of : FileSet → List ℕ → Grid → ArraysReadAnew → Area → Left → Result (Area × Left) Refusal
 arrays_of files file grid flags before left = do
   surfaces ← array_or (real_layer files file grid.rows grid.cols) flags.surface before.surfaces left
   rates ← array_or (real_layer files file grid.rows grid.cols) flags.rate before.rates surfaces.1

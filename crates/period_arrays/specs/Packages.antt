@@ -61,8 +61,8 @@ abbrev pub IsReals : Grid → List Dec → Type 0
 IsReals grid xs = (length xs ≡ layer_size grid) × All IsDec xs
 
 -- an array of layers for one layer
-abbrev pub IsWhole : Grid → List ℤ → Type 0
-IsWhole grid xs = length xs ≡ layer_size grid
+abbrev pub CoversLayer : Grid → List ℤ → Type 0
+CoversLayer grid xs = length xs ≡ layer_size grid
 
 -- a refusal of a cell, or lack of memory for the file's name
 abbrev pub IsCellRefusal : Code → List ℕ → Grid → ℕ → TextFault → Type 0
@@ -72,7 +72,7 @@ IsCellRefusal code file grid cell texts.Memory = Unit {0}
 -- IRCH or IEVT: layers of the grid, or 0, under option 2; else nothing
 pub record IsLayers (g : Grid) (option : ℤ) (xs : List ℤ) : Type 0 where
   pub none : is_int option 2 ≡ false → xs ≡ []
-  pub whole : is_int option 2 ≡ true → IsWhole g xs
+  pub whole : is_int option 2 ≡ true → CoversLayer g xs
   pub short : All IsShort xs
   pub layers : is_int option 2 ≡ true → (i : ℕ) → i < layer_size g → is_layer g (int_at xs i) ≡ true
 

@@ -6,7 +6,7 @@ ghost use Rattle.array_reader.specs.{real_layer};
 ghost use Rattle.model_types.specs.{HasSize};
 ghost use Rattle.period_arrays.specs.{area_at, array_or, arrays_of, nothing_yet, layers_at};
 
-use crate::flags::{Contents, Flags, flags_of};
+use crate::flags::{ArraysReadAnew, Contents, flags_of};
 use crate::layers::test_layers;
 use array_reader::{next_line, read_int_layer, read_layer};
 use decimal_input::dec::Dec;
@@ -110,7 +110,7 @@ impl Area {
         file: &str,
         folder: &mut F,
         grid: &Grid,
-        flags: Flags,
+        flags: ArraysReadAnew,
     ) -> Result<(), InputFault>
         requires size { HasSize grid.now }
         requires lines { LinesMay (F.may folder.old) lines.old }

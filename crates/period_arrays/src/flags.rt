@@ -18,7 +18,7 @@ pub struct Contents {
 
 /// Which arrays of a period are read anew. The others are those of the period before.
 #[derive(Clone, Copy)]
-pub struct Flags {
+pub struct ArraysReadAnew {
     pub surface: bool,
     pub rate: bool,
     pub depth: bool,
@@ -82,14 +82,14 @@ pub fn flags_of(
     file: &str,
     line: u32,
     listed: bool,
-) -> Result<Flags, TextFault>
+) -> Result<ArraysReadAnew, TextFault>
     ensures { HasText (λ f. f) result (flags_of contents file.now line listed words.old) }
 {
     let surface = flag_if(alloc, words, contents.evaporates, file, line, listed)?;
     let rate = flag_at(alloc, words, file, line, listed)?;
     let depth = flag_if(alloc, words, contents.evaporates, file, line, listed)?;
     let layer = flag_if(alloc, words, contents.layered, file, line, listed)?;
-    Ok(Flags {
+    Ok(ArraysReadAnew {
         surface,
         rate,
         depth,

@@ -2,7 +2,7 @@
 use Rattle.problem_builder.proofs.Common.{negsuc, IsPositive, recharge_term, unsigned_abs, FlowPair, constant_bound, given_or_kept, head_bound, kept_bound}
 use Rattle.problem_builder.proofs.Common.{recharge_pair, whole_evap, ◌≡◌, ℕ, suc, ◌+◌, ◌*◌, ◌-◌, ◌<◌, ◌^◌, inl, inr, true, false, Option, Some, None, take}
 use Rattle.problem_builder.proofs.Common.{arith, refl, ap, subst, All, ℤ, pos, neg_ℤ, ◌+ℤ◌, ◌-ℤ◌, ◌*ℤ◌, zero, Bool, cond, List, [], ◌∷◌, sym, option_to_list}
-use Rattle.problem_builder.proofs.Common.{ints, Dec, number, negated, EnclosesSigned, plus, magnitude, IsHead, EvapEncloses, Given, FlowModel, TimeStep}
+use Rattle.problem_builder.proofs.Common.{ints, Dec, number, opposite, EnclosesSigned, plus, magnitude, IsHead, EvapEncloses, Given, FlowModel, TimeStep}
 use Rattle.problem_builder.proofs.Common.{cell_count, kept_head, head_or_kept, constant_head, dec_at, is_active, conductance, period_at, is_constant, given_in}
 use Rattle.problem_builder.proofs.Common.{last_given, EvapSource, recharge_flow, evap_conductance, extinction, IsModel, IsHeadNumber, IsPeriod, IsGivenValid}
 use Rattle.problem_builder.proofs.Common.{evap_term, below_gap, above_gap, IsTimeOf, reverse, ◌==◌, IfSome, find, flat_map, reverse-append, All-nil, All-append}
@@ -123,7 +123,7 @@ module _ (m : FlowModel) (s : ℕ) (c : ℕ) where
       let D = number x.depth in
       let surface = head_bound x.surface in
       let bed = head_bound x.depth in
-      let den : denominator (plus S (negated D)) ≡ denominator S * denominator D = omega arith in
+      let den : denominator (plus S (opposite D)) ≡ denominator S * denominator D = omega arith in
       record {
         conductance = capped_encloses (evap_term m x.rate x.depth c) s (evap_conductance m c x) (evaps_enclose m x c s depth) small;
         surface = head_encloses x.surface;

@@ -1,7 +1,7 @@
 -- Tables that are given as lists over all cells.
 use Rattle.problem_builder.proofs.Common.{fill_by_all, start_bound, ◌≡◌, ℕ, ◌<◌, None, List, length, get_or, take, ap, ◌∙◌, arith, NoFlow, FlowModel}
 use Rattle.problem_builder.proofs.Common.{cell_count, kind_of, kinds, last_given, given_heads, given_in, Filled, IsKind, IsKept, AreStartHeads, Bound, no_bound}
-use Rattle.problem_builder.proofs.Common.{subst, Option, Given, IsNamed, table, table_at, length_is, length-map-range_with_len, get_or-map-range_with_len}
+use Rattle.problem_builder.proofs.Common.{subst, Option, Given, IsGivenIn, table, table_at, length_is, length-map-range_with_len, get_or-map-range_with_len}
 use Rattle.model_types.specs.declared.given_heads.Kind.{Kind}
 use Rattle.model_types.specs.declared.given_heads.GivenHeads.{GivenHeads}
 
@@ -18,7 +18,7 @@ unfolding given_heads
 last_at m g c e lt = ap (λ (h : GivenHeads). get_or h.last c None) e ∙ get_or-map-range_with_len (last_given (take g.period m.periods)) 0 (cell_count m.grid) c c None lt (omega arith)
 
 -- what a list gives each cell
-pub named_filled : (n : ℕ) (list : List Given) (xs : List (Option Given)) → xs ≡ table n list → Filled (IsNamed list) None n xs
+pub named_filled : (n : ℕ) (list : List Given) (xs : List (Option Given)) → xs ≡ table n list → Filled (IsGivenIn list) None n xs
 named_filled n list xs e = record { count = length_is n list xs e; each = (λ c lt. ap (λ ys. get_or ys c None) e ∙ table_at n c list None lt) }
 
 -- the heads that cells keep before the first period are those of STRT

@@ -25,12 +25,12 @@ pub use Rattle.conductance_bounds.specs.{AreThick, IsBed, IsColHalf, IsHalf, IsH
 pub use Rattle.conductance_bounds.specs.{blend, bound, column_of, evap_formula, evap_term, face_term, part, recharge_formula, recharge_term, row_of, small_flow}
 pub use Rattle.conductance_bounds.specs.{small_pair, storage_formula, storage_of, storage_term, storativity_term, sum_term, thick_span, thickness_of}
 pub use Rattle.conductance_bounds.specs.{vertical_of}
-unfoldable pub use Rattle.conductance_bounds.specs.{capped, capped_flow, given_pair, head_pair, power_term}
+unfoldable pub use Rattle.conductance_bounds.specs.{capped_flow, capped_pair, given_pair, head_pair, power_term}
 pub use Rattle.conductance_bounds.specs.declared.pair.FlowPair.{FlowPair}
 pub use Rattle.conductance_bounds.specs.declared.pair.Pair.{Pair}
 pub use Rattle.conductance_bounds.specs.declared.span.Span.{Span}
 pub use Rattle.decimal_input.proofs.FloorLaws.{cancel_right, floor_ceiling_enclose, mul_mono_right, one_ceiling, one_floor}
-pub use Rattle.decimal_input.specs.{Encloses, EnclosesSigned, Fraction, IsDec, IsSignedCeiling, IsSignedFloor, Ratio, negated, number, size, with_sign}
+pub use Rattle.decimal_input.specs.{Encloses, EnclosesSigned, Fraction, IsDec, IsSignedCeiling, IsSignedFloor, Ratio, number, opposite, size, with_sign}
 pub use Rattle.decimal_input.specs.Fractions.{den, plus}
 pub use Rattle.decimal_input.specs.declared.dec.Dec.{Dec}
 pub use Rattle.flow_equations.proofs.Links.{Ordered-map, are_linked, below_is, index_is}
@@ -64,17 +64,16 @@ pub use Rattle.number_limits.proofs.Canonical.{dec_at_is}
 pub use Rattle.problem_builder.specs.{AreAppended, AreCells, AreEntriesIn, AreEvenFactors, AreEvenStorages, AreFactorsOf, AreGridHeads, AreInputs}
 pub use Rattle.problem_builder.specs.{AreLocalBounds, ArePeriodTables, AreStartHeads, AreTables, ConstantPairEncloses, ConstantPairFits, Filled, HasConductance}
 pub use Rattle.problem_builder.specs.{HasEvenSteps, HasEvenStorage, HasNoProblem, HasOldHeads, HasPair, HasStorage, HeadsEnclose, Inputs, IsActive, IsBedBelow}
-pub use Rattle.problem_builder.specs.{IsBedOf, IsBuildFault, IsCellFault, IsDepth, IsEntryIn, IsEvaporated, IsIndex, IsKept, IsKind, IsNoBed, IsProblemOf}
-pub use Rattle.problem_builder.specs.{IsRecharged, IsThickness, IsTimeOf, IsVariableCell, ModelsAreBuildable, bound_of_pair, cond_pair, face_pair, flow_of_pair}
-pub use Rattle.problem_builder.specs.{general_of, given_or_kept, has_small_branch, head_bound, item_in, kept_bound, kept_bounds, known_bound, known_head}
-pub use Rattle.problem_builder.specs.{layer_half, local_in, no_bounds, no_pair, no_span, pair_at, pair_in, recharge_pair, refusal_of, span_in, start_bound}
-pub use Rattle.problem_builder.specs.{unless_refused, well_of, well_pair, whole_cell, whole_constant, whole_drain, whole_evap, whole_fixed, whole_flow}
-pub use Rattle.problem_builder.specs.{whole_link, whole_river, whole_step, widest}
+pub use Rattle.problem_builder.specs.{IsBedOf, IsBuildFault, IsCellFault, IsCellNamed, IsDepth, IsEntryIn, IsEvaporated, IsGivenIn, IsIndex, IsKept, IsKind}
+pub use Rattle.problem_builder.specs.{IsNoBed, IsProblemOf, IsRecharged, IsThickness, IsTimeOf, IsVariableCell, ModelsAreBuildable, bound_of_pair, cond_pair}
+pub use Rattle.problem_builder.specs.{face_pair, flow_of_pair, general_of, given_or_kept, has_small_branch, head_bound, item_in, kept_bound, kept_bounds}
+pub use Rattle.problem_builder.specs.{known_bound, known_head, layer_half, local_in, no_bounds, no_pair, no_span, pair_at, pair_in, recharge_pair, refusal_of}
+pub use Rattle.problem_builder.specs.{span_in, start_bound, unless_refused, well_of, well_pair, whole_cell, whole_constant, whole_drain, whole_evap}
+pub use Rattle.problem_builder.specs.{whole_fixed, whole_flow, whole_link, whole_river, whole_step, widest}
 unfoldable pub use Rattle.problem_builder.specs.{constant_bound, fault_of, problem_of}
 pub use Rattle.problem_builder.specs.LocalBounds.{LocalBounds}
-pub use Rattle.problem_builder.specs.Tables.{IsNamed}
 pub use Rattle.step_problem.specs.{CellFits, DrainFits, EvapFits, FixedFits, IsHead, IsProblem, LinkFits, LinksFit, RiverFits, conductance_of, entries_at}
-pub use Rattle.step_problem.specs.{flow_of, head_limit, lower_at, magnitude, no_bound, no_entries, no_link, upper_at}
+pub use Rattle.step_problem.specs.{flow_magnitude, head_limit, lower_at, magnitude, no_bound, no_entries, no_link, upper_at}
 pub use Rattle.step_problem.specs.Entries.{Entries}
 pub use Rattle.step_problem.specs.declared.entry.Fixed.{Fixed}
 pub use Rattle.step_problem.specs.declared.entry.FixedKind.TheVariants.{Storage}

@@ -1,5 +1,5 @@
 -- Rivers, drains and evapotranspirations of a cell: bounds in order, heads in range.
-use Rattle.problem_builder.proofs.Common.{Pair, Encloses, Option, Ratio, map, FlowPair, PairEncloses, capped, cond_pair, head_bound, real_pair, unwrap_or}
+use Rattle.problem_builder.proofs.Common.{Pair, Encloses, Option, Ratio, map, FlowPair, PairEncloses, capped_pair, cond_pair, head_bound, real_pair, unwrap_or}
 use Rattle.problem_builder.proofs.Common.{whole_drain, whole_evap, whole_river, ◌≡◌, ℕ, ◌≤◌, ◌^◌, Bool, Some, refl, sym, subst, arith, All, ℤ, pos, ◌≤ℤ◌, ◌<◌}
 use Rattle.problem_builder.proofs.Common.{true, ◌-ℤ◌, ints, by_lt_z, none-some, Fraction, with_sign, number, size, IsSignedFloor, IsSignedCeiling, cancel_right}
 use Rattle.problem_builder.proofs.Common.{mul_mono_right, one_floor, one_ceiling, floor_ceiling_enclose, Dec, RiverFits, EvapFits, DrainFits, Entry, FlowModel}
@@ -23,7 +23,7 @@ abbrev pub kept_flow : Option FlowPair → FlowPair
 kept_flow o = unwrap_or o (record { lo = pos (2 ^ 109); hi = pos (2 ^ 109) })
 
 -- what encloses a number, where the table keeps it
-pub capped_encloses : (t : Term) (s : ℕ) (r : Ratio) → PairEncloses t s r → (capped t s).hi < 2 ^ 60 → Encloses (capped t s).lo (capped t s).hi s r
+pub capped_encloses : (t : Term) (s : ℕ) (r : Ratio) → PairEncloses t s r → (capped_pair t s).hi < 2 ^ 60 → Encloses (capped_pair t s).lo (capped_pair t s).hi s r
 capped_encloses t s r h lt = subst (λ (p : Pair). Encloses p.lo p.hi s r) (sym (real_pair t s lt)) h
 
 pub cond_ordered : (s : ℕ) (d : Dec) → (cond_pair s d).lo ≤ (cond_pair s d).hi

@@ -6,10 +6,9 @@ use Rattle.problem_builder.proofs.Common.{is_variable, variable_below, period_at
 use Rattle.problem_builder.proofs.Common.{local_entries, ToConstant, ToGeneral, FromStorage, IsHeadNumber, IsNotNegative, IsEntryValid, is_active, int_at}
 use Rattle.problem_builder.proofs.Common.{is_constant, cell_count, HasSize, In, In-All, map-In, filter_map-In, In-get_or, Contains-In, passing, rank}
 use Rattle.problem_builder.proofs.Common.{rank_below, at_rank, below_is, not, int_lt, ◌==◌, unsigned_abs, and_parts, Bound, Fixed, Entries, entries_at}
-use Rattle.problem_builder.proofs.Common.{no_entries, TimeStep, passing_are, end_within, IsActive, HasOldHeads, Storage}
+use Rattle.problem_builder.proofs.Common.{no_entries, TimeStep, passing_are, end_within, IsActive, HasOldHeads, Storage, IsCellNamed}
 use Rattle.model_types.specs.declared.entry.Entry.TheVariants.{General as GeneralEntry}
 use Rattle.std.proofs.lemmas.Bool.Decides.{nat_tests}
-use Rattle.problem_builder.specs.GridHeads.{IsNamed}
 
 cond-In : (b : Bool) (y : ℕ) (ys : List ℕ) (x : ℕ) → In (cond b (y ∷ ys) ys) x → ((y ≡ x) × (b ≡ true)) ⊎ In ys x
 cond-In true y ys x (inl e) = inl (e, refl)
@@ -107,7 +106,7 @@ module _ (m : FlowModel) (s : ℕ) (at : TimeStep) (old : List Bound) (size : Ha
   source_active c v lt (ToGeneral head cond) i = record { within = lt; active = variable_active m at.period c v }
   source_active c v lt FromStorage i = record { within = lt; active = variable_active m at.period c v }
 
-  cells_active : (c : ℕ) → IsNamed es c → IsActive m c
+  cells_active : (c : ℕ) → IsCellNamed es c → IsActive m c
   cells_active c (k, lt, inl e) =
       let (d, v, r, is) = cell_at k lt in
       subst (IsActive m) (sym (e ∙ sym (ap (λ (z : Entries). z.id) is))) (record { within = r; active = variable_active m at.period d v })
@@ -130,8 +129,8 @@ module _ (m : FlowModel) (s : ℕ) (at : TimeStep) (old : List Bound) (size : Ha
       let P : Entries → Type 0 = λ z. (x : Fixed) × Contains z.fixed x × (x.kind ≡ Storage) × (x.source ≡ z.id) in
       subst P is (F FromStorage, Contains-In (map F sources) (F FromStorage) (In-map F sources FromStorage (storage_among c steady)), refl, refl)
 
-  pub named_active : (p : List Entries) → p ≡ es → (c : ℕ) → IsNamed p c → IsActive m c
-  named_active p e c named = cells_active c (subst (λ (q : List Entries). IsNamed q c) e named)
+  pub named_active : (p : List Entries) → p ≡ es → (c : ℕ) → IsCellNamed p c → IsActive m c
+  named_active p e c named = cells_active c (subst (λ (q : List Entries). IsCellNamed q c) e named)
 
   pub old_heads : (p : List Entries) → p ≡ es → (period_at m at.period).steady ≡ false → HasOldHeads p
   old_heads p e steady = subst HasOldHeads (sym e) (cells_stored steady)

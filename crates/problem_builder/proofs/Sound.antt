@@ -1,7 +1,8 @@
 -- What a cell without a refusal is.
 use Rattle.problem_builder.proofs.Common.{filter_map, option_map, refusal_of, or_parts, ◌≡◌, ℕ, zero, suc, ◌+◌, ◌<◌, ◌≤◌, ◌^◌, inl, inr, Bool, true, false}
 use Rattle.problem_builder.proofs.Common.{cond, Option, Some, None, List, [], ◌∷◌, refl, sym, ap, subst, arith, nat_le, ◌==◌, sum_by, list_any, fold, leb-false}
-use Rattle.problem_builder.proofs.Common.{false≢true, Entries, conductance_of, flow_of, In, fault_of, has_small_branch, NoBound, Cell, Low, In-filter_map}
+use Rattle.problem_builder.proofs.Common.{false≢true, Entries, conductance_of, flow_magnitude, In, fault_of, has_small_branch, NoBound, Cell, Low}
+use Rattle.problem_builder.proofs.Common.{In-filter_map}
 
 cond_none : (b : Bool) (x : ℕ) (o : Option ℕ) → cond b (Some x) o ≡ None → (b ≡ false) × (o ≡ None)
 cond_none true x o e = absurd cc
@@ -10,15 +11,15 @@ cond_none false x o e = (refl, e)
 pub record IsSound (e : Entries) : Type 0 where
   pub branches : has_small_branch e ≡ false
   pub conductances : conductance_of e < 2 ^ 60
-  pub flows : flow_of e < 2 ^ 109
+  pub flows : flow_magnitude e < 2 ^ 109
 
 pub sound : (e : Entries) → fault_of e ≡ None → IsSound e
 unfolding fault_of
 sound e h =
     let (a, h₁) = cond_none (has_small_branch e) 21 _ h in
     let (b, h₂) = cond_none (nat_le (2 ^ 60) (conductance_of e)) 22 _ h₁ in
-    let (c, h₃) = cond_none (nat_le (2 ^ 109) (flow_of e)) 23 _ h₂ in
-    record { branches = a; conductances = leb-false (2 ^ 60) (conductance_of e) b; flows = leb-false (2 ^ 109) (flow_of e) c }
+    let (c, h₃) = cond_none (nat_le (2 ^ 109) (flow_magnitude e)) 23 _ h₂ in
+    record { branches = a; conductances = leb-false (2 ^ 60) (conductance_of e) b; flows = leb-false (2 ^ 109) (flow_magnitude e) c }
 
 -- a cell among cells without a refusal has none
 unfaulted : (e : Entries) (o : Option ℕ) → fault_of e ≡ o → (ns : List NoBound) → ns ≡ [] → ((n : NoBound) → refusal_of e ≡ Some n → In ns n) → fault_of e ≡ None

@@ -22,7 +22,7 @@ use Rattle.model_types.specs.{period_at, index_of, EvapSource, FixedSource, Flow
 use Rattle.model_types.specs.{river_sources, drain_sources, evap_sources, ToConstant, ToGeneral, FromStorage, Pumped, Received, variable_below, variable_cells}
 use Rattle.conductance_bounds.specs.declared.pair.Pair.{Pair}
 use Rattle.conductance_bounds.specs.declared.pair.FlowPair.{FlowPair}
-use Rattle.conductance_bounds.specs.{evap_term, capped}
+use Rattle.conductance_bounds.specs.{evap_term, capped_pair}
 use Rattle.problem_builder.specs.GridHeads.{cond_pair, well_pair, head_bound, recharge_pair, constant_bound, storage_pair}
 use Rattle.problem_builder.specs.Widths.{face_pair}
 
@@ -57,7 +57,7 @@ module _ (m : FlowModel) (s : ℕ) where
   -- evapotranspiration from cell c: the bounds of the extinction elevation are the differences of the bounds of the surface and of the depth
   abbrev pub whole_evap : ℕ → EvapSource → Evap
   whole_evap c x =
-      let pair = capped (evap_term m x.rate x.depth c) s in
+      let pair = capped_pair (evap_term m x.rate x.depth c) s in
       let surface = head_bound x.surface in
       let depth = head_bound x.depth in
       record {

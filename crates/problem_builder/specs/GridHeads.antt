@@ -9,7 +9,7 @@ use Rattle.model_types.specs.declared.model.FlowModel.{FlowModel}
 use Rattle.model_types.specs.{cell_count, is_active, dec_at, period_at, is_constant, given_in, last_given, IsPositive, is_variable, number_one, IsPeriod}
 use Rattle.model_types.specs.declared.entry.Given.{Given}
 use Rattle.model_types.specs.declared.time_steps.TimeStep.{TimeStep}
-use Rattle.conductance_bounds.specs.{recharge_term, Number, storage_term, IsUsable, factors_of as step_factors, capped, capped_flow, head_pair, part}
+use Rattle.conductance_bounds.specs.{recharge_term, Number, storage_term, IsUsable, factors_of as step_factors, capped_pair, capped_flow, head_pair, part}
 use Rattle.conductance_bounds.specs.{given_pair}
 use Rattle.conductance_bounds.specs.declared.head.HeadPair.{HeadPair}
 use Rattle.conductance_bounds.specs.declared.pair.FlowPair.{FlowPair}
@@ -24,7 +24,7 @@ use Rattle.step_problem.specs.declared.entry.FixedKind.TheVariants.{Storage}
 -- Numbers of the input as whole bounds: conductances in units of 10^-s, flows of 10^-(s+9), heads of 10^-9.
 -- a conductance as its own formula
 abbrev pub cond_pair : ℕ → Dec → Pair
-cond_pair s d = capped (Number (size d)) s
+cond_pair s d = capped_pair (Number (size d)) s
 
 -- the flow of a well, and recharge of cell c at a rate
 abbrev pub well_pair : ℕ → Dec → FlowPair
@@ -42,7 +42,7 @@ head_bound d = bound_of_pair (head_pair d)
 
 -- the storage of cell c at a time of a transient period
 abbrev pub storage_pair : FlowModel → ℕ → TimeStep → ℕ → Pair
-storage_pair m s at c = capped (storage_term m (period_at m at.period) at.step c) s
+storage_pair m s at c = capped_pair (storage_term m (period_at m at.period) at.step c) s
 
 -- An extinction depth whose bounds are whole numbers of 64 bits.
 -- above 0, and at most 8000000000 length units in whole units of 10^-9
@@ -67,8 +67,8 @@ abbrev pub HeadsEnclose : FlowModel → List Bound → (ℕ → Fraction) → Ty
 HeadsEnclose m bounds heads = (c : ℕ) → IsActive m c → EnclosesSigned (lower_at bounds c) (upper_at bounds c) 9 (heads c)
 
 -- a cell number that a problem names: a variable cell's own, or the source of a known head
-abbrev pub IsNamed : List Entries → ℕ → Type 0
-IsNamed p c = (k : ℕ) × (k < length p) × ((c ≡ (entries_at p k).id) ⊎ ((x : Fixed) × Contains (entries_at p k).fixed x × (c ≡ x.source)))
+abbrev pub IsCellNamed : List Entries → ℕ → Type 0
+IsCellNamed p c = (k : ℕ) × (k < length p) × ((c ≡ (entries_at p k).id) ⊎ ((x : Fixed) × Contains (entries_at p k).fixed x × (c ≡ x.source)))
 
 -- The head of a constant-head cell at a time, as whole bounds in units of 10^-9.
 -- the head that a constant cell keeps: the Ehead of the last list that named it, or STRT

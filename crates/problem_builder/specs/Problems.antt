@@ -18,11 +18,11 @@ use Rattle.problem_builder.specs.declared.fault.BuildFault.{BuildFault}
 use Rattle.problem_builder.specs.declared.fault.BuildFault.TheVariants.{NoBound as Refused, Memory}
 use Rattle.problem_builder.specs.Widths.{face_pair}
 use Rattle.problem_builder.specs.Cells.{whole_cell, whole_below, whole_step}
-use Rattle.problem_builder.specs.GridHeads.{HeadsEnclose, IsActive, IsNamed, HasOldHeads}
+use Rattle.problem_builder.specs.GridHeads.{HeadsEnclose, IsActive, IsCellNamed, HasOldHeads}
 use Rattle.step_problem.specs.declared.entry.FixedKind.{FixedKind}
 use Rattle.step_problem.specs.declared.entry.FixedKind.TheVariants.{Constant, General, Storage}
 use Rattle.step_problem.specs.declared.refusal.StepRefusal.TheVariants.{ConductanceTooSmall, ConductanceTooLarge, FlowTooLarge}
-use Rattle.step_problem.specs.{number_of, conductance_of, flow_of}
+use Rattle.step_problem.specs.{number_of, conductance_of, flow_magnitude}
 use Rattle.model_types.specs.declared.face.Face.{Face}
 use Rattle.problem_builder.specs.Tables.{Inputs, pair_at}
 
@@ -42,7 +42,7 @@ unfoldable pub fault_of : Entries → Option ℕ
 fault_of e =
     cond (has_small_branch e) (Some (number_of ConductanceTooSmall))
     (cond (nat_le (2 ^ 60) (conductance_of e)) (Some (number_of ConductanceTooLarge))
-    (cond (nat_le (2 ^ 109) (flow_of e)) (Some (number_of FlowTooLarge)) None))
+    (cond (nat_le (2 ^ 109) (flow_magnitude e)) (Some (number_of FlowTooLarge)) None))
 
 -- the refusal of a cell
 abbrev pub refusal_of : Entries → Option NoBound
@@ -70,7 +70,7 @@ module _ (m : FlowModel) (s : ℕ) (at : TimeStep) (old : List Bound) where
   pub record IsBuilt (p : List Entries) : Type 0 where
     pub problem : IsProblemOf p
     pub cells : map (λ e. e.id) p ≡ variable_cells m at.period
-    pub named : (c : ℕ) → IsNamed p c → IsActive m c
+    pub named : (c : ℕ) → IsCellNamed p c → IsActive m c
     pub encloses : (before : ℕ → Fraction) → HeadsEnclose m old before → EnclosesStep s p (exact_step m at.period at.step before)
     pub stored : (period_at m at.period).steady ≡ false → HasOldHeads p
 

@@ -31,8 +31,8 @@ IsKind m p c k = k ≡ kind_of m p c
 abbrev pub IsIndex : FlowModel → ℕ → ℕ → ℕ → Type 0
 IsIndex m p c i = i ≡ index_of m p c
 
-abbrev pub IsNamed : List Given → ℕ → Option Given → Type 0
-IsNamed list c x = x ≡ given_in list c
+abbrev pub IsGivenIn : List Given → ℕ → Option Given → Type 0
+IsGivenIn list c x = x ≡ given_in list c
 
 -- the head that a constant-head cell keeps after p periods
 abbrev pub IsKept : FlowModel → ℕ → ℕ → Bound → Type 0
@@ -91,7 +91,7 @@ pub record ArePeriodTables (m : FlowModel) (s p : ℕ) (t : PeriodTables) : Type
   pub steady : t.steady ≡ (period_at m p).steady
   pub kinds : Filled (IsKind m p) NoFlow (cell_count m.grid) t.kinds
   pub index : Filled (IsIndex m p) 0 (cell_count m.grid) t.index
-  pub given : Filled (IsNamed (period_at m p).stresses.given) None (cell_count m.grid) t.given
+  pub given : Filled (IsGivenIn (period_at m p).stresses.given) None (cell_count m.grid) t.given
   pub kept : Filled (IsKept m (p - 1)) no_bound (cell_count m.grid) t.kept
   pub locals : length t.local ≡ cell_count m.grid
   pub local : (c : ℕ) → AreLocalBounds s c (local_in t.local c) (local_entries m p c)

@@ -8,12 +8,12 @@ use Rattle.conductance_bounds.specs.declared.pair.Pair.{Pair}
 use Rattle.conductance_bounds.specs.declared.horizontal.Half.{Half}
 use Rattle.conductance_bounds.specs.declared.horizontal.ColHalf.{ColHalf}
 use Rattle.conductance_bounds.specs.declared.vertical.VertHalf.{VertHalf}
-use Rattle.conductance_bounds.specs.{face_term, bed_span, capped, IsZero, AreThick, thick_span}
+use Rattle.conductance_bounds.specs.{face_term, bed_span, capped_pair, IsZero, AreThick, thick_span}
 use Rattle.conductance_bounds.specs.declared.span.Span.{Span}
 
 -- the whole bounds of the conductance from a cell to the next one along an axis
 abbrev pub face_pair : FlowModel → ℕ → Axis → ℕ → Pair
-face_pair m s axis a = capped (face_term m axis a) s
+face_pair m s axis a = capped_pair (face_term m axis a) s
 
 -- the decimals of an active cell's thickness
 pub record IsThicknessOf (m : FlowModel) (c : ℕ) (t : Span) : Type 0 where

@@ -5,7 +5,7 @@ ghost use Rattle.problem_builder.specs.{constant_bound, known_bound, AreConstant
 
 use crate::index::PeriodTables;
 use crate::periods::stress_period;
-use crate::start::{NO_BOUND, bound_of};
+use crate::start::{NO_HEADS, bound_of};
 use conductance_bounds::{Part, given_head, time_part};
 use model_types::{FlowModel, Kind, TimeStep};
 use std::alloc::{AllocError, Global};
@@ -24,7 +24,7 @@ fn head_at(model: &FlowModel, period: &PeriodTables, at: TimeStep, part: Part, c
     let _model = model;
     match period.given.at(cell) {
         Some(x) => bound_of(given_head(x.shead, x.ehead, part)),
-        None => period.kept_at(cell),
+        None => period.kept_pair_at(cell),
     }
 }
 
@@ -39,8 +39,8 @@ fn head_of(model: &FlowModel, period: &PeriodTables, at: TimeStep, part: Part, c
 {
     match period.kind_at(cell) {
         Kind::Constant => head_at(model, period, at, part, cell),
-        Kind::Variable => NO_BOUND,
-        Kind::NoFlow => NO_BOUND,
+        Kind::Variable => NO_HEADS,
+        Kind::NoFlow => NO_HEADS,
     }
 }
 

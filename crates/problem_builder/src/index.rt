@@ -6,7 +6,7 @@ ghost use Rattle.problem_builder.specs.{Filled, IsIndex, AreTables, ArePeriodTab
 
 use crate::evaporation::evaps;
 use crate::given::{kept_heads, last_entries};
-use crate::local::Local;
+use crate::local::EntriesByCell;
 use crate::periods::stress_period;
 use crate::recharge::recharges;
 use crate::storages::even_storages;
@@ -58,7 +58,7 @@ pub struct PeriodTables {
     pub index: Listed<u32>,
     pub given: Optional<Given>,
     pub kept: Listed<Bound>,
-    pub local: Local,
+    pub local: EntriesByCell,
     pub recharge: Optional<FlowPair>,
     pub evaps: Optional<Evap>,
     pub storage: Option<Listed<Pair>>,
@@ -107,7 +107,7 @@ impl PeriodTables {
         let kept = kept_heads(alloc, model, given)?;
         let period = stress_period(model, number);
         let count = model.grid.cell_count();
-        let local = Local::of_period(alloc, period, count, s)?;
+        let local = EntriesByCell::of_period(alloc, period, count, s)?;
         // From here on the lists that are made are dropped by one call.
         let mut made = PeriodTables {
             period: number,
@@ -165,7 +165,7 @@ impl PeriodTables {
     }
 
     /// The head that a constant-head cell keeps.
-    pub fn kept_at(&self, cell: u32) -> Bound
+    pub fn kept_pair_at(&self, cell: u32) -> Bound
         requires { cell < length self.now.kept }
         ensures { result ≡ bound_at self.now.kept cell }
     {

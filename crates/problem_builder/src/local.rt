@@ -11,11 +11,11 @@ use std::marker::Model;
 
 /// The bounds of the entries of a list, cell by cell. A cell without entries has a pointer alone.
 #[derive(Drop)]
-pub struct Local {
+pub struct EntriesByCell {
     cells: Vec<Option<Box<LocalEntries>>>,
 }
 
-impl Model for Local {
+impl Model for EntriesByCell {
     ghost use Rattle.std.specs.Prelude.{List, map};
     ghost use Rattle.problem_builder.specs.LocalBounds.{LocalBounds, kept_bounds};
 
@@ -67,8 +67,8 @@ fn add_to(
     Ok(())
 }
 
-impl Local {
-    fn empty(alloc: Global, count: u32) -> Result<Local, AllocError>
+impl EntriesByCell {
+    fn empty(alloc: Global, count: u32) -> Result<EntriesByCell, AllocError>
         ensures len { IfOk result (λ l. length l ≡ count) }
         ensures empty { IfOk result (λ l. (c : ℕ) → local_in l c ≡ no_bounds) }
     {
@@ -76,7 +76,7 @@ impl Local {
         for _cell in 0..count {
             cells.push(None)?;
         }
-        Ok(Local { cells })
+        Ok(EntriesByCell { cells })
     }
 
     fn add(&mut self, alloc: Global, entry: &Entry, s: u32) -> Result<(), AllocError>
@@ -91,7 +91,7 @@ impl Local {
     }
 
     // Appends the bounds of the entries of a list.
-    fn with(self, alloc: Global, entries: &[Entry], s: u32) -> Result<Local, AllocError>
+    fn with(self, alloc: Global, entries: &[Entry], s: u32) -> Result<EntriesByCell, AllocError>
         requires entries { All (IsEntryIn (length self)) entries.now }
         requires places { s ≤ 18 }
         ensures len { IfOk result (λ l. length l ≡ length self) }
@@ -111,13 +111,13 @@ impl Local {
         period: &Period,
         count: u32,
         s: u32,
-    ) -> Result<Local, AllocError>
+    ) -> Result<EntriesByCell, AllocError>
         requires entries { AreEntriesIn count period.now }
         requires places { s ≤ 18 }
         ensures len { IfOk result (λ l. length l ≡ count) }
         ensures are { IfOk result (λ l. (c : ℕ) → AreLocalBounds s c (local_in l c) (entries_of c (entries period.now))) }
     {
-        let none = Local::empty(alloc, count)?;
+        let none = EntriesByCell::empty(alloc, count)?;
         let wells = none.with(alloc, period.stresses.wells.as_slice(), s)?;
         let rivers = wells.with(alloc, period.stresses.rivers.as_slice(), s)?;
         let drains = rivers.with(alloc, period.stresses.drains.as_slice(), s)?;

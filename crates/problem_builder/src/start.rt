@@ -30,10 +30,10 @@ pub fn start_heads(alloc: Global, model: &FlowModel) -> Result<Vec<Bound>, Alloc
 // Numbers of the input as whole bounds.
 
 /// The pair in place of a conductance whose upper bound reaches 2^60 units.
-const PAST: Pair = Pair { lo: 1, hi: 1 << 60 };
+const OVER_LIMIT: Pair = Pair { lo: 1, hi: 1 << 60 };
 
 /// The pair in place of a flow with a magnitude that reaches 2^126 units.
-const PAST_FLOW: FlowPair = FlowPair {
+const FLOW_OVER_LIMIT: FlowPair = FlowPair {
     lo: 1 << 109,
     hi: 1 << 109,
 };
@@ -44,7 +44,7 @@ pub fn capped_pair(pair: Option<Pair>) -> Pair
 {
     match pair {
         Some(pair) => pair,
-        None => PAST,
+        None => OVER_LIMIT,
     }
 }
 
@@ -54,7 +54,7 @@ pub fn capped_flow(pair: Option<FlowPair>) -> FlowPair
 {
     match pair {
         Some(pair) => pair,
-        None => PAST_FLOW,
+        None => FLOW_OVER_LIMIT,
     }
 }
 
@@ -102,4 +102,4 @@ pub fn bound_of(pair: HeadPair) -> Bound
 }
 
 /// The bounds of the head of a cell that has none.
-pub const NO_BOUND: Bound = Bound { low: 0, high: 0 };
+pub const NO_HEADS: Bound = Bound { low: 0, high: 0 };

@@ -1,8 +1,8 @@
 -- The hull of two problems is a problem, if the sums of its cells fit.
 use Rattle.problem_hull.proofs.Common.{◌≡◌, ◌<◌, ◌≤◌, ◌^◌, ℕ, ℤ, arith, List, length, min, max, sym, subst, get_or, All, Contains, int_min, int_max, ints}
 use Rattle.problem_hull.proofs.Common.{clamps, Entries, entries_at, link_at, IsHead, FixedFits, RiverFits, DrainFits, EvapFits, CellFits, LinksFit, IsProblem}
-use Rattle.problem_hull.proofs.Common.{conductance_of, flow_of, IsHullPair, fixed_hull, river_hull, drain_hull, evap_hull, None, ap, cell_hull, cell_shape}
-use Rattle.problem_hull.proofs.Common.{first_refusal, sum_refusal, IsHull}
+use Rattle.problem_hull.proofs.Common.{conductance_of, flow_magnitude, IsHullPair, fixed_hull, river_hull, drain_hull, evap_hull, None, ap, cell_hull}
+use Rattle.problem_hull.proofs.Common.{cell_shape, first_refusal, sum_refusal, IsHull}
 use Rattle.step_problem.specs.declared.entry.Link.{Link}
 use Rattle.step_problem.specs.declared.entry.Fixed.{Fixed}
 use Rattle.step_problem.specs.declared.entry.River.{River}
@@ -53,7 +53,7 @@ module _ (a b : Entries) (first : CellFits a) (second : CellFits b) where
   pub evaps_fit : All EvapFits (cell_hull a b).evaps
   evaps_fit = zip_all evap_hull EvapFits EvapFits EvapFits evap_fits a.evaps b.evaps first.evaps second.evaps
 
-  cell_fits : conductance_of (cell_hull a b) < 2 ^ 60 → flow_of (cell_hull a b) < 2 ^ 109 → CellFits (cell_hull a b)
+  cell_fits : conductance_of (cell_hull a b) < 2 ^ 60 → flow_magnitude (cell_hull a b) < 2 ^ 109 → CellFits (cell_hull a b)
   cell_fits conductances flows = record {
     links = first.links;
     fixed = zip_all fixed_hull FixedFits FixedFits FixedFits fixed_fits a.fixed b.fixed first.fixed second.fixed;

@@ -1,14 +1,14 @@
 -- A hull that is a problem has no refusal.
 use Rattle.problem_hull.proofs.Common.{◌≡◌, ◌<◌, ◌^◌, ◌∙◌, [], ◌∷◌, ℕ, zero, suc, arith, None, Option, Some, List, get_or, length, sym, ap, refl}
-use Rattle.problem_hull.proofs.Common.{conductance_of, flow_of, IsProblem, Entries, entries_at, no_entries, IsHull, sum_refusal, first_refusal, IsTooLarge}
-use Rattle.problem_hull.proofs.Common.{get_or_default, refusal_at}
+use Rattle.problem_hull.proofs.Common.{conductance_of, flow_magnitude, IsProblem, Entries, entries_at, no_entries, IsHull, sum_refusal, first_refusal}
+use Rattle.problem_hull.proofs.Common.{IsTooLarge, get_or_default, refusal_at}
 use Rattle.std.proofs.lemmas.Bool.Decides.{nat_tests}
 use Rattle.std.specs.Option.{option_map, option_or}
 use Rattle.step_problem.specs.declared.place.NoBound.{NoBound}
 
 -- The sums of a cell that has no refusal.
 
-small_sums : (c : Entries) → conductance_of c < 2 ^ 60 → flow_of c < 2 ^ 109 → sum_refusal c ≡ None
+small_sums : (c : Entries) → conductance_of c < 2 ^ 60 → flow_magnitude c < 2 ^ 109 → sum_refusal c ≡ None
 unfolding sum_refusal
 small_sums c h k = grind (arith, nat_tests)
 
@@ -16,7 +16,7 @@ pub conductances_are_small : (c : Entries) → sum_refusal c ≡ None → conduc
 unfolding sum_refusal
 conductances_are_small c e = grind (arith, nat_tests)
 
-pub flows_are_small : (c : Entries) → sum_refusal c ≡ None → flow_of c < 2 ^ 109
+pub flows_are_small : (c : Entries) → sum_refusal c ≡ None → flow_magnitude c < 2 ^ 109
 unfolding sum_refusal
 flows_are_small c e = grind (arith, nat_tests)
 

@@ -5,7 +5,7 @@ use Rattle.step_problem.specs.declared.heads.Side.TheVariants.{Low}
 use Rattle.step_problem.specs.declared.place.NoBound.{NoBound}
 use Rattle.step_problem.specs.declared.place.Place.TheVariants.{Cell}
 use Rattle.step_problem.specs.declared.refusal.StepRefusal.TheVariants.{ConductanceTooLarge, FlowTooLarge}
-use Rattle.step_problem.specs.{number_of, conductance_of, flow_of, IsProblem}
+use Rattle.step_problem.specs.{number_of, conductance_of, flow_magnitude, IsProblem}
 use Rattle.step_problem.specs.Entries.{Entries}
 use Rattle.problem_hull.specs.declared.problem.HullFault.{HullFault}
 use Rattle.problem_hull.specs.declared.problem.HullFault.TheVariants.{NotAlike, NoBound as Refused, Memory}
@@ -15,7 +15,7 @@ use Rattle.problem_hull.specs.Hulls.{AreAlike, IsHull, cell_hull, zip_with}
 unfoldable pub sum_refusal : Entries → Option ℕ
 sum_refusal c =
     cond (nat_le (2 ^ 60) (conductance_of c)) (Some (number_of ConductanceTooLarge))
-    (cond (nat_le (2 ^ 109) (flow_of c)) (Some (number_of FlowTooLarge)) None)
+    (cond (nat_le (2 ^ 109) (flow_magnitude c)) (Some (number_of FlowTooLarge)) None)
 
 -- the refusal of a cell by this number
 abbrev pub refusal_at : Entries → ℕ → NoBound

@@ -2,7 +2,7 @@
 use crate::answers::push_settled;
 use crate::case::Case;
 use certified_pair::{BalancedGuesser, PairGuesser, QuickPairs, certified_pair};
-use head_guess::{Guess, Kept, guess_beside, guess_heads};
+use head_guess::{Guess, Kept, guess_heads, guess_in_two_threads};
 use near_settler::Guesser;
 use settle_driver::PlainSettler;
 use std::alloc::{AllocError, Global};
@@ -72,7 +72,7 @@ impl<R: Threads + Sync> Case<'_, R> {
         let mut bounds = Vec::new(alloc);
         for _ in 0..self.number(0).max(1) {
             let guess = if is_beside {
-                guess_beside(self.rt, alloc, self.p, self.b, kept)?
+                guess_in_two_threads(self.rt, alloc, self.p, self.b, kept)?
             } else {
                 guess_heads(alloc, self.p, self.b, kept)?
             };

@@ -4,7 +4,7 @@ ghost use Rattle.settle_driver.specs.{IsPlan};
 use crate::answers::push_settled;
 use crate::case::Case;
 use crate::guesses::Spoilt;
-use near_settler::{AloneSettler, NearSettler};
+use near_settler::{NearSettler, SerialSettler};
 use outside::FreeGate;
 use settle_driver::{PlainSettler, Plan, ThreadSettler, settle, settle_near};
 use std::cell::Cell;
@@ -43,7 +43,7 @@ impl<R: Threads + Sync> Case<'_, R> {
     // Steps of the same problem by a guessing settler on one thread, with the number of its guesses so far after each.
     fn push_alone(&self, page: &mut Page, bounds: &[Bound], rounds: u32, steps: u32) {
         let guesses = Cell::new(0);
-        let mut alone = AloneSettler::with_guesser(Spoilt::new(bounds, &guesses), rounds);
+        let mut alone = SerialSettler::with_guesser(Spoilt::new(bounds, &guesses), rounds);
         for _step in 0..steps {
             push_settled(page, alone.settle(page.alloc(), self.p, self.b));
             page.line(format_args!("guesses {}", guesses.get()));

@@ -9,6 +9,6 @@ pub use Rattle.outside.specs.{FileSet, TextMay, WordsMay, folder_name, is_good_n
 unfoldable pub use Rattle.outside.specs.{lines, words}
 pub use Rattle.outside.specs.declared.inputs.Refusal.{Refusal}
 pub use Rattle.record_lines.specs.{GivesOnly, Left, LineMay, LinesMay, Numbered, Stops, StopsText, Taking, after_comments, has_word, is_comment, line_from}
-pub use Rattle.record_lines.specs.{next_number, numbered_of, source, taken, taking, times, value_of, without_comments, ◌>>=◌}
-unfoldable pub use Rattle.record_lines.specs.{appended, count, counted, for_each, left_from, line_at, name_at, next_value, next_word, number_behind, numbered}
-unfoldable pub use Rattle.record_lines.specs.{repeated, spread, word_at}
+pub use Rattle.record_lines.specs.{next_number, numbered_of, source, taking, times, value_of, without_comments, word_taken, ◌>>=◌}
+unfoldable pub use Rattle.record_lines.specs.{appended_readings, count, each_number, for_each, left_from, line_at, lines_with_numbers, name_at, next_value}
+unfoldable pub use Rattle.record_lines.specs.{next_word, number_behind, repeated_reading, spread, word_at}

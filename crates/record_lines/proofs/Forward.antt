@@ -1,8 +1,8 @@
 -- What a reading takes and leaves are words and lines that it was given.
 use Rattle.record_lines.proofs.Common.{◌≡◌, ℕ, Bool, true, false, List, [], ◌∷◌, Option, Some, None, Result, Ok, Err, All, refl, ◌==◌, if◌then◌else◌, lines}
-use Rattle.record_lines.proofs.Common.{words, Refusal, Left, Numbered, has_word, next_number, numbered, left_from, is_comment, after_comments, without_comments}
-use Rattle.record_lines.proofs.Common.{Taking, spread, taking, next_word, source, taken, next_value, WordsMay, TextMay, folder_name, is_good_name, LineMay}
-use Rattle.record_lines.proofs.Common.{LinesMay, word_at, line_from, line_at, name_at, GivesOnly, All-nil, All-cons, All-head, All-tail}
+use Rattle.record_lines.proofs.Common.{words, Refusal, Left, Numbered, has_word, next_number, lines_with_numbers, left_from, is_comment, after_comments}
+use Rattle.record_lines.proofs.Common.{without_comments, Taking, spread, taking, next_word, source, word_taken, next_value, WordsMay, TextMay, folder_name}
+use Rattle.record_lines.proofs.Common.{is_good_name, LineMay, LinesMay, word_at, line_from, line_at, name_at, GivesOnly, All-nil, All-cons, All-head, All-tail}
 use Rattle.record_lines.specs.declared.free.FreeFault.{FreeFault}
 use Rattle.record_lines.proofs.Readings.{done, refused, if_passed}
 
@@ -44,7 +44,7 @@ module _ (P : Numbered → Type 0) where
   source_held t left true is h = rw is (next_word_held t.number t.words left.lines left.end h)
   source_held t left false is h = rw is (done h)
 
-  taken_held : (r : Result (Taking × Left) FreeFault) → GivesOnly (λ s. Held s.1) r → GivesOnly (λ x. Held x.1.1) (taken r)
+  taken_held : (r : Result (Taking × Left) FreeFault) → GivesOnly (λ s. Held s.1) r → GivesOnly (λ x. Held x.1.1) (word_taken r)
   taken_held (Ok s) h = done (h.gives s refl)
   taken_held (Err fault) h = refused
 
@@ -64,13 +64,13 @@ module _ (may : List ℕ → Type 0) where
   unfolding name_at
   name_held file line name h = if_passed (is_good_name name) _ _ (λ e. done h)
 
-  numbered_held : (n : ℕ) (ls : List (List ℕ)) → All (λ line. WordsMay may (words line)) ls → All (LineMay may) (numbered n ls)
-  unfolding numbered
+  numbered_held : (n : ℕ) (ls : List (List ℕ)) → All (λ line. WordsMay may (words line)) ls → All (LineMay may) (lines_with_numbers n ls)
+  unfolding lines_with_numbers
   numbered_held n [] h = All-nil (LineMay may)
   numbered_held n (l ∷ ls) h = cases (has_word l) (All-head (λ line. WordsMay may (words line)) l ls h) (numbered_held (next_number n) ls (All-tail (λ line. WordsMay may (words line)) l ls h))
     where
-      cases : (b : Bool) → WordsMay may (words l) → All (LineMay may) (numbered (next_number n) ls) → All (LineMay may) (if b then record { number = n; bytes = l } ∷ numbered (next_number n) ls else numbered (next_number n) ls)
-      cases true one rest = All-cons (LineMay may) (record { number = n; bytes = l }) (numbered (next_number n) ls) one rest
+      cases : (b : Bool) → WordsMay may (words l) → All (LineMay may) (lines_with_numbers (next_number n) ls) → All (LineMay may) (if b then record { number = n; bytes = l } ∷ lines_with_numbers (next_number n) ls else lines_with_numbers (next_number n) ls)
+      cases true one rest = All-cons (LineMay may) (record { number = n; bytes = l }) (lines_with_numbers (next_number n) ls) one rest
       cases false one rest = rest
 
   -- the lines of a text

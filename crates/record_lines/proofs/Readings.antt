@@ -1,6 +1,7 @@
 -- What a reading gives, from what its parts give.
 use Rattle.record_lines.proofs.Common.{◌≡◌, ℕ, zero, suc, ◌+◌, ◌*◌, Bool, true, false, if◌then◌else◌, List, [], ◌∷◌, length, All, Result, Ok, Err, refl, subst}
-use Rattle.record_lines.proofs.Common.{arith, GivesOnly, ◌>>=◌, repeated, appended, counted, FileSet, length-append, All-nil, All-cons, All-append}
+use Rattle.record_lines.proofs.Common.{arith, GivesOnly, ◌>>=◌, repeated_reading, appended_readings, each_number, FileSet, length-append, All-nil, All-cons}
+use Rattle.record_lines.proofs.Common.{All-append}
 
 module _ {A E : Type 0} {P : A → Type 0} where
   pub done : {x : A} → P x → GivesOnly {A = A} {E = E} P (Ok x)
@@ -48,42 +49,42 @@ some_give each some is = (each some.0).gives _ (is some.0 some.1)
 -- readings in a row, with what is known of the list by the state at its start
 module _ {X S E : Type 0} (read : S → Result (X × S) E) (R : ℕ → S → List X × S → Type 0) (none : (s : S) → R 0 s ([], s))
     (one : (n : ℕ) (s : S) → GivesOnly (λ x. (more : List X × S) → R n x.1 more → R (suc n) s (x.0 ∷ more.0, more.1)) (read s)) where
-  pub repeated_gives : (n : ℕ) (s : S) → GivesOnly (R n s) (repeated n read s)
-  unfolding repeated
+  pub repeated_gives : (n : ℕ) (s : S) → GivesOnly (R n s) (repeated_reading n read s)
+  unfolding repeated_reading
   repeated_gives zero s = done (none s)
   repeated_gives (suc n) s = then_ _ (one n s) (λ x k. then_ _ (repeated_gives n x.1) (λ more h. done (k more h)))
 
 module _ {X S E : Type 0} (read : S → Result (X × S) E) (P : X → Type 0) (each : (s : S) → GivesOnly (λ x. P x.0) (read s)) where
-  pub repeated_are : (n : ℕ) (s : S) → GivesOnly (λ x. (length x.0 ≡ n) × All P x.0) (repeated n read s)
+  pub repeated_are : (n : ℕ) (s : S) → GivesOnly (λ x. (length x.0 ≡ n) × All P x.0) (repeated_reading n read s)
   repeated_are = repeated_gives read (λ n s x. (length x.0 ≡ n) × All P x.0) (λ s. (refl, All-nil P))
       (λ n s. weaker (each s) (λ x p more h. (omega (arith, h.0), All-cons P x.0 more.0 p h.1)))
 
 module _ {X S E : Type 0} (read : S → Result (List X × S) E) (width : ℕ) (P : X → Type 0) (each : (s : S) → GivesOnly (λ x. (length x.0 ≡ width) × All P x.0) (read s)) where
-  pub appended_are : (n : ℕ) (s : S) → GivesOnly (λ x. (length x.0 ≡ n * width) × All P x.0) (appended n read s)
-  unfolding appended
+  pub appended_are : (n : ℕ) (s : S) → GivesOnly (λ x. (length x.0 ≡ n * width) × All P x.0) (appended_readings n read s)
+  unfolding appended_readings
   appended_are zero s = done (omega arith, All-nil P)
   appended_are (suc n) s = then_ _ (each s) (λ x p. then_ _ (appended_are n x.1) (λ more h. done (omega (arith, length-append x.0 more.0, p.0, h.0), All-append P x.0 more.0 p.1 h.1)))
 
 -- what each reading keeps of the state, readings in a row keep
 module _ {X S E : Type 0} (Q : S → Type 0) where
-  pub repeated_held : (read : S → Result (X × S) E) → ((s : S) → Q s → GivesOnly (λ x. Q x.1) (read s)) → (n : ℕ) (s : S) → Q s → GivesOnly (λ x. Q x.1) (repeated n read s)
-  unfolding repeated
+  pub repeated_held : (read : S → Result (X × S) E) → ((s : S) → Q s → GivesOnly (λ x. Q x.1) (read s)) → (n : ℕ) (s : S) → Q s → GivesOnly (λ x. Q x.1) (repeated_reading n read s)
+  unfolding repeated_reading
   repeated_held read held zero s h = done h
   repeated_held read held (suc n) s h = then_ _ (held s h) (λ x hx. then_ _ (repeated_held read held n x.1 hx) (λ more hm. done hm))
 
-  pub appended_held : (read : S → Result (List X × S) E) → ((s : S) → Q s → GivesOnly (λ x. Q x.1) (read s)) → (n : ℕ) (s : S) → Q s → GivesOnly (λ x. Q x.1) (appended n read s)
-  unfolding appended
+  pub appended_held : (read : S → Result (List X × S) E) → ((s : S) → Q s → GivesOnly (λ x. Q x.1) (read s)) → (n : ℕ) (s : S) → Q s → GivesOnly (λ x. Q x.1) (appended_readings n read s)
+  unfolding appended_readings
   appended_held read held zero s h = done h
   appended_held read held (suc n) s h = then_ _ (held s h) (λ x hx. then_ _ (appended_held read held n x.1 hx) (λ more hm. done hm))
 
 -- counted steps
 module _ {S E : Type 0} (step : ℕ → S → Result S E) (I : ℕ → S → Type 0) (each : (i : ℕ) (s : S) → I i s → GivesOnly (I (i + 1)) (step i s)) where
-  steps_give : (n i : ℕ) (s : S) → I i s → GivesOnly (I (i + n)) (counted step i n s)
-  unfolding counted
+  steps_give : (n i : ℕ) (s : S) → I i s → GivesOnly (I (i + n)) (each_number step i n s)
+  unfolding each_number
   steps_give zero i s start = let e : i + 0 ≡ i = omega arith in done (rw e start)
   steps_give (suc n) i s start =
       let e : i + suc n ≡ (i + 1) + n = omega arith in
       rw e (then_ _ (each i s start) (λ t so. steps_give n (i + 1) t so))
 
-  pub counted_gives : (n : ℕ) (s : S) → I 0 s → GivesOnly (I n) (counted step 0 n s)
+  pub counted_gives : (n : ℕ) (s : S) → I 0 s → GivesOnly (I n) (each_number step 0 n s)
   counted_gives n s start = let e : 0 + n ≡ n = omega arith in rw e at (steps_give n 0 s start)

@@ -52,11 +52,11 @@ HasText view (Ok x) read = read ≡ Ok (view x)
 HasText view (Err fault) read = StopsText fault read
 
 -- the same reading, this many times, each from where the one before it ended
-unfoldable pub repeated : {X S E : Type 0} → ℕ → (S → Result (X × S) E) → S → Result (List X × S) E
-repeated zero read s = Ok ([], s)
-repeated (suc n) read s = do
+unfoldable pub repeated_reading : {X S E : Type 0} → ℕ → (S → Result (X × S) E) → S → Result (List X × S) E
+repeated_reading zero read s = Ok ([], s)
+repeated_reading (suc n) read s = do
   x ← read s
-  more ← repeated n read x.1
+  more ← repeated_reading n read x.1
   Ok (x.0 ∷ more.0, more.1)
 
 -- a reading for each element of a list, each from where the one before it ended
@@ -68,17 +68,17 @@ for_each read (a ∷ others) s = do
   Ok (x.0 ∷ more.0, more.1)
 
 -- the lists of this many readings of the same thing, appended
-unfoldable pub appended : {X S E : Type 0} → ℕ → (S → Result (List X × S) E) → S → Result (List X × S) E
-appended zero read s = Ok ([], s)
-appended (suc n) read s = do
+unfoldable pub appended_readings : {X S E : Type 0} → ℕ → (S → Result (List X × S) E) → S → Result (List X × S) E
+appended_readings zero read s = Ok ([], s)
+appended_readings (suc n) read s = do
   xs ← read s
-  more ← appended n read xs.1
+  more ← appended_readings n read xs.1
   Ok (xs.0 ++ more.0, more.1)
 
 -- the same step for each of this many numbers from this one on, each from where the one before it ended
-unfoldable pub counted : {S E : Type 0} → (ℕ → S → Result S E) → ℕ → ℕ → S → Result S E
-counted step i zero s = Ok s
-counted step i (suc n) s = step i s >>= counted step (i + 1) n
+unfoldable pub each_number : {S E : Type 0} → (ℕ → S → Result S E) → ℕ → ℕ → S → Result S E
+each_number step i zero s = Ok s
+each_number step i (suc n) s = step i s >>= each_number step (i + 1) n
 
 -- Line items: a line is read word by word, from left to right.
 -- the next word, or this refusal where there is none

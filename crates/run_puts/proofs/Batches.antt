@@ -1,8 +1,8 @@
 -- Laws on batches of jobs, whatever is an end of a job.
-use Rattle.run_puts.proofs.Common.{◌≡◌, ℕ, suc, List, [], ◌∷◌, length, Some, IfSome, subst, sym, ap, refl, ◌∙◌, inl, inr, arith, Put, taken, IsRun, NeverCut}
-use Rattle.run_puts.proofs.Common.{or_else, first_not_ok, IsEnded, Text, end_line, whole, early, all_due, IsLast, IsTail, Agree, IsUnfinished, texts, IsBatch}
-use Rattle.run_puts.proofs.Common.{Status, JobEnd, ◌+◌, ◌<◌, ◌≤◌, ◌++◌, map, take, drop, get_or, drop-cons, take-append-drop, take_all, AllZip, map-append}
-use Rattle.run_puts.proofs.Common.{take_more, get_or-map, length-map}
+use Rattle.run_puts.proofs.Common.{◌≡◌, ℕ, suc, List, [], ◌∷◌, length, Some, IfSome, subst, sym, ap, refl, ◌∙◌, inl, inr, arith, Put, whole_put, IsRun}
+use Rattle.run_puts.proofs.Common.{NeverCut, or_else, first_not_ok, IsEnded, Text, end_line, whole, early, all_due, IsLast, IsTail, Agree, IsUnfinished, texts}
+use Rattle.run_puts.proofs.Common.{IsBatch, Status, JobEnd, ◌+◌, ◌<◌, ◌≤◌, ◌++◌, map, take, drop, get_or, drop-cons, take-append-drop, take_all, AllZip}
+use Rattle.run_puts.proofs.Common.{map-append, take_more, get_or-map, length-map}
 use Rattle.run_puts.proofs.Pieces.{weaker}
 use Rattle.std.proofs.Common.{append_assoc}
 use Rattle.std.specs.Prelude.{slice_get}
@@ -53,14 +53,14 @@ ends_of_jobs R (x ∷ xs) (y ∷ ys) same each = (each 0 y refl, ends_of_jobs R 
 -- The puts of a batch, so far and in the end.
 -- the texts of the first jobs were taken
 abbrev pub ArePut : List JobEnd → ℕ → List Put → Type 0
-ArePut ends i puts = puts ≡ map taken (take i (texts ends))
+ArePut ends i puts = puts ≡ map whole_put (take i (texts ends))
 
 module _ (ends : List JobEnd) where
   abbrev pub IsEndedRun : Status → List Put → Type 0
   IsEndedRun end puts = IsRun (IsEnded ends) NeverCut end puts
 
-  pub one_more : (i : ℕ) (piece : Text) (puts tail : List Put) → i < length (texts ends) → piece ≡ get_or (texts ends) i piece → ArePut ends i puts → tail ≡ taken piece ∷ [] → ArePut ends (i + 1) (puts ++ tail)
-  one_more i piece puts tail h read was is = rw (was, is) (sym (map-append taken (take i (texts ends)) (piece ∷ [])) ∙ ap (map taken) (ap (λ p. take i (texts ends) ++ (p ∷ [])) read ∙ sym (take_more (texts ends) i piece h)))
+  pub one_more : (i : ℕ) (piece : Text) (puts tail : List Put) → i < length (texts ends) → piece ≡ get_or (texts ends) i piece → ArePut ends i puts → tail ≡ whole_put piece ∷ [] → ArePut ends (i + 1) (puts ++ tail)
+  one_more i piece puts tail h read was is = rw (was, is) (sym (map-append whole_put (take i (texts ends)) (piece ∷ [])) ∙ ap (map whole_put) (ap (λ p. take i (texts ends) ++ (p ∷ [])) read ∙ sym (take_more (texts ends) i piece h)))
 
   pub stops_at : (i : ℕ) (piece : Text) (puts tail : List Put) (end : Status) → i < length (texts ends) → piece ≡ get_or (texts ends) i piece → ArePut ends i puts → ((after : List Text) → IsTail (piece ∷ after) end tail) → IsEndedRun end (puts ++ tail)
   stops_at i piece puts tail end h read was stops =
@@ -70,10 +70,10 @@ module _ (ends : List JobEnd) where
       let all : take i ts ++ (piece ∷ after) ≡ ts ++ (end_line ∷ []) = sym (append_assoc (take i ts) (piece ∷ drop (suc i) ts) (end_line ∷ [])) ∙ ap (λ l. l ++ (end_line ∷ [])) (sym split) in
       rw was (early end (take i ts) (piece ∷ after) tail (all_due (first_not_ok ends) (take i ts) piece after (record { status_is = refl; are = all })) (stops after))
 
-  pub ends_whole : (puts last : List Put) (end : Status) → puts ≡ map taken (texts ends) → IsLast end_line (first_not_ok ends) end last → IsEndedRun end (puts ++ last)
+  pub ends_whole : (puts last : List Put) (end : Status) → puts ≡ map whole_put (texts ends) → IsLast end_line (first_not_ok ends) end last → IsEndedRun end (puts ++ last)
   ends_whole puts last end was (inl (same, is)) =
       let due : IsEnded ends end (texts ends ++ (end_line ∷ [])) = record { status_is = same; are = refl } in
-      let all : map taken (texts ends ++ (end_line ∷ [])) ≡ puts ++ last = map-append taken (texts ends) (end_line ∷ []) ∙ sym (rw (was, is) refl) in
+      let all : map whole_put (texts ends ++ (end_line ∷ [])) ≡ puts ++ last = map-append whole_put (texts ends) (end_line ∷ []) ∙ sym (rw (was, is) refl) in
       let P : List Put → Type 0 = λ l. IsEndedRun end l in
       subst P all (whole end (texts ends ++ (end_line ∷ [])) due)
   ends_whole puts last end was (inr stops) =
@@ -86,7 +86,7 @@ text_at ends i e piece h read is =
     let many : length (texts ends) ≡ length ends = length-map ends (λ (x : JobEnd). x.text.items) in
     (omega arith, is ∙ (ap (λ (x : JobEnd). x.text.items) read ∙ sym (get_or-map (λ (x : JobEnd). x.text.items) ends i e piece h)))
 
-pub all_texts : (ends : List JobEnd) (i : ℕ) (puts : List Put) → length ends ≤ i → ArePut ends i puts → puts ≡ map taken (texts ends)
+pub all_texts : (ends : List JobEnd) (i : ℕ) (puts : List Put) → length ends ≤ i → ArePut ends i puts → puts ≡ map whole_put (texts ends)
 all_texts ends i puts h was =
     let many : length (texts ends) ≡ length ends = length-map ends (λ (x : JobEnd). x.text.items) in
-    was ∙ ap (map taken) (take_all i (texts ends) (omega arith))
+    was ∙ ap (map whole_put) (take_all i (texts ends) (omega arith))

@@ -1,7 +1,7 @@
 -- A run from one piece to the next, and its ends.
 use Rattle.run_puts.proofs.Common.{◌≡◌, List, [], ◌∷◌, ◌++◌, map, Ok, Err, Result, Option, subst, sym, ap, refl, ◌∙◌, inl, inr, ◌⊎◌, append_assoc, append-nil}
-use Rattle.run_puts.proofs.Common.{map-append, Put, taken, SinkError, Text, IsTail, failed, wanting, sink_wanting, memory_put, status_after, IsRun, whole}
-use Rattle.run_puts.proofs.Common.{early, Begins, nothing, all_due, cut, IsPut, IsLast, IsWanting, IsEnd, Status}
+use Rattle.run_puts.proofs.Common.{map-append, Put, whole_put, SinkError, Text, IsTail, failed, wanting, sink_wanting, memory_put, status_after, IsRun, whole}
+use Rattle.run_puts.proofs.Common.{early, Begins, nothing, all_due, cut, IsPut, IsLast, EndsOutOfMemory, IsEnd, Status}
 use Rattle.outside.specs.declared.traits.SinkError.TheVariants as error
 use Rattle.run_puts.specs.declared.puts.Status.TheVariants as status
 
@@ -41,10 +41,10 @@ module _ (Due : Status → List Text → Type 0) (Cut : List Text → Type 0) wh
   pub record IsAt (pieces : List Text) (pending : Text) (puts : List Put) : Type 0 where
     pub before : List Text
     pub all : pieces ≡ before ++ (pending ∷ [])
-    pub written : puts ≡ map taken before
+    pub written : puts ≡ map whole_put before
 
   -- memory was wanting before the first piece
-  pub lacks_at_first : (end : Status) (tail : List Put) → IsWanting end tail → IsRun Due Cut end tail
+  pub lacks_at_first : (end : Status) (tail : List Put) → EndsOutOfMemory end tail → IsRun Due Cut end tail
   lacks_at_first end tail (answer, s, t) = rw (s, t) (early (status_after answer) [] [] (memory_put answer ∷ []) nothing (wanting [] answer))
 
   -- the only piece
@@ -56,11 +56,11 @@ module _ (Due : Status → List Text → Type 0) (Cut : List Text → Type 0) wh
   lone line meant end tail due (inl (inr t)) = early end [] (line ∷ []) tail (all_due meant [] line [] due) t
   lone line meant end tail due (inr w) = lacks_at_first end tail w
 
-  both : (pieces : List Text) (pending : Text) (puts tail : List Put) (i : IsAt pieces pending puts) → tail ≡ taken pending ∷ [] → puts ++ tail ≡ map taken (i.before ++ (pending ∷ []))
-  both pieces pending puts tail i e = rw (e, i.written) (sym (map-append taken i.before (pending ∷ [])))
+  both : (pieces : List Text) (pending : Text) (puts tail : List Put) (i : IsAt pieces pending puts) → tail ≡ whole_put pending ∷ [] → puts ++ tail ≡ map whole_put (i.before ++ (pending ∷ []))
+  both pieces pending puts tail i e = rw (e, i.written) (sym (map-append whole_put i.before (pending ∷ [])))
 
   -- one piece more
-  pub at_more : (pieces : List Text) (pending next : Text) (puts tail : List Put) → IsAt pieces pending puts → tail ≡ taken pending ∷ [] → IsAt (pieces ++ (next ∷ [])) next (puts ++ tail)
+  pub at_more : (pieces : List Text) (pending next : Text) (puts tail : List Put) → IsAt pieces pending puts → tail ≡ whole_put pending ∷ [] → IsAt (pieces ++ (next ∷ [])) next (puts ++ tail)
   at_more pieces pending next puts tail i e = record {
     before = i.before ++ (pending ∷ []);
     all = ap (λ ts. ts ++ (next ∷ [])) i.all;
@@ -73,27 +73,27 @@ module _ (Due : Status → List Text → Type 0) (Cut : List Text → Type 0) wh
       rw i.written (early end i.before (pending ∷ []) tail (cut i.before (pending ∷ []) (subst Cut i.all c)) (h []))
 
   -- the piece was taken, and then memory was wanting
-  pub lacks_after : (pieces : List Text) (pending : Text) (puts tail last : List Put) (end : Status) → IsAt pieces pending puts → Cut pieces → tail ≡ taken pending ∷ [] → IsWanting end last → IsRun Due Cut end (puts ++ tail ++ last)
+  pub lacks_after : (pieces : List Text) (pending : Text) (puts tail last : List Put) (end : Status) → IsAt pieces pending puts → Cut pieces → tail ≡ whole_put pending ∷ [] → EndsOutOfMemory end last → IsRun Due Cut end (puts ++ tail ++ last)
   lacks_after pieces pending puts tail last end i c e (answer, s, t) =
       rw (s, t, both pieces pending puts tail i e)
       (early (status_after answer) (i.before ++ (pending ∷ [])) [] (memory_put answer ∷ [])
       (cut (i.before ++ (pending ∷ [])) [] (subst Cut (i.all ∙ sym (append-nil (i.before ++ (pending ∷ [])))) c)) (wanting [] answer))
 
   -- the piece was taken, and then the last line put
-  pub ends : (pieces : List Text) (pending line : Text) (meant end : Status) (puts tail last : List Put) → IsAt pieces pending puts → tail ≡ taken pending ∷ [] → Due meant (pieces ++ (line ∷ [])) → IsLast line meant end last → IsRun Due Cut end (puts ++ tail ++ last)
+  pub ends : (pieces : List Text) (pending line : Text) (meant end : Status) (puts tail last : List Put) → IsAt pieces pending puts → tail ≡ whole_put pending ∷ [] → Due meant (pieces ++ (line ∷ [])) → IsLast line meant end last → IsRun Due Cut end (puts ++ tail ++ last)
   ends pieces pending line meant end puts tail last i e due (inl (same, t)) =
       let P : Status → Type 0 = λ s. IsRun Due Cut s (puts ++ tail ++ last) in
       let Q : List Put → Type 0 = IsRun Due Cut meant in
       let D : List Text → Type 0 = Due meant in
       let w = whole meant (i.before ++ (pending ∷ []) ++ (line ∷ [])) (subst D (ap (λ ts. ts ++ (line ∷ [])) i.all) due) in
-      subst P (sym same) (subst Q (map-append taken (i.before ++ (pending ∷ [])) (line ∷ []) ∙ sym (rw (t, both pieces pending puts tail i e) refl)) w)
+      subst P (sym same) (subst Q (map-append whole_put (i.before ++ (pending ∷ [])) (line ∷ []) ∙ sym (rw (t, both pieces pending puts tail i e) refl)) w)
   ends pieces pending line meant end puts tail last i e due (inr t) =
       let D : List Text → Type 0 = Due meant in
       let same = ap (λ ts. ts ++ (line ∷ [])) i.all in
       rw (both pieces pending puts tail i e)
       (early end (i.before ++ (pending ∷ [])) (line ∷ []) last (all_due meant (i.before ++ (pending ∷ [])) line [] (subst D same due)) t)
 
-  pub ends_or_lacks : (pieces : List Text) (pending line : Text) (meant end : Status) (puts tail last : List Put) → IsAt pieces pending puts → Cut pieces → tail ≡ taken pending ∷ [] → Due meant (pieces ++ (line ∷ [])) → IsEnd line meant end last → IsRun Due Cut end (puts ++ tail ++ last)
+  pub ends_or_lacks : (pieces : List Text) (pending line : Text) (meant end : Status) (puts tail last : List Put) → IsAt pieces pending puts → Cut pieces → tail ≡ whole_put pending ∷ [] → Due meant (pieces ++ (line ∷ [])) → IsEnd line meant end last → IsRun Due Cut end (puts ++ tail ++ last)
   ends_or_lacks pieces pending line meant end puts tail last i c e due (inl h) = ends pieces pending line meant end puts tail last i e due h
   ends_or_lacks pieces pending line meant end puts tail last i c e due (inr h) = lacks_after pieces pending puts tail last end i c e h
 

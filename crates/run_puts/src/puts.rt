@@ -1,5 +1,5 @@
 ghost use Rattle.std.specs.Prelude.{MatchResult, ◌≡◌};
-ghost use Rattle.run_puts.specs.{IsLast, IsPut, IsWanting, code_of, PutsMore, IsRun, NeverCut, IsEnded, first_not_ok, or_else};
+ghost use Rattle.run_puts.specs.{IsLast, IsPut, EndsOutOfMemory, code_of, PutsMore, IsRun, NeverCut, IsEnded, first_not_ok, or_else};
 
 use crate::job_end::JobEnd;
 use outside::{Refusal, Sink, SinkError};
@@ -8,7 +8,7 @@ use step_problem::{NoBound, Place};
 
 /// Puts the line MEMORY once, and ends the run.
 pub fn put_memory<K: Sink>(out: &mut K) -> Status
-    ensures { PutsMore K.leads out.old out.new (IsWanting result) }
+    ensures { PutsMore K.leads out.old out.new (EndsOutOfMemory result) }
 {
     match out.put(b"MEMORY\n") {
         Err(SinkError::Write) => Status::WriteFault,
@@ -40,7 +40,7 @@ pub fn put_last<K: Sink>(out: &mut K, line: &[u8], meant: Status) -> Status
 
 /// Puts the last line of a run, or the line MEMORY if there was no memory for it.
 pub fn put_line<K: Sink>(out: &mut K, line: Result<Vec<u8>, AllocError>, meant: Status) -> Status
-    ensures { PutsMore K.leads out.old out.new (λ more. MatchResult line (λ text. IsLast text.items meant result more) (λ _. IsWanting result more)) }
+    ensures { PutsMore K.leads out.old out.new (λ more. MatchResult line (λ text. IsLast text.items meant result more) (λ _. EndsOutOfMemory result more)) }
 {
     match line {
         Ok(text) => put_last(out, text.as_slice(), meant),

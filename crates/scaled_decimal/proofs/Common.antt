@@ -11,9 +11,9 @@ pub use Rattle.decimal_input.proofs.Orders.{AtMost-Below, AtMost-refl, AtMost-tr
 pub use Rattle.decimal_input.proofs.Orders.{num_over, num_plus, plus-AtMost, product_positive}
 pub use Rattle.decimal_input.proofs.Powers.{cross_of, den_scaled, num_scaled, power_within, scaled-AtMost, scaled_shift, scaled_times, ten_pos, up_down}
 pub use Rattle.decimal_input.proofs.SameNumbers.{Same-both, plus-comm}
-pub use Rattle.decimal_input.specs.{Below, IsCeiling, IsFloor, Ratio, down, over, scaled, up}
+pub use Rattle.decimal_input.specs.{Below, IsCeiling, IsFloor, Ratio, down, over, scaled_ratio, up}
 pub use Rattle.decimal_input.specs.Ratios.{AtMost, Same, den, plus, times}
 pub use Rattle.scaled_decimal.specs.{HasSize, IsDown, IsFrom, IsRounded, IsSd, IsUp, IsUpTo, IsWithin, Lower, RoundedIsNearest, RoundingsKeepOrder, Side}
-pub use Rattle.scaled_decimal.specs.{UnitsAreWhole, Upper, cut, of_units, value}
-unfoldable pub use Rattle.scaled_decimal.specs.{in_units, rounded}
+pub use Rattle.scaled_decimal.specs.{UnitsAreWhole, Upper, first_digits, of_units, value}
+unfoldable pub use Rattle.scaled_decimal.specs.{in_units, rounded_decimal}
 pub use Rattle.scaled_decimal.specs.declared.decimal.Sd.{Sd}

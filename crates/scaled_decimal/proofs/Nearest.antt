@@ -1,5 +1,5 @@
 use Rattle.scaled_decimal.proofs.Common.{◌≡◌, ℕ, ◌+◌, ◌*◌, ◌/◌, ◌≤◌, ◌<◌, ◌^◌, inl, inr, arith, ℤ, pos, ◌+ℤ◌, lt-mul-div-succ, div-mul-le_self}
-use Rattle.scaled_decimal.proofs.Common.{le-div_iff_mul-le, div-lt_iff_lt-mul, Ratio, AtMost, Below, Same, scaled, up, down, AtMost-trans, Below-AtMost}
+use Rattle.scaled_decimal.proofs.Common.{le-div_iff_mul-le, div-lt_iff_lt-mul, Ratio, AtMost, Below, Same, scaled_ratio, up, down, AtMost-trans, Below-AtMost}
 use Rattle.scaled_decimal.proofs.Common.{AtMost-Below, Same-AtMost, Same-back, Same-trans, ten_pos, cross_of, scaled_shift, scaled-AtMost, num_scaled, Sd, IsSd}
 use Rattle.scaled_decimal.proofs.Common.{value, IsDown, IsUp, IsFrom, IsUpTo, ◌-◌, refl, ◌∙◌, add-one, ints, lt_of_mul-lt-mul_right, div-div-eq-div-mul}
 use Rattle.scaled_decimal.proofs.Common.{pow-suc, div_below, le-div}
@@ -9,10 +9,10 @@ use Rattle.scaled_decimal.proofs.Between.{none_above, none_below, power_pos}
 pub zero-AtMost : (x : Sd) (f : Ratio) → x.m ≡ 0 → AtMost (value x) f
 zero-AtMost x f h = record { cross = rw (num_scaled, h) (omega arith) }
 
-decimals : (m n : ℕ) (d e : ℤ) → m * 10 ^ (up d + down e) ≤ n * 10 ^ (up e + down d) → AtMost (scaled m d) (scaled n e)
+decimals : (m n : ℕ) (d e : ℤ) → m * 10 ^ (up d + down e) ≤ n * 10 ^ (up e + down d) → AtMost (scaled_ratio m d) (scaled_ratio n e)
 decimals m n d e h = record { cross = rw (cross_of m n d e, cross_of n m e d) h }
 
-pub below_decimals : (m n : ℕ) (d e : ℤ) → Below (scaled m d) (scaled n e) → m * 10 ^ (up d + down e) < n * 10 ^ (up e + down d)
+pub below_decimals : (m n : ℕ) (d e : ℤ) → Below (scaled_ratio m d) (scaled_ratio n e) → m * 10 ^ (up d + down e) < n * 10 ^ (up e + down d)
 below_decimals m n d e h = rw (cross_of m n d e, cross_of n m e d) at h.cross
 
 -- a decimal of 18 digits with f from it to just below the next one
@@ -35,7 +35,7 @@ cut_down r q j e least most he from before f h = nearest_down r f least most (rw
 }))
 
 -- f lies above p and not above p + 1; r is m units, the least that reach past p
-pub cut_up : (r : Sd) (p m j : ℕ) (e : ℤ) → IsSd r → Same (scaled (m * 10 ^ j) e) (value r) → 10 ^ 17 ≤ p → 10 ^ 17 * 10 ^ j ≤ p + 1 → p + 1 ≤ m * 10 ^ j → ((y : ℕ) → p < y * 10 ^ j → m ≤ y) → (f : Ratio) → IsUpTo p e f → IsUp r f
+pub cut_up : (r : Sd) (p m j : ℕ) (e : ℤ) → IsSd r → Same (scaled_ratio (m * 10 ^ j) e) (value r) → 10 ^ 17 ≤ p → 10 ^ 17 * 10 ^ j ≤ p + 1 → p + 1 ≤ m * 10 ^ j → ((y : ℕ) → p < y * 10 ^ j → m ≤ y) → (f : Ratio) → IsUpTo p e f → IsUp r f
 cut_up r p m j e dr same hp hj reach least f h = record {
   decimal = dr;
   at_least = AtMost-trans h.up_to (AtMost-trans (scaled-AtMost (p + 1) (m * 10 ^ j) e reach) (Same-AtMost same));
@@ -67,7 +67,7 @@ cut_down_by r q u j e hu least most hm he = cut_down r q j e
     most_front = rw hm ((div-lt_iff_lt-mul positive).1 most)
 
 -- the same for the quotient of p by the power of ten, and one more
-pub cut_up_by : (r : Sd) (p u j : ℕ) (e : ℤ) → IsSd r → u ≡ 10 ^ j → 10 ^ 17 ≤ p → 10 ^ 17 * u ≤ p + 1 → Same (scaled ((p / u + 1) * 10 ^ j) e) (value r) → (f : Ratio) → IsUpTo p e f → IsUp r f
+pub cut_up_by : (r : Sd) (p u j : ℕ) (e : ℤ) → IsSd r → u ≡ 10 ^ j → 10 ^ 17 ≤ p → 10 ^ 17 * u ≤ p + 1 → Same (scaled_ratio ((p / u + 1) * 10 ^ j) e) (value r) → (f : Ratio) → IsUpTo p e f → IsUp r f
 cut_up_by r p u j e dr hu hp least same = cut_up r p (p / u + 1) j e dr same hp (rw (← hu) least)
     (rw (← hu) (omega (arith, lt-mul-div-succ p positive)))
     (rw (← hu) (λ y h. let k : p / u < y = (div-lt_iff_lt-mul positive).1 h in omega arith))
@@ -76,10 +76,10 @@ cut_up_by r p u j e dr hu hp least same = cut_up r p (p / u + 1) j e dr same hp 
     positive = omega (arith, hu, ten_pos j)
 
 -- 10 ^ 18 units are 10 ^ 17 of the next
-pub carried : (m j : ℕ) (d e : ℤ) → m ≡ 10 ^ 18 → d ≡ e +ℤ pos j +ℤ pos 1 → Same (scaled (m * 10 ^ j) e) (scaled (10 ^ 17) d)
+pub carried : (m j : ℕ) (d e : ℤ) → m ≡ 10 ^ 18 → d ≡ e +ℤ pos j +ℤ pos 1 → Same (scaled_ratio (m * 10 ^ j) e) (scaled_ratio (10 ^ 17) d)
 carried m j d e hm hd = rw (hd, hm) (Same-trans (scaled_shift (10 ^ 18) j e) (scaled_shift (10 ^ 17) 1 (e +ℤ pos j)))
 
-pub uncarried : (m j : ℕ) (d e : ℤ) → d ≡ e +ℤ pos j → Same (scaled (m * 10 ^ j) e) (scaled m d)
+pub uncarried : (m j : ℕ) (d e : ℤ) → d ≡ e +ℤ pos j → Same (scaled_ratio (m * 10 ^ j) e) (scaled_ratio m d)
 uncarried m j d e hd = rw hd (scaled_shift m j e)
 
 -- a decimal of the value itself
@@ -90,11 +90,11 @@ pub up_self : (r : Sd) (f : Ratio) → IsSd r → AtMost (value r) f → AtMost 
 up_self r f d p q = record { decimal = d; at_least = q; least = λ x _ le. AtMost-trans p le }
 
 -- the same, with the exponent as the code has it
-pub down_same : (r : Sd) (m : ℕ) (g e : ℤ) → g ≡ e → IsSd r → Same (value r) (scaled m g) → IsDown r (scaled m e)
-down_same r m g e h d s = rw (← h) (down_self r (scaled m g) d (Same-AtMost s) (Same-back s))
+pub down_same : (r : Sd) (m : ℕ) (g e : ℤ) → g ≡ e → IsSd r → Same (value r) (scaled_ratio m g) → IsDown r (scaled_ratio m e)
+down_same r m g e h d s = rw (← h) (down_self r (scaled_ratio m g) d (Same-AtMost s) (Same-back s))
 
-pub up_same : (r : Sd) (m : ℕ) (g e : ℤ) → g ≡ e → IsSd r → Same (value r) (scaled m g) → IsUp r (scaled m e)
-up_same r m g e h d s = rw (← h) (up_self r (scaled m g) d (Same-AtMost s) (Same-back s))
+pub up_same : (r : Sd) (m : ℕ) (g e : ℤ) → g ≡ e → IsSd r → Same (value r) (scaled_ratio m g) → IsUp r (scaled_ratio m e)
+up_same r m g e h d s = rw (← h) (up_self r (scaled_ratio m g) d (Same-AtMost s) (Same-back s))
 
 next_power : (u j : ℕ) → u ≡ 10 ^ j → u * 10 ≡ 10 ^ (j + 1)
 next_power u j h = rw (add-one, pow-suc 10 j, h) refl
@@ -118,13 +118,13 @@ up_at_18 r p u j e hu digits least few hm he =
     let positive : 0 < u = power_pos u j hu in
     let reach : 10 ^ 17 * u < (p / u + 2) * u = omega (arith, lt-mul-div-succ p positive) in
     let front : 10 ^ 17 < p / u + 2 = lt_of_mul-lt-mul_right u reach in
-    let same : Same (scaled ((p / u + 1) * 10 ^ j) e) (scaled (p / u + 1) r.e) = uncarried (p / u + 1) j r.e e he in
+    let same : Same (scaled_ratio ((p / u + 1) * 10 ^ j) e) (scaled_ratio (p / u + 1) r.e) = uncarried (p / u + 1) j r.e e he in
     cut_up_by r p u j e (inl (omega arith, omega arith)) hu digits least (rw hm same)
 
 -- the front of p is 18 nines
 pub up_at_nines : (r : Sd) (p u j : ℕ) (e : ℤ) → u ≡ 10 ^ j → 10 ^ 17 ≤ p → 10 ^ 17 * u ≤ p + 1 → p / u ≡ 10 ^ 18 - 1 → r.m ≡ 10 ^ 17 → r.e ≡ e +ℤ pos j +ℤ pos 1 → (f : Ratio) → IsUpTo p e f → IsUp r f
 up_at_nines r p u j e hu digits least nines hm he =
-    let same : Same (scaled ((p / u + 1) * 10 ^ j) e) (scaled (10 ^ 17) r.e) = carried (p / u + 1) j r.e e (omega arith) he in
+    let same : Same (scaled_ratio ((p / u + 1) * 10 ^ j) e) (scaled_ratio (10 ^ 17) r.e) = carried (p / u + 1) j r.e e (omega arith) he in
     cut_up_by r p u j e (inl (omega arith, omega arith)) hu digits least (rw hm same)
 
 -- the front of p has 19 digits
@@ -135,6 +135,6 @@ up_at_19 r p u j e hu digits many most hm he =
     let quotient : p / u / 10 ≡ p / (u * 10) = div-div-eq-div-mul p u 10 in
     let whole : 10 ^ 17 ≤ p / (u * 10) = le-div (10 ^ 17) p (u * 10) (omega (arith, power_pos u j hu)) (omega (arith, least)) in
     let exponent : r.e ≡ e +ℤ pos (j + 1) = omega (arith, ints) in
-    let same : Same (scaled ((p / (u * 10) + 1) * 10 ^ (j + 1)) e) (scaled (p / (u * 10) + 1) r.e) = uncarried (p / (u * 10) + 1) (j + 1) r.e e exponent in
+    let same : Same (scaled_ratio ((p / (u * 10) + 1) * 10 ^ (j + 1)) e) (scaled_ratio (p / (u * 10) + 1) r.e) = uncarried (p / (u * 10) + 1) (j + 1) r.e e exponent in
     let m : r.m ≡ p / (u * 10) + 1 = omega arith in
     cut_up_by r p (u * 10) (j + 1) e (inl (omega arith, omega arith)) (next_power u j hu) digits (omega (arith, least)) (rw m same)

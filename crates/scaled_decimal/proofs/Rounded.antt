@@ -3,7 +3,7 @@ use Rattle.scaled_decimal.proofs.Common.{◌≡◌, ℕ, suc, ◌+◌, ◌*◌, 
 use Rattle.scaled_decimal.proofs.Common.{pow-suc, pow-add, lt-mul-div-succ, div-mul-le_self, le-div_iff_mul-le, div-lt_iff_lt-mul, lt_of_mul-lt-mul_right}
 use Rattle.scaled_decimal.proofs.Common.{mul-le-mul_right, cases_lt, Ratio, den, Same, ten_pos, num_scaled, den_scaled, Sd, IsSd, value, IsDown, IsUp, IsFrom}
 use Rattle.scaled_decimal.proofs.Common.{IsUpTo, Same-both, cond_above, cond_below, IsFloor, IsCeiling, IsRounded, Lower, RoundedIsNearest, Side, UnitsAreWhole}
-use Rattle.scaled_decimal.proofs.Common.{Upper, cut, in_units, of_units, rounded, div_below, le-div}
+use Rattle.scaled_decimal.proofs.Common.{Upper, first_digits, in_units, of_units, rounded_decimal, div_below, le-div}
 use Rattle.std.specs.Prelude.{zero, negsuc, ◌-ℤ◌, length}
 use Rattle.std.specs.Int.Digits.{digits_of}
 use Rattle.std.proofs.lemmas.Int.Digits.{all_below_base_digits_of, length-digits_of-le, number_digits_of, number_lt}
@@ -54,7 +54,7 @@ some_units m e h lt = cond_below m (10 ^ 18) (plain m e) (plain (10 ^ 17) (e +�
 full_units : (m : ℕ) (e : ℤ) → m ≡ 10 ^ 18 → plain (10 ^ 17) (e +ℤ pos 1) ≡ of_units m e
 full_units m e h = cond_above m (10 ^ 18) (plain m e) (plain (10 ^ 17) (e +ℤ pos 1)) (plain (10 ^ 17) (e +ℤ pos 1)) (omega (arith, h)) refl ∙ cond_below 0 m _ (plain 0 (pos 0)) (omega (arith, h))
 
-cut_down : (n p k : ℕ) (f : Ratio) → p ≡ suc k → 10 ^ 17 ≤ n → IsFrom n (negsuc k) f → IsDown (cut Lower n p) f × (0 < (cut Lower n p).m)
+cut_down : (n p k : ℕ) (f : Ratio) → p ≡ suc k → 10 ^ 17 ≤ n → IsFrom n (negsuc k) f → IsDown (first_digits Lower n p) f × (0 < (first_digits Lower n p).m)
 cut_down n p k f e long is =
     let (least, most) = digits n long in
     let u = 10 ^ more n in
@@ -68,7 +68,7 @@ cut_down n p k f e long is =
 above : (x d : ℕ) → 0 < x → 0 < d → (x + (d - 1)) / d ≡ (x - 1) / d + 1
 above x d some h = grind (arith, div-mul-le_self, lt-mul-div-succ, le-div_iff_mul-le, div-lt_iff_lt-mul)
 
-cut_up : (n p k : ℕ) (f : Ratio) → p ≡ suc k → 10 ^ 17 < n → IsUpTo (n - 1) (negsuc k) f → IsUp (cut Upper n p) f
+cut_up : (n p k : ℕ) (f : Ratio) → p ≡ suc k → 10 ^ 17 < n → IsUpTo (n - 1) (negsuc k) f → IsUp (first_digits Upper n p) f
 cut_up n p k f e long is =
     let (least, most) = digits n (omega (arith, long)) in
     let u = 10 ^ more n in
@@ -115,44 +115,44 @@ ceiling_up_to f n k some h = record {
 places : (f : Ratio) → 17 + den f ≡ suc (17 + f.less)
 places f = omega arith
 
-some_down : (f : Ratio) → 0 < f.num → IsDown (cut Lower (in_units Lower f (17 + den f)) (17 + den f)) f × (0 < (cut Lower (in_units Lower f (17 + den f)) (17 + den f)).m)
+some_down : (f : Ratio) → 0 < f.num → IsDown (first_digits Lower (in_units Lower f (17 + den f)) (17 + den f)) f × (0 < (first_digits Lower (in_units Lower f (17 + den f)) (17 + den f)).m)
 some_down f some =
     let q = in_units Lower f (17 + den f) in
     let is = is_floor f (17 + den f) in
     let many : 10 ^ 17 < q + 1 = lt_of_mul-lt-mul_right (den f) (omega (arith, long f some, is.next)) in
     cut_down q (17 + den f) (17 + f.less) f (places f) (omega (arith, many)) (floor_from f q (17 + f.less) (subst (λ (s : ℕ). IsFloor q f s) (places f) is))
 
-some_up : (f : Ratio) → 0 < f.num → IsUp (cut Upper (in_units Upper f (17 + den f)) (17 + den f)) f
+some_up : (f : Ratio) → 0 < f.num → IsUp (first_digits Upper (in_units Upper f (17 + den f)) (17 + den f)) f
 some_up f some =
     let n = in_units Upper f (17 + den f) in
     let is = is_ceiling f (17 + den f) in
     let many : 10 ^ 17 < n = lt_of_mul-lt-mul_right (den f) (omega (arith, long f some, is.at_least)) in
     cut_up n (17 + den f) (17 + f.less) f (places f) many (ceiling_up_to f n (17 + f.less) (omega (arith, many)) (subst (λ (s : ℕ). IsCeiling n f s) (places f) is))
 
-none_rounded : (side : Side) (f : Ratio) (p : ℕ) → f.num ≡ 0 → IsRounded side (cut side (in_units side f p) p) f
+none_rounded : (side : Side) (f : Ratio) (p : ℕ) → f.num ≡ 0 → IsRounded side (first_digits side (in_units side f p) p) f
 none_rounded Lower f p h =
     let none : 0 ≡ in_units Lower f p = one_floor f 0 p (record { at_most = omega arith; next = rw h (omega arith) }) in
-    subst (λ (n : ℕ). IsDown (cut Lower n p) f) none (zero_down (plain 0 (pos 0)) f refl refl (record { cross = rw h (omega arith) }))
+    subst (λ (n : ℕ). IsDown (first_digits Lower n p) f) none (zero_down (plain 0 (pos 0)) f refl refl (record { cross = rw h (omega arith) }))
 none_rounded Upper f p h =
     let none : 0 ≡ in_units Upper f p = one_ceiling f 0 p (record { at_least = rw h (omega arith); least = λ k le. omega arith }) in
-    subst (λ (n : ℕ). IsUp (cut Upper n p) f) none (zero_up (plain 0 (pos 0)) f refl refl (record { cross = rw h (omega arith) }))
+    subst (λ (n : ℕ). IsUp (first_digits Upper n p) f) none (zero_up (plain 0 (pos 0)) f refl refl (record { cross = rw h (omega arith) }))
 
-pub is_rounded : (side : Side) (f : Ratio) → IsRounded side (rounded side f) f
-unfolding rounded
+pub is_rounded : (side : Side) (f : Ratio) → IsRounded side (rounded_decimal side f) f
+unfolding rounded_decimal
 is_rounded Lower f = elim (cases_lt 0 f.num) [ inl some ↦ (some_down f some).0 | inr none ↦ none_rounded Lower f (17 + den f) (omega (arith, none)) ]
 is_rounded Upper f = elim (cases_lt 0 f.num) [ inl some ↦ some_up f some | inr none ↦ none_rounded Upper f (17 + den f) (omega (arith, none)) ]
 
-pub rounded_positive : (f : Ratio) → 0 < f.num → 0 < (rounded Lower f).m
-unfolding rounded
+pub rounded_positive : (f : Ratio) → 0 < f.num → 0 < (rounded_decimal Lower f).m
+unfolding rounded_decimal
 rounded_positive f some = (some_down f some).1
 
 -- One decimal is nearest.
 same_decimal : (r q : Sd) → IsSd r → IsSd q → Same (value r) (value q) → r ≡ q
 same_decimal r q h k s = let (m, e) = one_decimal r q h k s in λ i. record { m = m i; e = e i }
 
-pub one_rounded : (side : Side) (r : Sd) (f : Ratio) → IsRounded side r f → r ≡ rounded side f
-one_rounded Lower r f h = let k = is_rounded Lower f in same_decimal r (rounded Lower f) h.decimal k.decimal (Same-both (k.greatest r h.decimal h.at_most) (h.greatest (rounded Lower f) k.decimal k.at_most))
-one_rounded Upper r f h = let k = is_rounded Upper f in same_decimal r (rounded Upper f) h.decimal k.decimal (Same-both (h.least (rounded Upper f) k.decimal k.at_least) (k.least r h.decimal h.at_least))
+pub one_rounded : (side : Side) (r : Sd) (f : Ratio) → IsRounded side r f → r ≡ rounded_decimal side f
+one_rounded Lower r f h = let k = is_rounded Lower f in same_decimal r (rounded_decimal Lower f) h.decimal k.decimal (Same-both (k.greatest r h.decimal h.at_most) (h.greatest (rounded_decimal Lower f) k.decimal k.at_most))
+one_rounded Upper r f h = let k = is_rounded Upper f in same_decimal r (rounded_decimal Upper f) h.decimal k.decimal (Same-both (h.least (rounded_decimal Upper f) k.decimal k.at_least) (k.least r h.decimal h.at_least))
 
 pub rounded_is_nearest : RoundedIsNearest
 rounded_is_nearest = record { nearest = is_rounded; one = one_rounded }

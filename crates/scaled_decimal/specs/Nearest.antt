@@ -1,7 +1,7 @@
 use Rattle.std.specs.Prelude.{◌≡◌, ℕ, ◌≤◌, ◌<◌, ◌^◌, ◌*◌, ◌/◌, ◌-◌, nat_lt, if◌then◌else◌, length, ◌⊎◌, ℤ, pos, neg_ℤ, ◌≤ℤ◌, ◌+ℤ◌, ◌-ℤ◌, ◌+◌}
 use Rattle.std.specs.Int.{int_min, int_max}
 use Rattle.std.specs.Int.Digits.{digits_of}
-use Rattle.decimal_input.specs.{Ratio, Below, scaled, IsFloor, IsCeiling}
+use Rattle.decimal_input.specs.{Ratio, Below, scaled_ratio, IsFloor, IsCeiling}
 use Rattle.decimal_input.specs.Ratios.{AtMost, den}
 use Rattle.scaled_decimal.specs.declared.decimal.Sd.{Sd}
 
@@ -11,7 +11,7 @@ IsSd x = ((10 ^ 17 ≤ x.m) × (x.m < 10 ^ 18)) ⊎ ((x.m ≡ 0) × (x.e ≡ pos
 
 -- m * 10 ^ e
 abbrev pub value : Sd → Ratio
-value x = scaled x.m x.e
+value x = scaled_ratio x.m x.e
 
 -- r is the greatest 18-digit decimal not above f, over all exponents
 pub record IsDown (r : Sd) (f : Ratio) : Type 0 where
@@ -52,20 +52,20 @@ of_units m e =
     else record { m = 0; e = pos 0 }
 
 -- n units of 10 ^ -p rounded to their first 18 digits
-abbrev pub cut : Side → ℕ → ℕ → Sd
-cut side n p =
+abbrev pub first_digits : Side → ℕ → ℕ → Sd
+first_digits side n p =
     let more = length (digits_of 10 n) - 18 in
     of_units (quotient side n (10 ^ more)) (pos more -ℤ pos p)
 
 -- f rounded to this side. In units of 10 ^ -(17 + d), for the denominator d, it has 18 digits or more unless it is 0; the first
 -- 18 of these are kept. `RoundedIsNearest` says which decimal that is.
-unfoldable pub rounded : Side → Ratio → Sd
-rounded side f = cut side (in_units side f (17 + den f)) (17 + den f)
+unfoldable pub rounded_decimal : Side → Ratio → Sd
+rounded_decimal side f = first_digits side (in_units side f (17 + den f)) (17 + den f)
 
 -- each number has one greatest decimal not above it and one least not below it, and these are its rounded decimals
 pub record RoundedIsNearest : Type 0 where
-  pub nearest : (side : Side) (f : Ratio) → IsRounded side (rounded side f) f
-  pub one : (side : Side) (r : Sd) (f : Ratio) → IsRounded side r f → r ≡ rounded side f
+  pub nearest : (side : Side) (f : Ratio) → IsRounded side (rounded_decimal side f) f
+  pub one : (side : Side) (r : Sd) (f : Ratio) → IsRounded side r f → r ≡ rounded_decimal side f
 
 -- the whole units are the floor and the ceiling
 pub record UnitsAreWhole : Type 0 where
@@ -97,13 +97,13 @@ pub record IsWithin (e low high : ℤ) : Type 0 where
 
 -- f lies from q to just below q + 1, in units of 10 ^ e
 pub record IsFrom (q : ℕ) (e : ℤ) (f : Ratio) : Type 0 where
-  pub from : AtMost (scaled q e) f
-  pub before : Below f (scaled (q + 1) e)
+  pub from : AtMost (scaled_ratio q e) f
+  pub before : Below f (scaled_ratio (q + 1) e)
 
 -- f lies above p and not above p + 1, in units of 10 ^ e
 pub record IsUpTo (p : ℕ) (e : ℤ) (f : Ratio) : Type 0 where
-  pub after : Below (scaled p e) f
-  pub up_to : AtMost f (scaled (p + 1) e)
+  pub after : Below (scaled_ratio p e) f
+  pub up_to : AtMost f (scaled_ratio (p + 1) e)
 
 -- f ≤ g gives f rounded ≤ g rounded, both down or both up, to 18 digits or to whole units of 10 ^ -s
 pub record RoundingsKeepOrder : Type 0 where

@@ -1,7 +1,7 @@
 // Decimals of 18 digits from numbers of the input and from whole numbers of units.
 
 ghost use Rattle.std.specs.Prelude.{false, ◌≡◌, ◌^◌, ◌≤◌, ◌<◌, pos, neg_ℤ, ◌+ℤ◌, ◌-ℤ◌};
-ghost use Rattle.decimal_input.specs.{IsDec, size, scaled};
+ghost use Rattle.decimal_input.specs.{IsDec, size, scaled_ratio};
 ghost use Rattle.decimal_input.specs.Ratios.{Same};
 ghost use Rattle.scaled_decimal.specs.{IsSd, value, IsDown, IsUp, IsNear, HasSize, IsWithin};
 
@@ -19,7 +19,7 @@ fn to_digits(digits: u64, exponent: i16) -> Sd
     requires few { digits < 10 ^ 18 }
     requires range { IsNear exponent 10000 }
     ensures decimal { IsSd result }
-    ensures same { Same (value result) (scaled digits exponent) }
+    ensures same { Same (value result) (scaled_ratio digits exponent) }
     ensures size { HasSize result (exponent -ℤ pos 17) exponent }
 {
     let mut m = digits;
@@ -54,8 +54,8 @@ pub fn of_dec(a: Dec) -> Sd
 /// The greatest decimal of 18 digits not above units * 10 ^ -places.
 pub fn of_units_dn(units: u128, places: u16) -> Sd
     requires places { places ≤ 10000 }
-    ensures nearest { IsDown result (scaled units (neg_ℤ (pos places))) }
-    ensures exact { units < 10 ^ 18 → Same (value result) (scaled units (neg_ℤ (pos places))) }
+    ensures nearest { IsDown result (scaled_ratio units (neg_ℤ (pos places))) }
+    ensures exact { units < 10 ^ 18 → Same (value result) (scaled_ratio units (neg_ℤ (pos places))) }
     ensures size { 0 < units → HasSize result (neg_ℤ (pos places) -ℤ pos 17) (neg_ℤ (pos places) +ℤ pos 22) }
     ensures exponent { IsWithin result.e (neg_ℤ (pos places) -ℤ pos 17) (neg_ℤ (pos places) +ℤ pos 22) }
 {
@@ -72,8 +72,8 @@ pub fn of_units_dn(units: u128, places: u16) -> Sd
 /// The least decimal of 18 digits not below units * 10 ^ -places.
 pub fn of_units_up(units: u128, places: u16) -> Sd
     requires places { places ≤ 10000 }
-    ensures nearest { IsUp result (scaled units (neg_ℤ (pos places))) }
-    ensures exact { units < 10 ^ 18 → Same (value result) (scaled units (neg_ℤ (pos places))) }
+    ensures nearest { IsUp result (scaled_ratio units (neg_ℤ (pos places))) }
+    ensures exact { units < 10 ^ 18 → Same (value result) (scaled_ratio units (neg_ℤ (pos places))) }
     ensures size { 0 < units → HasSize result (neg_ℤ (pos places) -ℤ pos 17) (neg_ℤ (pos places) +ℤ pos 22) }
     ensures exponent { IsWithin result.e (neg_ℤ (pos places) -ℤ pos 17) (neg_ℤ (pos places) +ℤ pos 22) }
 {

@@ -11,7 +11,7 @@ pub use Rattle.std.specs.Prelude.{IfOk, MatchOption, None, Option, Some, is_some
 pub use Rattle.cell_relax.proofs.Sides.{heads_in_range, is_side, tighter_first, tighter_second}
 pub use Rattle.cell_relax.specs.{AreNoLooser, AreWords, IsAsTight, Moves, head_of, heads_on}
 pub use Rattle.head_table.proofs.WordReads.{no_looser_trans, tight_refl}
-pub use Rattle.head_table.specs.{AreHeld, HasMoved, HasTighter, IsSeatOf, ShowsSeen, barrier_of, seen_of, seen_on}
+pub use Rattle.head_table.specs.{AreNoTighterThanSettled, HasMoved, HasTighter, IsSeatOf, ShowsSeen, barrier_of, seen_of, seen_on}
 pub use Rattle.head_table.specs.declared.table.HeadSeat.{HeadSeat}
 pub use Rattle.head_table.specs.declared.table.HeadTable.{HeadTable}
 pub use Rattle.relax_core.proofs.Keeping.{way_on}

@@ -1,8 +1,8 @@
 -- Views that follow one another, and what a watching seat has seen.
 use Rattle.settle_driver.proofs.Common.{◌≡◌, ℕ, ◌+◌, ◌*◌, ◌<◌, ◌⊎◌, inl, inr, refl, sym, subst, arith, Bool, true, false, List, length, ℤ, ◌≤ℤ◌, Result, Ok}
 use Rattle.settle_driver.proofs.Common.{Err, ints, Bound, Low, High, Entries, IsHead, Edges, head_at, lower_at, upper_at, AreNoLooser, HeadTable, HeadSeat}
-use Rattle.settle_driver.proofs.Common.{AreHeld, IsSeatOf, ShowsSeen, barrier_of, seen_of, ArePastBarrier, EnclosesPair, had_memory, AddsViews, AddsTurns}
-use Rattle.settle_driver.proofs.Common.{AddsPhases, zero, suc, ◌∙◌, IsTrue, ◌↔◌, false≢true}
+use Rattle.settle_driver.proofs.Common.{AreNoTighterThanSettled, IsSeatOf, ShowsSeen, barrier_of, seen_of, ArePastBarrier, EnclosesPair, had_memory, AddsViews}
+use Rattle.settle_driver.proofs.Common.{AddsTurns, AddsPhases, zero, suc, ◌∙◌, IsTrue, ◌↔◌, false≢true}
 use Rattle.std.specs.Result.{is_ok}
 use Rattle.std.specs.declared.vec.Vec.{Vec}
 use Rattle.std.specs.declared.alloc.Global.{Global}
@@ -107,7 +107,7 @@ still_past_barrier p ps b old new same past tighter =
     }
 
 -- What a seat has just seen encloses the settled pair.
-seen_encloses : (t : HeadTable) (s : HeadSeat) (heads : List Bound) → length heads ≡ length t.problem.now → IsSeatOf t s → ShowsSeen t.problem.now s heads → AreHeld t.problem.now (barrier_of t) heads → ArePastBarrier t.problem.now (barrier_of t) (seen_of s)
+seen_encloses : (t : HeadTable) (s : HeadSeat) (heads : List Bound) → length heads ≡ length t.problem.now → IsSeatOf t s → ShowsSeen t.problem.now s heads → AreNoTighterThanSettled t.problem.now (barrier_of t) heads → ArePastBarrier t.problem.now (barrier_of t) (seen_of s)
     → EnclosesPair t.problem.now (barrier_of t) heads
 seen_encloses t s heads whole seat shows held past =
     let sound = s.sound in
@@ -127,5 +127,5 @@ seen_encloses t s heads whole seat shows held past =
       };
     }
 
-pub look_encloses : (p : List Entries) (b : Edges) (t : HeadTable) (s : HeadSeat) (heads : List Bound) → t.problem.now ≡ p → barrier_of t ≡ b → length heads ≡ length p → IsSeatOf t s → ShowsSeen t.problem.now s heads → AreHeld t.problem.now (barrier_of t) heads → ArePastBarrier p b (seen_of s) → EnclosesPair p b heads
+pub look_encloses : (p : List Entries) (b : Edges) (t : HeadTable) (s : HeadSeat) (heads : List Bound) → t.problem.now ≡ p → barrier_of t ≡ b → length heads ≡ length p → IsSeatOf t s → ShowsSeen t.problem.now s heads → AreNoTighterThanSettled t.problem.now (barrier_of t) heads → ArePastBarrier p b (seen_of s) → EnclosesPair p b heads
 look_encloses p b t s heads same edges whole seat shows held past = grind (arith, seen_encloses)

@@ -13,7 +13,7 @@ use std::thread;
 use std::thread::Threads;
 
 // So many seats more, which have seen what this one has.
-pub(crate) fn deal(
+pub(crate) fn split_seats(
     alloc: Global,
     table: &HeadTable,
     seat: &mut HeadSeat,
@@ -32,7 +32,7 @@ pub(crate) fn deal(
 }
 
 // Joins all the seats into one.
-pub(crate) fn gather(table: &HeadTable, seat: &mut HeadSeat, mut seats: Vec<HeadSeat>)
+pub(crate) fn join_seats(table: &HeadTable, seat: &mut HeadSeat, mut seats: Vec<HeadSeat>)
     requires seat { IsSeatOf table.now seat.old }
     requires seats { All (λ s. IsSeatOf table.now s) seats.items }
     ensures seat { IsSeatOf table.now seat.new }

@@ -2,9 +2,9 @@
 ghost use Rattle.std.specs.Prelude.{◌≡◌, ℕ, Option};
 ghost use Rattle.outside.specs.declared.traits.SinkError.{SinkError};
 
-use crate::thread_settler::SettleBy;
+use crate::thread_settler::ClosureSettler;
 use crate::viewer::Viewer;
-use crate::watch_by::WatchBy;
+use crate::watch_by::WatchedClosureSettler;
 use outside::SinkError;
 use std::alloc::Global;
 use step_problem::{Barrier, Bound, Problem, SettleFault, Settler};
@@ -39,7 +39,7 @@ pub trait StepSettler: Settler {
 }
 
 impl<F: Fn(Global, &Problem, &Barrier) -> Result<Vec<Bound>, SettleFault> + Drop> StepSettler
-    for SettleBy<F> {
+    for ClosureSettler<F> {
     ghost use Rattle.std.specs.Prelude.{None};
 
     // It settles each step alike, and never stops.
@@ -58,7 +58,7 @@ impl<
     'a,
     V: StepViewer,
     F: Fn(Global, &Problem, &Barrier, &mut V) -> Result<Vec<Bound>, SettleFault> + Drop,
-> StepSettler for WatchBy<'a, V, F> {
+> StepSettler for WatchedClosureSettler<'a, V, F> {
     // The viewer is told.
     ghost begins = { λ s period step t. (t.views ≡ s.views) × (t.viewer.ghost_name ≡ s.viewer.ghost_name)
         × V.begins s.viewer.now period step t.viewer.now };

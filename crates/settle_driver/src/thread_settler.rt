@@ -56,21 +56,25 @@ impl<'a, R: Threads + Sync, G: Gate + Sync> ThreadSettler<'a, R, G> {
 /// A settler by a closure. It is ready if the closure may be called with every problem and barrier and
 /// settles them within `rounds` rounds. A function that has the handle writes the closure over a `ThreadSettler`.
 #[derive(Drop)]
-pub struct SettleBy<F: Fn(Global, &Problem, &Barrier) -> Result<Vec<Bound>, SettleFault> + Drop> {
+pub struct ClosureSettler<
+    F: Fn(Global, &Problem, &Barrier) -> Result<Vec<Bound>, SettleFault> + Drop,
+> {
     rounds: u32,
     call: F,
 }
 
-impl<F: Fn(Global, &Problem, &Barrier) -> Result<Vec<Bound>, SettleFault> + Drop> SettleBy<F> {
-    pub fn new(rounds: u32, call: F) -> SettleBy<F>
+impl<F: Fn(Global, &Problem, &Barrier) -> Result<Vec<Bound>, SettleFault> + Drop> ClosureSettler<
+    F,
+> {
+    pub fn new(rounds: u32, call: F) -> ClosureSettler<F>
         ensures { (result.rounds ≡ rounds) × (result.call ≡ call) }
     {
-        SettleBy { rounds, call }
+        ClosureSettler { rounds, call }
     }
 }
 
 impl<F: Fn(Global, &Problem, &Barrier) -> Result<Vec<Bound>, SettleFault> + Drop> Settler
-    for SettleBy<F> {
+    for ClosureSettler<F> {
     ghost use Rattle.std.specs.Prelude.{List};
     ghost use Rattle.std.specs.Borrow.{Bor};
     ghost use Rattle.step_problem.specs.Entries.{Entries};

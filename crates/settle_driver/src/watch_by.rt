@@ -9,7 +9,7 @@ use step_problem::{Barrier, Bound, Problem, SettleFault, Settler};
 /// A settler by a closure, which is lent a viewer. It is ready where the closure may be called with every problem, barrier and viewer, settles them with
 /// `rounds` rounds, and shows the viewer `views` views in each phase. A function that has the handle writes the closure, as over a `WatchSettler`.
 #[derive(Drop)]
-pub struct WatchBy<
+pub struct WatchedClosureSettler<
     'a,
     V: Viewer,
     F: Fn(Global, &Problem, &Barrier, &mut V) -> Result<Vec<Bound>, SettleFault> + Drop,
@@ -24,13 +24,18 @@ impl<
     'a,
     V: Viewer,
     F: Fn(Global, &Problem, &Barrier, &mut V) -> Result<Vec<Bound>, SettleFault> + Drop,
-> WatchBy<'a, V, F> {
-    pub fn new(rounds: u32, views: u32, viewer: &'a mut V, call: F) -> WatchBy<'a, V, F>
+> WatchedClosureSettler<'a, V, F> {
+    pub fn new(
+        rounds: u32,
+        views: u32,
+        viewer: &'a mut V,
+        call: F,
+    ) -> WatchedClosureSettler<'a, V, F>
         ensures numbers { (result.rounds ≡ rounds) × (result.views ≡ views) }
         ensures call { result.call ≡ call }
         ensures viewer { (result.viewer.ghost_name ≡ viewer.entry.ghost_name) × (result.viewer.now ≡ viewer.entry.now) }
     {
-        WatchBy {
+        WatchedClosureSettler {
             rounds,
             views,
             viewer,
@@ -43,7 +48,7 @@ impl<
     'a,
     V: Viewer,
     F: Fn(Global, &Problem, &Barrier, &mut V) -> Result<Vec<Bound>, SettleFault> + Drop,
-> Settler for WatchBy<'a, V, F> {
+> Settler for WatchedClosureSettler<'a, V, F> {
     ghost use Rattle.std.specs.Prelude.{List};
     ghost use Rattle.std.specs.Borrow.{Bor, MutBor};
     ghost use Rattle.step_problem.specs.Entries.{Entries};

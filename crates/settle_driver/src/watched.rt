@@ -7,7 +7,7 @@ ghost use Rattle.head_table.specs.{IsSeatOf, barrier_of, seen_of};
 ghost use Rattle.settle_driver.specs.Views.{HasWorked, IsPlan, IsPastCell, AddsPhases, AddsTurns, ArePastBarrier, had_memory};
 
 use crate::open::{first_open, words_or_open};
-use crate::phases::{Plan, deal, gather, turns_of_each, work_at};
+use crate::phases::{Plan, join_seats, split_seats, turns_of_each, work_at};
 use crate::viewer::Viewer;
 use crate::watching::watch_turns;
 use head_table::{HeadSeat, HeadTable, edge_words};
@@ -139,9 +139,9 @@ impl<'a, R: Threads + Sync, G: Gate + Sync> WatchSettler<'a, R, G> {
     {
         p.recall_conditions();
         let (table, mut seat) = HeadTable::new(alloc, p, b, words)?;
-        let seats = deal(alloc, &table, &mut seat, self.plan.workers as usize)?;
+        let seats = split_seats(alloc, &table, &mut seat, self.plan.workers as usize)?;
         let seats = self.seats_after_turns(&table, &mut seat, seats, p, b, words, viewer)?;
-        gather(&table, &mut seat, seats);
+        join_seats(&table, &mut seat, seats);
         table.close(seat)
     }
 

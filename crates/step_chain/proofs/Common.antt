@@ -5,8 +5,8 @@ pub use Rattle.std.proofs.lemmas.Bool.{and_parts, cases_Bool, cases_order, false
 pub use Rattle.std.proofs.lemmas.Int.{clamps, ints}
 pub use Rattle.std.specs.Prelude.{Err, IfOk, Ok, Result, not, ◌&&◌}
 pub use Rattle.barrier_vector.proofs.Outlining.{clamped_at, clamped_fits}
-pub use Rattle.barrier_vector.specs.{BarrierExcludesRefusal, CutBarrierExcludesRefusal, CutBarrierIsOne, CutRefusalIsOne, EnclosesUncut, IsCeiling}
-pub use Rattle.barrier_vector.specs.{IsCutBarrierOf, IsFloor, clamped}
+pub use Rattle.barrier_vector.specs.{BarrierExcludesRefusal, CutBarrierExcludesRefusal, CutBarrierIsOne, CutRefusalIsOne, EnclosesUncut, IsCellCeiling}
+pub use Rattle.barrier_vector.specs.{IsCellFloor, IsCutBarrierOf, clamped_edges}
 pub use Rattle.barrier_vector.specs.declared.BarrierFault.{BarrierFault}
 pub use Rattle.cell_balance.specs.{CellEncloses, EnclosesSolutions, EnclosesStep, ExactCell, IsHeldBelow, LiesBetween, SolvesStep, cell_at, no_cell}
 pub use Rattle.cell_relax.specs.{AreWords}

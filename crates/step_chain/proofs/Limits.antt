@@ -3,9 +3,9 @@ use Rattle.step_chain.proofs.Common.{ℕ, ◌<◌, List, length, ℤ, Edges, hea
 use Rattle.step_chain.proofs.Common.{EnclosesUncut, ClampedPairEncloses, SettledPairEncloses, LiesBetweenBy, Result, Ok, Err, IfOk, BarrierFault, IsBarrier}
 use Rattle.step_chain.proofs.Common.{IsSettledPair, ExactCell, EnclosesStep, SolvesStep, clamped_fits, inl, inr, arith, Bound, PairKind, IsPairOf}
 use Rattle.step_chain.proofs.Common.{IsCertificate, lower_at, upper_at, no_bound, ints, clamps, NoBound, AreInside, IsGiven, settled, certified}
-use Rattle.step_chain.proofs.Common.{either_certifies, given_is, clamped, clamped_at, IsRangeRefusal, IsNoCertificate, Bool, SettledPairExists, TimeStep}
+use Rattle.step_chain.proofs.Common.{either_certifies, given_is, clamped_edges, clamped_at, IsRangeRefusal, IsNoCertificate, Bool, SettledPairExists, TimeStep}
 use Rattle.step_chain.proofs.Common.{exact_step, variable_heads, Decks, EnclosesSteps, IsProblemFor, each_member, of_member, Solved, LieBetween, AreHeadsOf}
-use Rattle.step_chain.proofs.Common.{IsStepBy, EachMember, IsHeldBelow, IsFloor, IsCeiling, LeadsBy, LeadsOrRests, LeadsWithout}
+use Rattle.step_chain.proofs.Common.{IsStepBy, EachMember, IsHeldBelow, IsCellFloor, IsCellCeiling, LeadsBy, LeadsOrRests, LeadsWithout}
 use Rattle.barrier_vector.proofs.Floors.{encloses_all}
 use Rattle.barrier_vector.proofs.Cutting.{barrier_is_cut, cut_encloses, cut_holds}
 use Rattle.certificate_check.proofs.Cut.{excludes_refusal}
@@ -34,10 +34,10 @@ pair_lies settled_encloses clamped_encloses Wide p b l u fits h pair s e d X enc
 
 -- The barrier that is found by plain limits.
 module _ (p : List Entries) (fits : IsProblem p) where
-  plain_barrier : (b : Edges) → IsBarrier p b → ((c : ℕ) → c < length p → IsFloor p c (head_at b.floor c)) → ((c : ℕ) → c < length p → IsCeiling p c (head_at b.ceiling c)) → IsBarrierBy Plain p b
+  plain_barrier : (b : Edges) → IsBarrier p b → ((c : ℕ) → c < length p → IsCellFloor p c (head_at b.floor c)) → ((c : ℕ) → c < length p → IsCellCeiling p c (head_at b.ceiling c)) → IsBarrierBy Plain p b
   plain_barrier b fit floors ceilings = record { fits = fit; floors = floors; ceilings = ceilings }
 
-  pub plain_found : (r : Result Edges BarrierFault) → IfOk r (IsBarrier p) → IfOk r (λ b. (c : ℕ) → c < length p → IsFloor p c (head_at b.floor c)) → IfOk r (λ b. (c : ℕ) → c < length p → IsCeiling p c (head_at b.ceiling c)) →
+  pub plain_found : (r : Result Edges BarrierFault) → IfOk r (IsBarrier p) → IfOk r (λ b. (c : ℕ) → c < length p → IsCellFloor p c (head_at b.floor c)) → IfOk r (λ b. (c : ℕ) → c < length p → IsCellCeiling p c (head_at b.ceiling c)) →
       IfOk r (IsBarrierBy Plain p)
   plain_found (Ok b) fit floors ceilings = plain_barrier b fit floors ceilings
   plain_found (Err e) fit floors ceilings = tt
@@ -49,7 +49,7 @@ module _ (p : List Entries) (fits : IsProblem p) where
 -- A pair over the clamped barrier: it is a certificate over the cut barrier, or the settled pair is refused.
 module _ (p : List Entries) (b : Edges) (bounds : List Bound) where
   -- no head inside the range needs a bound that was cut
-  inside_certifies : AreInside p (clamped b) bounds → IsCertificate p b (lower_at bounds) (upper_at bounds)
+  inside_certifies : AreInside p (clamped_edges b) bounds → IsCertificate p b (lower_at bounds) (upper_at bounds)
   inside_certifies h = record {
     low = λ c lt. elim (h.certified.certificate.low c lt) [
       | inl edge ↦ inl (omega (arith, ints, clamps, clamped_at b.floor c, (h.inside c no_bound (in_range lt)).0))
@@ -64,18 +64,18 @@ module _ (p : List Entries) (b : Edges) (bounds : List Bound) where
       in_range : {c : ℕ} → c < length p → c < length bounds
       in_range lt = omega (arith, lt, h.certified.whole)
 
-  module _ (fits : IsProblem p) (of_p : IsCutBarrierOf p b) (kind : PairKind) (given : IsGiven p kind (clamped b) bounds) where
-    bars : IsBarrier p (clamped b)
+  module _ (fits : IsProblem p) (of_p : IsCutBarrierOf p b) (kind : PairKind) (given : IsGiven p kind (clamped_edges b) bounds) where
+    bars : IsBarrier p (clamped_edges b)
     bars = edges_fit Wide p b of_p
 
-    pub is_pair : IsPairOf p kind (clamped b) bounds
-    is_pair = given_is p (clamped b) fits bars kind bounds given
+    pub is_pair : IsPairOf p kind (clamped_edges b) bounds
+    is_pair = given_is p (clamped_edges b) fits bars kind bounds given
 
-    pub certifies_clamped : IsCertificate p (clamped b) (lower_at bounds) (upper_at bounds)
-    certifies_clamped = (either_certifies p (clamped b) fits bars kind bounds is_pair).certificate
+    pub certifies_clamped : IsCertificate p (clamped_edges b) (lower_at bounds) (upper_at bounds)
+    certifies_clamped = (either_certifies p (clamped_edges b) fits bars kind bounds is_pair).certificate
 
   -- a refusal has the settled pair as its cause
-  pub settled_refused : (kind : PairKind) → IsGiven p kind (clamped b) bounds → (n : NoBound) → IsRangeRefusal p b bounds n → IsNoCertificate Wide p b n
+  pub settled_refused : (kind : PairKind) → IsGiven p kind (clamped_edges b) bounds → (n : NoBound) → IsRangeRefusal p b bounds n → IsNoCertificate Wide p b n
   settled_refused settled given n refused = (bounds, given, refused)
   settled_refused certified (inl given) n refused = (bounds, given, refused)
   settled_refused certified (inr inside) n refused = absurd (excludes_refusal p b bounds n (inside_certifies inside) refused)

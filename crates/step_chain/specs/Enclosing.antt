@@ -13,7 +13,7 @@ use Rattle.flow_equations.specs.{exact_step, SolvesAt, variable_heads}
 use Rattle.problem_builder.specs.{IsActive, HeadsEnclose}
 use Rattle.step_chain.specs.declared.solved.Solved.{Solved}
 use Rattle.step_problem.specs.declared.place.NoBound.{NoBound}
-use Rattle.barrier_vector.specs.{IsBarrierOf, IsRefused, IsCutBarrierOf, IsUnbounded, clamped}
+use Rattle.barrier_vector.specs.{IsBarrierOf, IsRefused, IsCutBarrierOf, IsUnbounded, clamped_edges}
 use Rattle.barrier_vector.specs.declared.BarrierFault.{BarrierFault}
 use Rattle.barrier_vector.specs.declared.BarrierFault.TheVariants.{NoBound as IsNoBound, Memory}
 use Rattle.deck_problems.specs.declared.decks.Decks.{Decks}
@@ -70,7 +70,7 @@ HasNoBarrier Wide = IsUnbounded
 -- the floors and ceilings that settling begins at; what was cut begins at the end of the range of heads
 abbrev pub edges_by : Limits → Edges → Edges
 edges_by Plain b = b
-edges_by Wide b = clamped b
+edges_by Wide b = clamped_edges b
 
 -- a fault is that refusal, or lack of memory
 abbrev pub IsBarrierFault : Limits → List Entries → BarrierFault → Type 0

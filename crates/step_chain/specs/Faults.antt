@@ -6,7 +6,7 @@ use Rattle.step_problem.specs.declared.heads.SettleFault.TheVariants as settle
 use Rattle.step_problem.specs.declared.place.NoBound.{NoBound}
 use Rattle.step_problem.specs.Entries.{Entries}
 use Rattle.step_problem.specs.{Edges, OpenHeads, AreSettled, IsUnfinished}
-use Rattle.barrier_vector.specs.{clamped}
+use Rattle.barrier_vector.specs.{clamped_edges}
 use Rattle.barrier_vector.specs.declared.BarrierFault.{BarrierFault}
 use Rattle.barrier_vector.specs.declared.BarrierFault.TheVariants as barrier
 use Rattle.certificate_check.specs.{IsRangeRefusal}
@@ -31,7 +31,7 @@ pub record IsOpenStep (limits : Limits) (d : Decks) (s : ℕ) (at : TimeStep) (o
 -- with wide limits, the settled pair of a problem is no certificate over its barrier b
 abbrev pub IsNoCertificate : Limits → List Entries → Edges → NoBound → Type 0
 IsNoCertificate Plain p b n = ⊥
-IsNoCertificate Wide p b n = (bounds : List Bound) × AreSettled p (clamped b) bounds × IsRangeRefusal p b bounds n
+IsNoCertificate Wide p b n = (bounds : List Bound) × AreSettled p (clamped_edges b) bounds × IsRangeRefusal p b bounds n
 
 -- why the settling of a problem over its barrier b gives no pair
 abbrev pub SettlesNot : Limits → List Entries → Edges → ℕ → StepFault → Type 0

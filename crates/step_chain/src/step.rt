@@ -2,8 +2,7 @@
 ghost use Rattle.std.specs.Prelude.{◌≡◌, ◌≤◌, ℕ, Contains, IfOk, IfErr, MatchResult, true};
 ghost use Rattle.cell_relax.specs.{AreWords};
 ghost use Rattle.model_types.specs.{times, HasSize};
-ghost use Rattle.problem_builder.specs.{AreGridHeads, IsActive, ArePeriodTables, bound_at};
-ghost use Rattle.problem_builder.specs.GridHeads.{IsNamed};
+ghost use Rattle.problem_builder.specs.{AreGridHeads, IsActive, ArePeriodTables, bound_at, IsCellNamed};
 ghost use Rattle.deck_problems.specs.{AreDecks, EachMember, AreDeckTables, digits_of, AreConstantHeadsFor};
 ghost use Rattle.step_chain.specs.{IsStepBy, AreHeadsOf, FailsBy, LeadsBy, LeadsOrRests, EnclosesMoves};
 
@@ -13,7 +12,7 @@ use certificate_check::laws::{clamped_pair_encloses, settled_pair_encloses};
 use deck_problems::{DeckTables, Decks, problem_for};
 use model_types::{Kind, Limits, Listed, TimeStep};
 use problem_builder::PeriodTables;
-use problem_builder::start::NO_BOUND;
+use problem_builder::start::NO_HEADS;
 use std::alloc::Global;
 use step_problem::laws::settled_pair;
 use step_problem::{Bound, Settler};
@@ -45,7 +44,7 @@ pub fn next_step_with<S: Settler>(
     // What `budget` and the flows between zones require.
     ensures words { IfOk result (λ r. AreWords r.problem r.bounds) }
     ensures heads { IfOk result (λ r. AreGridHeads decks.now.first r.heads) }
-    ensures named { IfOk result (λ r. (c : ℕ) → IsNamed r.problem c → IsActive decks.now.first c) }
+    ensures named { IfOk result (λ r. (c : ℕ) → IsCellNamed r.problem c → IsActive decks.now.first c) }
     // From all exact heads within the old ones, every solution of the exact step of each member lies within the new ones.
     ensures encloses { IfOk result (λ x. EachMember decks.now (λ m. EnclosesMoves m (digits_of tables.old.first) at old.now x)) }
     // Whatever the settler did, every solution of the step of each member lies between the settled pair of the problem that it was given.
@@ -98,7 +97,7 @@ pub fn next_step<S: Settler>(
     ensures fault { IfErr result (FailsBy limits decks.now s at old.now (S.rounds settler.old)) }
     ensures words { IfOk result (λ r. AreWords r.problem r.bounds) }
     ensures heads { IfOk result (λ r. AreGridHeads decks.now.first r.heads) }
-    ensures named { IfOk result (λ r. (c : ℕ) → IsNamed r.problem c → IsActive decks.now.first c) }
+    ensures named { IfOk result (λ r. (c : ℕ) → IsCellNamed r.problem c → IsActive decks.now.first c) }
     ensures encloses { IfOk result (λ x. EachMember decks.now (λ m. EnclosesMoves m s at old.now x)) }
     ensures leads { MatchResult result
         (λ r. LeadsBy S.leads limits decks.now at old.now r.problem true settler.old settler.new)
@@ -116,7 +115,7 @@ fn bound_at(bounds: &[Bound], index: u32) -> Bound
 {
     match bounds.get(index as usize) {
         Some(bound) => *bound,
-        None => NO_BOUND,
+        None => NO_HEADS,
     }
 }
 

@@ -8,8 +8,8 @@ pub use Rattle.std.specs.List.{range_with_len}
 pub use Rattle.std.specs.Prelude.{Err, Ok, Result, not, ◌&&◌}
 pub use Rattle.barrier_vector.proofs.Decided.{Decided, IsFirstBelow, first_or_none, path}
 pub use Rattle.barrier_vector.specs.{AnchorRoot, AreCutBounds, HasNoBound, IsAnchoredBound, IsBoundOn, IsCutBoundOn, IsLeastWith, IsOutOfRange, IsPath}
-pub use Rattle.barrier_vector.specs.{IsRefusedOn, IsUnanchored, IsWholeSide, Names, Nowhere, Refuses, RefusesOn, anchor_on, base_on, ceil_over, clamped, cut_on}
-pub use Rattle.barrier_vector.specs.{moved_out, need, no_barrier_on, range_on}
+pub use Rattle.barrier_vector.specs.{IsRefusedOn, IsUnanchored, IsWholeSide, Names, Nowhere, Refuses, RefusesOn, anchor_on, base_on, ceil_over, clamped_edges}
+pub use Rattle.barrier_vector.specs.{cut_on, moved_out, need, no_barrier_on, range_on}
 pub use Rattle.deck_problems.specs.{IsBefore, one_deck}
 pub use Rattle.model_types.specs.{IsModel, cell_count, index_of, is_active, is_variable, times}
 pub use Rattle.model_types.specs.declared.model.FlowModel.{FlowModel}

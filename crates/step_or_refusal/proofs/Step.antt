@@ -1,9 +1,9 @@
 -- A time of a valid model, from heads of all its cells, has a settled step or a refusal.
 use Rattle.step_or_refusal.proofs.Common.{inl, inr, ℕ, ℤ, List, pos, arith, ◌≤ℤ◌, ◌<ℤ◌, ◌⊎◌, ProblemFits, StepOrRefusal, IsConstantPair, Bound, Edges, lower_at}
 use Rattle.step_or_refusal.proofs.Common.{upper_at, head_at, FlowModel, TimeStep, one_deck, IsBefore, NoBound, Entries, entries_at, IsCertificate, Solved}
-use Rattle.step_or_refusal.proofs.Common.{HasNoHeads, IsSettledStep, edges_fit, BarrierOrRefusal, CutBarrierOrRefusal, by_lt_z, ints, Side, Low, High, clamped}
-use Rattle.step_or_refusal.proofs.Common.{range_on, SettledPairExists, lower_balance, upper_balance, Decided, ◌≡◌, refl, problem_of, constant_bound, Result, Ok}
-use Rattle.step_or_refusal.proofs.Common.{Err}
+use Rattle.step_or_refusal.proofs.Common.{HasNoHeads, IsSettledStep, edges_fit, BarrierOrRefusal, CutBarrierOrRefusal, by_lt_z, ints, Side, Low, High}
+use Rattle.step_or_refusal.proofs.Common.{clamped_edges, range_on, SettledPairExists, lower_balance, upper_balance, Decided, ◌≡◌, refl, problem_of}
+use Rattle.step_or_refusal.proofs.Common.{constant_bound, Result, Ok, Err}
 use Rattle.step_or_refusal.proofs.Settled.{settled_list, heads_list}
 use Rattle.step_problem.proofs.BothSettle.{pair_certifies}
 use Rattle.model_types.specs.declared.limits.Limits.TheVariants.{Plain, Wide}
@@ -57,8 +57,8 @@ wide_step fits barrier settled m s at old before =
           elim (barrier p ok) [
             | inr (n, refused) ↦ inr (n, inl (inr (p, is, refused)))
             | inl (b, b_is) ↦
-                let (l, u, pair) = settled p (clamped b) ok (edges_fit Wide p b b_is) in
-                let (bounds, are) = settled_list p (clamped b) l u ok pair in
+                let (l, u, pair) = settled p (clamped_edges b) ok (edges_fit Wide p b b_is) in
+                let (bounds, are) = settled_list p (clamped_edges b) l u ok pair in
                 elim (certificate_or_refusal p b bounds) [
                   | inr (n, refused) ↦ inr (n, inr (record { problem = p; barrier = b; posed = record { problem = is; barrier = b_is }; bounds = bounds; pair = are; refused = refused }))
                   | inl certificate ↦

@@ -10,11 +10,11 @@ pub use Rattle.std.proofs.lemmas.List.Elements.{All-head, All-tail, All-weaker}
 pub use Rattle.std.specs.Int.{int_max, int_min, w128, w64}
 pub use Rattle.std.specs.Prelude.{All, Err, Ok, Result}
 pub use Rattle.step_problem.specs.{AreCertified, AreHeads, AreSeen, AreSettled, AsTight, CanRise, CanSink, Edges, FallsInOwnHead, Ge, Gives, IsBarrier}
-pub use Rattle.step_problem.specs.{IsCertified, IsExchange, IsFirstSettled, IsGiven, IsHead, IsNoTighterThanSettled, IsOnTheWay, IsPairOf, IsPast, IsProblem}
-pub use Rattle.step_problem.specs.{IsRelaxed, IsRound, IsSettled, IsWithin, KeepsOrder, LeavingSettles, LinksFit, LowerShifts, PairKind, RisesInOtherHeads}
-pub use Rattle.step_problem.specs.{RiverFits, Rounds, RoundsSettle, SettledPairCertifies, SettledPairExists, SettledPairIsOne, UpperShifts, balance, bound_on}
-pub use Rattle.step_problem.specs.{branch_flow, certified, deep_river, drain_flow, ends_in, entries_at, evap_flow, fixed_flow, flow_bound, head_at, head_limit}
-pub use Rattle.step_problem.specs.{least, link_at, link_flow, lower_at, most, no_entries, no_link, river_flow, settled, total, upper_at}
+pub use Rattle.step_problem.specs.{IsCertified, IsExchange, IsFirstSettled, IsGiven, IsHead, IsMagnitudeAtMost, IsNoTighterThanSettled, IsOnTheWay, IsPairOf}
+pub use Rattle.step_problem.specs.{IsPast, IsProblem, IsRelaxed, IsRound, IsSettled, KeepsOrder, LeavingSettles, LinksFit, LowerShifts, PairKind}
+pub use Rattle.step_problem.specs.{RisesInOtherHeads, RiverFits, Rounds, RoundsSettle, SettledPairCertifies, SettledPairExists, SettledPairIsOne, UpperShifts}
+pub use Rattle.step_problem.specs.{balance, bound_on, branch_flow, certified, deep_river, drain_flow, ends_in, entries_at, evap_flow, fixed_flow, flow_bound}
+pub use Rattle.step_problem.specs.{head_at, head_limit, least, link_at, link_flow, lower_at, most, no_entries, no_link, river_flow, settled, total, upper_at}
 pub use Rattle.step_problem.specs.Entries.{Entries}
 pub use Rattle.step_problem.specs.declared.entry.Link.{Link}
 pub use Rattle.step_problem.specs.declared.heads.Side.{Side}

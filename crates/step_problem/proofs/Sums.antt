@@ -1,19 +1,19 @@
 -- Sums of flows: how far each lies from zero, and one step of a loop that makes them.
 use Rattle.step_problem.proofs.Common.{◌≡◌, refl, ℕ, suc, ◌+◌, ◌*◌, ◌^◌, ◌<◌, ◌≤◌, ap, arith, ℤ, pos, negsuc, ◌+ℤ◌, ◌-ℤ◌, ◌*ℤ◌, List, length, get_or, min, take}
 use Rattle.step_problem.proofs.Common.{drop, sum_by, FitsSigned, w128, at_drop_more, get_or-map, mul-le-mul, mul-le-mul_right, ints, clamps, Link, ends_in}
-use Rattle.step_problem.proofs.Common.{neg_ℤ, int_max, link_at, branch_flow, link_flow, river_flow, deep_river, head_limit, total, IsWithin, RiverFits, Side}
-use Rattle.step_problem.proofs.Common.{Low, High}
+use Rattle.step_problem.proofs.Common.{neg_ℤ, int_max, link_at, branch_flow, link_flow, river_flow, deep_river, head_limit, total, IsMagnitudeAtMost, RiverFits}
+use Rattle.step_problem.proofs.Common.{Side, Low, High}
 use Rattle.step_problem.specs.declared.entry.River.{River}
 use Rattle.std.proofs.lemmas.List.Sums.{sum_by_more, sum_by-take-le}
 
-pub IsWithin-add : (a b : ℤ) (m n k : ℕ) → IsWithin a m → IsWithin b n → m + n ≤ k → IsWithin (a +ℤ b) k
+pub IsWithin-add : (a b : ℤ) (m n k : ℕ) → IsMagnitudeAtMost a m → IsMagnitudeAtMost b n → m + n ≤ k → IsMagnitudeAtMost (a +ℤ b) k
 IsWithin-add a b m n k p q r = record { above = omega (arith, ints); below = omega (arith, ints) }
 
-pub IsWithin-product : (c top m : ℕ) (d : ℤ) → c ≤ top → IsWithin d m → IsWithin (pos c *ℤ d) (top * m)
+pub IsWithin-product : (c top m : ℕ) (d : ℤ) → c ≤ top → IsMagnitudeAtMost d m → IsMagnitudeAtMost (pos c *ℤ d) (top * m)
 IsWithin-product c top m (pos n) o w = let le : n ≤ m = omega (arith, ints) in let h : c * n ≤ top * m = mul-le-mul o le in record { above = omega (arith, ints); below = omega (arith, ints) }
 IsWithin-product c top m (negsuc n) o w = let le : suc n ≤ m = omega (arith, ints) in let h : c * suc n ≤ top * m = mul-le-mul o le in record { above = omega (arith, ints); below = omega (arith, ints) }
 
-pub FitsSigned-within : (z : ℤ) (b : ℕ) → IsWithin z b → b < 2 ^ 127 → FitsSigned w128 z
+pub FitsSigned-within : (z : ℤ) (b : ℕ) → IsMagnitudeAtMost z b → b < 2 ^ 127 → FitsSigned w128 z
 FitsSigned-within z b w h = omega (arith, ints)
 
 -- one more term goes from the rest into the sum so far
@@ -21,11 +21,11 @@ pub total_step : {X : Type 0} (f : X → ℤ) (xs : List X) (i : ℕ) (d x : X) 
 total_step f xs i d x s t whole h is e r = let more : total f (drop i xs) ≡ f (get_or xs i d) +ℤ total f (drop (i + 1) xs) = at_drop_more (total f) xs i d h in omega (arith, ints, more, e, r, ap f is)
 
 -- the sum of one more term stays within the weights so far
-pub within_step : {X : Type 0} (g : X → ℕ) (xs : List X) (i m : ℕ) (d x : X) (s t : ℤ) → i < length xs → x ≡ get_or xs i d → IsWithin s (sum_by g (take i xs) * m) → IsWithin t (g x * m) → IsWithin (s +ℤ t) (sum_by g (take (i + 1) xs) * m)
+pub within_step : {X : Type 0} (g : X → ℕ) (xs : List X) (i m : ℕ) (d x : X) (s t : ℤ) → i < length xs → x ≡ get_or xs i d → IsMagnitudeAtMost s (sum_by g (take i xs) * m) → IsMagnitudeAtMost t (g x * m) → IsMagnitudeAtMost (s +ℤ t) (sum_by g (take (i + 1) xs) * m)
 within_step g xs i m d x s t h is p q = let same : g x * m ≡ g (get_or xs i d) * m = ap (λ y. g y * m) is in rw (sum_by_more g xs i d h) (IsWithin-add s t _ _ _ p q (omega (arith, same)))
 
 -- a sum over part of a list stays below what the weights of the whole list allow
-pub FitsSigned-part : {X : Type 0} (g : X → ℕ) (xs : List X) (i m : ℕ) (z : ℤ) → sum_by g xs * m < 2 ^ 123 → IsWithin z (sum_by g (take i xs) * m) → FitsSigned w128 z
+pub FitsSigned-part : {X : Type 0} (g : X → ℕ) (xs : List X) (i m : ℕ) (z : ℤ) → sum_by g xs * m < 2 ^ 123 → IsMagnitudeAtMost z (sum_by g (take i xs) * m) → FitsSigned w128 z
 FitsSigned-part g xs i m z h w = let le : sum_by g (take i xs) * m ≤ sum_by g xs * m = mul-le-mul_right m (sum_by-take-le g xs i) in FitsSigned-within z (sum_by g (take i xs) * m) w (omega (arith, le, h))
 
 -- the flow over a link, with the head that is listed for its other end

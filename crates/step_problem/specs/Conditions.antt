@@ -11,7 +11,7 @@ use Rattle.step_problem.specs.declared.heads.Side.TheVariants.{Low, High}
 use Rattle.step_problem.specs.Balances.{bound_on, branch_flow}
 
 -- z lies from -b to b
-pub record IsWithin (z : ℤ) (b : ℕ) : Type 0 where
+pub record IsMagnitudeAtMost (z : ℤ) (b : ℕ) : Type 0 where
   pub above : neg_ℤ (pos b) ≤ℤ z
   pub below : z ≤ℤ pos b
 
@@ -20,7 +20,7 @@ abbrev pub head_limit : ℕ
 head_limit = 4000000000000000000
 
 abbrev pub IsHead : ℤ → Type 0
-IsHead v = IsWithin v head_limit
+IsHead v = IsMagnitudeAtMost v head_limit
 
 -- the bounds of a conductance are in order, and heads are in range
 pub record LinkFits (x : Link) : Type 0 where
@@ -71,8 +71,8 @@ abbrev pub full_rate : Evap → ℕ
 full_rate x = x.hi * unsigned_abs (x.surf_hi -ℤ x.ext_lo)
 
 -- the sum of the magnitudes of a cell's constant and deep flows
-abbrev pub flow_of : Entries → ℕ
-flow_of c =
+abbrev pub flow_magnitude : Entries → ℕ
+flow_magnitude c =
     sum_by (λ x. magnitude x.lo x.hi) c.flows + sum_by (λ x. magnitude (deep_river Low x) (deep_river High x)) c.rivers
     + sum_by full_rate c.evaps
 
@@ -84,7 +84,7 @@ pub record CellFits (c : Entries) : Type 0 where
   pub drains : All DrainFits c.drains
   pub evaps : All EvapFits c.evaps
   pub conductances : conductance_of c < 2 ^ 60
-  pub flows : flow_of c < 2 ^ 109
+  pub flows : flow_magnitude c < 2 ^ 109
 
 -- the links of cell c: at most six, to different other cells of the problem, each with an equal one back
 pub record LinksFit (p : List Entries) (c : ℕ) (links : List Link) : Type 0 where

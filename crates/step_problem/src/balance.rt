@@ -1,6 +1,6 @@
 // The two balances of a cell.
 ghost use Rattle.std.specs.Prelude.{◌≡◌, ◌<◌, ◌^◌, ℕ, ℤ, ◌+ℤ◌, All, length};
-ghost use Rattle.step_problem.specs.{entries_at, ends_in, lower_balance, upper_balance, balance, IsHead, IsWithin, CellFits};
+ghost use Rattle.step_problem.specs.{entries_at, ends_in, lower_balance, upper_balance, balance, IsHead, IsMagnitudeAtMost, CellFits};
 
 pub mod branch;
 mod sums;
@@ -53,11 +53,11 @@ fn balance_at(side: Side, cell: &Cell, own: i64, values: &[i64]) -> i128
 
 /// The sum of three flows.
 pub fn sum_of(first: i128, second: i128, third: i128) -> i128
-    requires first { IsWithin first (2 ^ 123) }
-    requires second { IsWithin second (2 ^ 123) }
-    requires third { IsWithin third (2 ^ 123) }
+    requires first { IsMagnitudeAtMost first (2 ^ 123) }
+    requires second { IsMagnitudeAtMost second (2 ^ 123) }
+    requires third { IsMagnitudeAtMost third (2 ^ 123) }
     ensures value { result ≡ first +ℤ second +ℤ third }
-    ensures within { IsWithin result (2 ^ 125) }
+    ensures within { IsMagnitudeAtMost result (2 ^ 125) }
 {
     let two = first + second;
     two + third

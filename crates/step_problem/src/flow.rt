@@ -1,6 +1,6 @@
 // The flow over a conductance that is known by two bounds.
 ghost use Rattle.std.specs.Prelude.{◌≡◌, ◌≤◌, ◌*◌, ◌^◌};
-ghost use Rattle.step_problem.specs.{branch_flow, IsWithin};
+ghost use Rattle.step_problem.specs.{branch_flow, IsMagnitudeAtMost};
 
 use crate::heads::Side;
 
@@ -8,7 +8,7 @@ use crate::heads::Side;
 pub fn branch_flow(side: Side, lo: u64, hi: u64, difference: i64) -> i128
     requires { lo ≤ hi }
     ensures value { result ≡ branch_flow side lo hi difference }
-    ensures within { IsWithin result (hi * 2 ^ 63) }
+    ensures within { IsMagnitudeAtMost result (hi * 2 ^ 63) }
 {
     let conductance = if difference >= 0 {
         side.bound_of(lo, hi)

@@ -1,6 +1,6 @@
 -- One view more, as a put more.
 use Rattle.view_puts.proofs.Common.{◌≡◌, ℕ, ◌+◌, refl, sym, ap, ◌∙◌, subst, arith, false, List, [], ◌∷◌, ◌++◌, length, map, Result, Ok, Err, Option, Some, None}
-use Rattle.view_puts.proofs.Common.{is_some, IfOk, Put, taken, refused}
+use Rattle.view_puts.proofs.Common.{is_some, IfOk, Put, whole_put, failed_put}
 use Rattle.std.specs.Result.{result_err}
 use Rattle.std.proofs.lemmas.List.{append-nil, append_assoc}
 use Rattle.std.specs.declared.vec.Vec.{Vec}
@@ -11,8 +11,8 @@ use Rattle.view_puts.specs.{IsPutOf, IsStopPut, AreAllShown, LeadOn, ViewPuts}
 
 -- the put of a text, by its result
 put_of : (E : Type 0) (text : Vec ℕ Global) (r : Result (Unit {0}) SinkError) (piece : List ℕ) → piece ≡ text.items → IsPutOf {E = E} (Ok text) (result_err r) (record { piece = piece; answer = r } ∷ [])
-put_of E text (Ok done) piece same = ap (λ (x : List ℕ). taken x ∷ []) same
-put_of E text (Err e) piece same = ap (λ (x : List ℕ). refused x e ∷ []) same
+put_of E text (Ok done) piece same = ap (λ (x : List ℕ). whole_put x ∷ []) same
+put_of E text (Err e) piece same = ap (λ (x : List ℕ). failed_put x e ∷ []) same
 
 pub is_put_of : (E : Type 0) (t : Result (Vec ℕ Global) E) (text : Vec ℕ Global) (r : Result (Unit {0}) SinkError) (o : Option SinkError) (piece : List ℕ) → t ≡ Ok text → o ≡ result_err r → piece ≡ text.items → IsPutOf {E = E} t o (record { piece = piece; answer = r } ∷ [])
 is_put_of E t text r o piece is same items =
@@ -26,15 +26,15 @@ lead_more leads a b c puts more h k = λ start before x. subst (λ (ps : List Pu
 
 module _ (text : List Bound → List ℕ) (Shown : List Bound → Type 0) where
   abbrev pieces : List (List Bound) → List Put
-  pieces views = map (λ heads. taken (text heads)) views
+  pieces views = map (λ heads. whole_put (text heads)) views
 
   all_shown_more : (views : List (List Bound)) (heads : List Bound) → AreAllShown text Shown views → Shown heads → AreAllShown text Shown (views ++ heads ∷ [])
   all_shown_more [] heads h k = (k, tt)
   all_shown_more (v ∷ views) heads h k = (h.0, all_shown_more views heads h.1 k)
 
-  pieces_more : (views : List (List Bound)) (heads : List Bound) → pieces (views ++ heads ∷ []) ≡ pieces views ++ taken (text heads) ∷ []
+  pieces_more : (views : List (List Bound)) (heads : List Bound) → pieces (views ++ heads ∷ []) ≡ pieces views ++ whole_put (text heads) ∷ []
   pieces_more [] heads = refl
-  pieces_more (v ∷ views) heads = ap (λ (ps : List Put). taken (text v) ∷ ps) (pieces_more views heads)
+  pieces_more (v ∷ views) heads = ap (λ (ps : List Put). whole_put (text v) ∷ ps) (pieces_more views heads)
 
   count_more : (views : List (List Bound)) (heads : List Bound) → length (views ++ heads ∷ []) ≡ length views + 1
   count_more [] heads = refl
@@ -46,15 +46,15 @@ module _ (text : List Bound → List ℕ) (Shown : List Bound → Type 0) where
   no_stop_put (Some d) puts h = absurd h
 
   module _ {E : Type 0} (leads leads' : List Put → Type 0) (t : Result (Vec ℕ Global) E) (heads : List Bound) (shown : Shown heads) (is_text : IfOk t (λ v. v.items ≡ text heads)) where
-    taken_put : (r : Result (Vec ℕ Global) E) (puts : List Put) → IfOk r (λ v. v.items ≡ text heads) → IsPutOf r None puts → puts ≡ taken (text heads) ∷ []
-    taken_put (Ok v) puts same h = h ∙ ap (λ (x : List ℕ). taken x ∷ []) same
+    taken_put : (r : Result (Vec ℕ Global) E) (puts : List Put) → IfOk r (λ v. v.items ≡ text heads) → IsPutOf r None puts → puts ≡ whole_put (text heads) ∷ []
+    taken_put (Ok v) puts same h = h ∙ ap (λ (x : List ℕ). whole_put x ∷ []) same
     taken_put (Err x) puts same h = absurd h
 
     one_taken : (n : ℕ) (before : Option SinkError) → ((more : List Put) × IsPutOf t None more × ((puts : List Put) → leads puts → leads' (puts ++ more))) → ViewPuts text Shown leads n before None → ViewPuts text Shown leads' (n + 1) before None
     one_taken n before put s =
         let r = put in
         let none : s.last ≡ [] = no_stop_put before s.last s.stop in
-        let one : r.0 ≡ taken (text heads) ∷ [] = taken_put t r.0 is_text r.1 in
+        let one : r.0 ≡ whole_put (text heads) ∷ [] = taken_put t r.0 is_text r.1 in
         let front : pieces s.views ++ s.last ≡ pieces s.views = ap (λ (ps : List Put). pieces s.views ++ ps) none ∙ append-nil (pieces s.views) in
         let all : (pieces s.views ++ s.last) ++ r.0 ≡ pieces (s.views ++ heads ∷ []) ++ [] = ap (λ (ps : List Put). ps ++ r.0) front ∙ ap (λ (ps : List Put). pieces s.views ++ ps) one ∙ sym (pieces_more s.views heads) ∙ sym (append-nil (pieces (s.views ++ heads ∷ []))) in
         record {

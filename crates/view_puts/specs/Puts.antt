@@ -4,15 +4,15 @@ use Rattle.std.proofs.Common.{subst, sym}
 use Rattle.std.proofs.lemmas.List.{append-nil}
 use Rattle.std.specs.declared.vec.Vec.{Vec}
 use Rattle.std.specs.declared.alloc.Global.{Global}
-use Rattle.outside.specs.{Put, taken, refused}
+use Rattle.outside.specs.{Put, whole_put, failed_put}
 use Rattle.outside.specs.declared.traits.SinkError.{SinkError}
 use Rattle.outside.specs.declared.traits.SinkError.TheVariants as error
 use Rattle.step_problem.specs.declared.heads.Bound.{Bound}
 
 -- the puts of a text: it was taken, or viewing stops since it was refused, or since there was no memory for it
 abbrev pub IsPutOf : {E : Type 0} → Result (Vec ℕ Global) E → Option SinkError → List Put → Type 0
-IsPutOf (Ok text) None puts = puts ≡ taken text.items ∷ []
-IsPutOf (Ok text) (Some e) puts = puts ≡ refused text.items e ∷ []
+IsPutOf (Ok text) None puts = puts ≡ whole_put text.items ∷ []
+IsPutOf (Ok text) (Some e) puts = puts ≡ failed_put text.items e ∷ []
 IsPutOf (Err x) None puts = ⊥
 IsPutOf (Err x) (Some e) puts = (e ≡ error.Memory) × (puts ≡ [])
 
@@ -25,7 +25,7 @@ module _ (text : List Bound → List ℕ) (Shown : List Bound → Type 0) where
   -- what follows the taken pieces: nothing, or where viewing stopped meanwhile the refused one, or none where memory ran out
   abbrev pub IsStopPut : Option SinkError → Option SinkError → List Put → Type 0
   IsStopPut None None puts = puts ≡ []
-  IsStopPut None (Some e) puts = ((e ≡ error.Memory) × (puts ≡ [])) ⊎ ((heads : List Bound) × Shown heads × (puts ≡ refused (text heads) e ∷ []))
+  IsStopPut None (Some e) puts = ((e ≡ error.Memory) × (puts ≡ [])) ⊎ ((heads : List Bound) × Shown heads × (puts ≡ failed_put (text heads) e ∷ []))
   IsStopPut (Some d) None puts = ⊥
   IsStopPut (Some d) (Some e) puts = (e ≡ d) × (puts ≡ [])
 
@@ -40,7 +40,7 @@ module _ (text : List Bound → List ℕ) (Shown : List Bound → Type 0) where
     pub shown : AreAllShown views
     pub last : List Put
     pub stop : IsStopPut before after last
-    pub led : leads (map (λ heads. taken (text heads)) views ++ last)
+    pub led : leads (map (λ heads. whole_put (text heads)) views ++ last)
 
   -- no view puts nothing
   no_stop : (stop : Option SinkError) → IsStopPut stop stop []

@@ -1,6 +1,6 @@
 -- The bounds of the flows between zones enclose the exact ones.
 use Rattle.zone_flows.proofs.Common.{◌≡◌, ℕ, zero, suc, ◌+◌, ◌<◌, Bool, true, false, refl, ap, ◌∙◌, subst, List, [], ◌∷◌, ◌++◌, length, map, get_or, All, ℤ}
-use Rattle.zone_flows.proofs.Common.{◌-ℤ◌, AllZip, filter, flat_map, All-head, All-tail, All-from_get_or, All-weaker, Fraction, signed, Encloses}
+use Rattle.zone_flows.proofs.Common.{◌-ℤ◌, AllZip, filter, flat_map, All-head, All-tail, All-from_get_or, All-weaker, Fraction, as_fraction, Encloses}
 use Rattle.zone_flows.proofs.Common.{EnclosesSigned, Storage, Constant, General, Fixed, Link, IsProblem, Entries, entries_at, no_entries, least, most, total}
 use Rattle.zone_flows.proofs.Common.{ExactLink, ExactFixed, ExactCell, cell_at, LinkEncloses, FixedEncloses, CellEncloses, EnclosesStep, TermPair, Face}
 use Rattle.zone_flows.proofs.Common.{is_lower_zone, face_from, link_faces, faces_by_kind, fixed_faces, cell_faces, faces, is_between, flows_between, ExactFace}
@@ -49,7 +49,7 @@ module _ (s : ℕ) (zones : List ℕ) (l u : ℕ → ℤ) (h : ℕ → Fraction)
   abbrev Lies : ℕ → Type 0
   Lies c = EnclosesSigned (l c) (u c) 9 (h c)
 
-  flow_between : (x y lo hi : ℕ) (c : Ratio) → Encloses lo hi s c → Lies x → Lies y → EnclosesSigned (least lo hi (l x -ℤ u y)) (most lo hi (u x -ℤ l y)) (s + 9) (times (signed c) (minus (h x) (h y)))
+  flow_between : (x y lo hi : ℕ) (c : Ratio) → Encloses lo hi s c → Lies x → Lies y → EnclosesSigned (least lo hi (l x -ℤ u y)) (most lo hi (u x -ℤ l y)) (s + 9) (times (as_fraction c) (minus (h x) (h y)))
   flow_between x y lo hi c e at_x at_y =
       (bounds_hold s (h y) (l y) (u y) at_y).links (record { cell = 0; lo = lo; hi = hi }) (record { cell = 0; conductance = c }) (λ k. h x) (λ k. l x) (λ k. u x) (record { cell = refl; conductance = e }) at_x
 

@@ -1,6 +1,6 @@
 -- The sums of a list of flows: what they bring in and what they take out, each standing still at 2^126; and the flow that they give.
 use Rattle.zone_flows.proofs.Common.{◌≡◌, ℕ, Bool, true, false, refl, sym, ap, ◌∙◌, arith, List, [], ◌∷◌, ℤ, pos, negsuc, neg_ℤ, unsigned_abs, ◌+ℤ◌, ◌-ℤ◌, ◌≤ℤ◌}
-use Rattle.zone_flows.proofs.Common.{None, Some, ints, clamps, total, TermPair, IsSum, capped, plus_pair, parts, term_limit, ZoneSum, plus_flow, plus_flows}
+use Rattle.zone_flows.proofs.Common.{None, Some, ints, clamps, total, TermPair, IsSum, capped_term, plus_pair, parts, term_limit, ZoneSum, add_flow, plus_flows}
 use Rattle.zone_flows.proofs.Common.{IsZoneSum, part, no_flows, no_pair, zone_flow, flow_or_refusal, Result, Ok, if◌then◌else◌, NoBound, ZoneFlow, and_parts}
 use Rattle.zone_flows.proofs.Common.{Face, flow_or_large, pair_flow, flows_between, pair_of, ◌/◌, ◌%◌, lt_z}
 use Rattle.std.specs.Int.{int_max, int_min}
@@ -11,7 +11,7 @@ use Rattle.step_problem.specs.declared.place.Dir.{Dir}
 cap_below : (limit a b : ℤ) → int_min (a +ℤ b) limit ≤ℤ limit
 cap_below limit a b = omega (arith, ints, clamps)
 
-sum_kept : (dir : Dir) (s x : TermPair) → IsSum s → IsSum (capped (plus_pair s (part dir x)))
+sum_kept : (dir : Dir) (s x : TermPair) → IsSum s → IsSum (capped_term (plus_pair s (part dir x)))
 sum_kept dir s x h = record {
   lo_above = omega (arith, ints, clamps, h.lo_above, part_lo dir x);
   lo_below = cap_below term_limit s.lo (part dir x).lo;
@@ -23,15 +23,15 @@ front_part : (dir : Dir) (x : TermPair) (xs : List TermPair) → parts dir (x �
 unfolding parts
 front_part dir x xs = refl
 
-split : (dir : Dir) (s x : TermPair) (xs : List TermPair) → capped (plus_pair (capped (plus_pair s (part dir x))) (parts dir xs)) ≡ capped (plus_pair s (parts dir (x ∷ xs)))
-split dir s x xs = capped_twice s (part dir x) (parts dir xs) (parts_lo dir xs) (parts_hi dir xs) ∙ ap (λ (z : TermPair). capped (plus_pair s z)) (sym (front_part dir x xs))
+split : (dir : Dir) (s x : TermPair) (xs : List TermPair) → capped_term (plus_pair (capped_term (plus_pair s (part dir x))) (parts dir xs)) ≡ capped_term (plus_pair s (parts dir (x ∷ xs)))
+split dir s x xs = capped_twice s (part dir x) (parts dir xs) (parts_lo dir xs) (parts_hi dir xs) ∙ ap (λ (z : TermPair). capped_term (plus_pair s z)) (sym (front_part dir x xs))
 
 -- The sums of a list of flows are what they bring in and what they take out, each standing still at 2^126.
-flows_are_parts : (s : ZoneSum) (xs : List TermPair) → IsZoneSum s → plus_flows (Some s) xs ≡ Some (record { into = capped (plus_pair s.into (parts In xs)); out = capped (plus_pair s.out (parts Out xs)) })
+flows_are_parts : (s : ZoneSum) (xs : List TermPair) → IsZoneSum s → plus_flows (Some s) xs ≡ Some (record { into = capped_term (plus_pair s.into (parts In xs)); out = capped_term (plus_pair s.out (parts Out xs)) })
 unfolding plus_flows
 flows_are_parts s [] h = rw (nothing_more In s.into h.into, nothing_more Out s.out h.out) refl
 flows_are_parts s (x ∷ xs) h =
-    flows_are_parts (plus_flow s x) xs (record { into = sum_kept In s.into x h.into; out = sum_kept Out s.out x h.out })
+    flows_are_parts (add_flow s x) xs (record { into = sum_kept In s.into x h.into; out = sum_kept Out s.out x h.out })
     ∙ rw (split In s.into x xs, split Out s.out x xs) refl
 
 magnitude_of : (a p n s : ℤ) → p +ℤ n ≡ s → (int_max a (pos 0) +ℤ p) +ℤ (int_max (neg_ℤ a) (pos 0) +ℤ n) ≡ pos (unsigned_abs a) +ℤ s
@@ -63,7 +63,7 @@ zero_sum = record { lo_above = omega (arith, ints); lo_below = omega (arith, int
 
 -- what goes in and what goes out of these flows, each standing still at 2^126
 abbrev pub sums : List TermPair → ZoneSum
-sums xs = record { into = capped (parts In xs); out = capped (parts Out xs) }
+sums xs = record { into = capped_term (parts In xs); out = capped_term (parts Out xs) }
 
 none_added : (z : ℤ) → pos 0 +ℤ z ≡ z
 none_added z = omega (arith, ints)
@@ -76,7 +76,7 @@ zero_sums = record { into = zero_sum; out = zero_sum }
 
 pub sums_are : (x : TermPair) (xs : List TermPair) → plus_flows None (x ∷ xs) ≡ Some (sums (x ∷ xs))
 unfolding plus_flows
-sums_are x xs = flows_are_parts no_flows (x ∷ xs) zero_sums ∙ (λ i. Some (record { into = capped (none_more (parts In (x ∷ xs)) i); out = capped (none_more (parts Out (x ∷ xs)) i) }))
+sums_are x xs = flows_are_parts no_flows (x ∷ xs) zero_sums ∙ (λ i. Some (record { into = capped_term (none_more (parts In (x ∷ xs)) i); out = capped_term (none_more (parts Out (x ∷ xs)) i) }))
 
 -- Two sums that stand still at the limit stay below it together exactly where the whole sums do, and are then whole.
 alike : (limit a b : ℤ) (s t : Bool) → pos 0 ≤ℤ limit → pos 0 ≤ℤ a → pos 0 ≤ℤ b → lt_z (int_min a limit +ℤ int_min b limit) limit ≡ s → lt_z (a +ℤ b) limit ≡ t → s ≡ t

@@ -1,6 +1,6 @@
 -- What a table of sums has gained after more faces, and so the flows of its entries in order.
 use Rattle.zone_flows.proofs.Common.{◌≡◌, ℕ, ◌+◌, ◌*◌, ◌/◌, ◌%◌, ◌<◌, ◌≤◌, Bool, true, false, cond, refl, sym, ap, ◌∙◌, subst, arith, List, [], ◌∷◌, ◌++◌, map}
-use Rattle.zone_flows.proofs.Common.{take, length, get_or, flat_map, filter, Option, None, Some, ZoneSum, Face, TermPair, AreSums, Gains, IsZoneSum, plus_flow}
+use Rattle.zone_flows.proofs.Common.{take, length, get_or, flat_map, filter, Option, None, Some, ZoneSum, Face, TermPair, AreSums, Gains, IsZoneSum, add_flow}
 use Rattle.zone_flows.proofs.Common.{plus_flows, no_flows, flows_between, is_between, share, flow_or_large, flow_or_refusal, each_or_first, zone_flows, Result}
 use Rattle.zone_flows.proofs.Common.{All, All-head, All-tail, All-weaker, cases_lt, inl, inr, true≢false, pair_of, map-append, append-nil, ◌||◌, IfSome}
 use Rattle.zone_flows.proofs.Common.{values_of, take_more, take_all, filter-append}
@@ -25,7 +25,7 @@ nothing m = record { at = λ q. refl; past = λ q h. refl }
 plus_flows-append : (s : Option ZoneSum) (xs ys : List TermPair) → plus_flows s (xs ++ ys) ≡ plus_flows (plus_flows s xs) ys
 unfolding plus_flows
 plus_flows-append s [] ys = refl
-plus_flows-append s (x ∷ xs) ys = plus_flows-append (Some (plus_flow (unwrap_or s no_flows) x)) xs ys
+plus_flows-append s (x ∷ xs) ys = plus_flows-append (Some (add_flow (unwrap_or s no_flows) x)) xs ys
 
 between-append : (a b : ℕ) (fs gs : List Face) → flows_between a b (fs ++ gs) ≡ flows_between a b fs ++ flows_between a b gs
 unfolding flows_between
@@ -36,7 +36,7 @@ both old mid new fs gs h k = grind (arith, between-append, plus_flows-append)
 
 -- the flow across one face, at the key of its pair
 pub gained : (old new : Table) (f : Face) (w : ZoneSum) → f.from ≤ 999 → f.to ≤ 999 → ((q : ℕ) → get nat_cmp new q ≡ cond (is_at (nat_cmp (f.from * 1000 + f.to)) q) (Some w) (get nat_cmp old q)) →
-    w ≡ plus_flow (unwrap_or (get nat_cmp old (f.from * 1000 + f.to)) no_flows) f.flow → Gains old new (f ∷ [])
+    w ≡ add_flow (unwrap_or (get nat_cmp old (f.from * 1000 + f.to)) no_flows) f.flow → Gains old new (f ∷ [])
 unfolding plus_flows flows_between
 gained old new f w h k is value = record { at = λ q. is q ∙ at_key q (is_between (q / 1000) (q % 1000) f) refl; past = λ q l. is q ∙ rw (apart q l) refl }
   where
@@ -53,7 +53,7 @@ gained old new f w h k is value = record { at = λ q. is q ∙ at_key q (is_betw
     its_key q e = grind (arith, nat_tests)
 
     at_key : (q : ℕ) (b : Bool) → is_between (q / 1000) (q % 1000) f ≡ b → cond (is_at (nat_cmp (f.from * 1000 + f.to)) q) (Some w) (get nat_cmp old q) ≡ plus_flows (get nat_cmp old q) (map (λ f. f.flow) (filter (is_between (q / 1000) (q % 1000)) (f ∷ [])))
-    at_key q true e = rw (tests q, e) (ap (λ (z : ZoneSum). Some z) value ∙ ap (λ (n : ℕ). Some (plus_flow (unwrap_or (get nat_cmp old n) no_flows) f.flow)) (its_key q e))
+    at_key q true e = rw (tests q, e) (ap (λ (z : ZoneSum). Some z) value ∙ ap (λ (n : ℕ). Some (add_flow (unwrap_or (get nat_cmp old n) no_flows) f.flow)) (its_key q e))
     at_key q false e = rw (tests q, e) refl
 
 -- what a table has for a pair are sums
@@ -87,7 +87,7 @@ module _ {X Z Y E : Type 0} (f : X → Result Y E) (g : Z → Result Y E) (h : X
 some_stays : (s : ZoneSum) (xs : List TermPair) → is_some (plus_flows (Some s) xs) ≡ true
 unfolding plus_flows
 some_stays s [] = refl
-some_stays s (x ∷ xs) = some_stays (plus_flow s x) xs
+some_stays s (x ∷ xs) = some_stays (add_flow s x) xs
 
 some_shared : (a b : ℕ) (fs : List Face) → is_some (plus_flows None (flows_between a b fs)) ≡ share fs (record { from = a; to = b })
 unfolding plus_flows flows_between

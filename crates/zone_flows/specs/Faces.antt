@@ -10,7 +10,7 @@ use Rattle.step_problem.specs.{entries_at, least, most}
 use Rattle.budget_bounds.specs.declared.pair.TermPair.{TermPair}
 use Rattle.step_problem.specs.declared.heads.Bound.{Bound}
 use Rattle.budget_bounds.specs.{AreHeads}
-use Rattle.decimal_input.specs.{Ratio, Fraction, signed, fraction_total, EnclosesSigned}
+use Rattle.decimal_input.specs.{Ratio, Fraction, as_fraction, fraction_total, EnclosesSigned}
 use Rattle.decimal_input.specs.Fractions.{times}
 use Rattle.step_problem.specs.declared.place.ZoneFlow.{ZoneFlow}
 use Rattle.cell_balance.specs.{ExactLink, ExactFixed, ExactCell, cell_at, minus, EnclosesStep}
@@ -96,7 +96,7 @@ module _ (zones : List ℕ) (h : ℕ → Fraction) where
   -- the face from cell x to cell y, where the zone of x is the lower of two zones: its flow is C * (h_x - h_y), as in TM 6-A16, chapter 2, Darcy's law
   unfoldable pub exact_from : ℕ → ℕ → Ratio → List ExactFace
   exact_from x y c =
-      let face : ExactFace = record { from = slice_index zones x; to = slice_index zones y; flow = times (signed c) (minus (h x) (h y)) } in
+      let face : ExactFace = record { from = slice_index zones x; to = slice_index zones y; flow = times (as_fraction c) (minus (h x) (h y)) } in
       cond (is_lower_zone (slice_index zones x) (slice_index zones y)) (face ∷ []) []
 
   abbrev pub exact_link : List ExactCell → ExactCell → ExactLink → List ExactFace

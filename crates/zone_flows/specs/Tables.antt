@@ -5,7 +5,7 @@ use Rattle.std.specs.Option.{unwrap_or}
 use Rattle.std.specs.Ordering.{nat_cmp}
 use Rattle.step_problem.specs.declared.place.Dir.TheVariants.{In, Out}
 use Rattle.budget_bounds.specs.declared.pair.TermPair.{TermPair}
-use Rattle.budget_bounds.specs.{IsSum, part, term_limit, capped, plus_pair, no_pair}
+use Rattle.budget_bounds.specs.{IsSum, part, term_limit, capped_term, plus_pair, no_pair}
 use Rattle.zone_flows.specs.declared.sum.ZoneSum.{ZoneSum}
 use Rattle.zone_flows.specs.Faces.{Face, cell_faces, face_from, faces, faces_by_kind, flows_between}
 use Rattle.zone_flows.specs.declared.walk.Walk.{Walk}
@@ -21,8 +21,8 @@ abbrev pub no_flows : ZoneSum
 no_flows = record { into = no_pair; out = no_pair }
 
 -- One more flow. What goes in and what goes out are summed apart, and a sum stays at 2^126 once it is there.
-abbrev pub plus_flow : ZoneSum → TermPair → ZoneSum
-plus_flow s x = record { into = capped (plus_pair s.into (part In x)); out = capped (plus_pair s.out (part Out x)) }
+abbrev pub add_flow : ZoneSum → TermPair → ZoneSum
+add_flow s x = record { into = capped_term (plus_pair s.into (part In x)); out = capped_term (plus_pair s.out (part Out x)) }
 
 pub record IsZoneSum (s : ZoneSum) : Type 0 where
   pub into : IsSum s.into
@@ -35,7 +35,7 @@ AreSums m = All IsZoneSum (values m)
 -- the sums after all these flows
 unfoldable pub plus_flows : Option ZoneSum → List TermPair → Option ZoneSum
 plus_flows s [] = s
-plus_flows s (x ∷ xs) = plus_flows (Some (plus_flow (unwrap_or s no_flows) x)) xs
+plus_flows s (x ∷ xs) = plus_flows (Some (add_flow (unwrap_or s no_flows) x)) xs
 
 -- A table has gained the flows across these faces, each at the key of its pair; all keys are below a million.
 pub record Gains (old new : BTreeMap ℕ ZoneSum) (fs : List Face) : Type 0 where

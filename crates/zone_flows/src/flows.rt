@@ -7,7 +7,7 @@ ghost use Rattle.zone_flows.specs.{Returns, EncloseEveryStep, faces, zone_flows}
 use crate::faces::add_faces;
 use crate::fault::ZoneFault;
 use crate::table::{Table, flows_in_order};
-use crate::walk::{Walk, own_zones};
+use crate::walk::{Walk, zones_by_index};
 use std::alloc::Global;
 use std::collections::BTreeMap;
 use step_problem::{Bound, Problem, ZoneFlow};
@@ -33,7 +33,7 @@ pub fn zone_flows(
     ensures encloses { IfOk result (λ flows. EncloseEveryStep p.now zones.now (lower_at heads.now) (upper_at heads.now) flows.items) }
 {
     p.recall_conditions();
-    let own = own_zones(alloc, p, zones)?;
+    let own = zones_by_index(alloc, p, zones)?;
     let walk = Walk {
         problem: p,
         zones,

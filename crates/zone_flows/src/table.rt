@@ -4,12 +4,12 @@ ghost use Rattle.std.specs.Int.Signed.{lt_z};
 ghost use Rattle.std.specs.BTreeMap.{IsOrdered};
 ghost use Rattle.std.specs.Ordering.{nat_cmp};
 ghost use Rattle.budget_bounds.specs.{IsFlow, term_limit};
-ghost use Rattle.zone_flows.specs.Tables.{AreSums, Gains, IsZoneSum, flow_or_refusal, plus_flow};
+ghost use Rattle.zone_flows.specs.Tables.{AreSums, Gains, IsZoneSum, flow_or_refusal, add_flow};
 ghost use Rattle.zone_flows.specs.Pairs.{Returns, each_or_first};
 
 use crate::fault::ZoneFault;
 use crate::sum::ZoneSum;
-use budget_bounds::{TERM_LIMIT, TermPair, plus_part};
+use budget_bounds::{TERM_LIMIT, TermPair, add_part};
 use std::alloc::{AllocError, Global};
 use std::collections::BTreeMap;
 use step_problem::{Dir, NoBound, Place, StepRefusal, ZoneFlow};
@@ -21,15 +21,15 @@ pub(crate) struct Table {
     ghost sums: { AreSums map },
 }
 
-fn plus_flow(sum: ZoneSum, flow: TermPair) -> ZoneSum
+fn add_flow(sum: ZoneSum, flow: TermPair) -> ZoneSum
     requires sum { IsZoneSum sum }
     requires flow { IsFlow flow }
-    ensures value { result ≡ plus_flow sum flow }
+    ensures value { result ≡ add_flow sum flow }
     ensures sum { IsZoneSum result }
 {
     ZoneSum {
-        into: plus_part(Dir::In, sum.into, flow),
-        out: plus_part(Dir::Out, sum.out, flow),
+        into: add_part(Dir::In, sum.into, flow),
+        out: add_part(Dir::Out, sum.out, flow),
     }
 }
 
@@ -51,7 +51,7 @@ pub(crate) fn add_face(
         into: none,
         out: none,
     });
-    *sum = plus_flow(*sum, flow);
+    *sum = add_flow(*sum, flow);
     Ok(())
 }
 

@@ -36,7 +36,11 @@ impl<'a> Walk<'a> {
 }
 
 /// The zone of each variable cell, by index.
-pub(crate) fn own_zones(alloc: Global, p: &Problem, zones: &[u32]) -> Result<Vec<u32>, AllocError>
+pub(crate) fn zones_by_index(
+    alloc: Global,
+    p: &Problem,
+    zones: &[u32],
+) -> Result<Vec<u32>, AllocError>
     requires { (c : ℕ) → c < length p.now → (entries_at p.now c).id < length zones.now }
     ensures { IfOk result (λ own. AreOwnZones p.now zones.now own.items) }
 {

@@ -1,7 +1,7 @@
 // The flow of one entry, by its cell's own head.
 ghost use Rattle.std.specs.Prelude.{◌≡◌, ◌*◌, ◌^◌, ◌-ℤ◌, pos, ℕ, ℤ};
 ghost use Rattle.std.specs.Int.{int_max, int_min};
-ghost use Rattle.step_problem.specs.Conditions.{IsHead, IsWithin, FixedFits, RiverFits, DrainFits, EvapFits, magnitude};
+ghost use Rattle.step_problem.specs.Conditions.{IsHead, IsMagnitudeAtMost, FixedFits, RiverFits, DrainFits, EvapFits, magnitude};
 ghost use Rattle.step_problem.specs.Balances.{bound_on, flow_bound, fixed_flow, river_flow, drain_flow, evap_flow};
 
 use crate::entry::{Drain, Evap, Fixed, Flow, River};
@@ -26,7 +26,7 @@ pub trait Branch {
         requires own { IsHead own }
         requires fits { fits self.now }
         ensures value { result ≡ flow side own self.now }
-        ensures within { IsWithin result (weight self.now * unit) };
+        ensures within { IsMagnitudeAtMost result (weight self.now * unit) };
 }
 
 impl Branch for Flow {

@@ -1,6 +1,6 @@
 // The sums of a cell's flows, a kind of entry at a time.
 ghost use Rattle.std.specs.Prelude.{◌≡◌, ◌<◌, ◌≤◌, ◌+◌, ◌*◌, ◌^◌, ℕ, ℤ, ◌-ℤ◌, All, length, sum_by};
-ghost use Rattle.step_problem.specs.{ends_in, total, branch_flow, link_flow, IsHead, IsWithin, LinkFits};
+ghost use Rattle.step_problem.specs.{ends_in, total, branch_flow, link_flow, IsHead, IsMagnitudeAtMost, LinkFits};
 
 use crate::balance::branch::Branch;
 use crate::entry::Link;
@@ -13,7 +13,7 @@ pub fn sum_branches<E: Branch>(side: Side, own: i64, entries: &[E]) -> i128
     requires fit { All E.fits entries.now }
     requires weights { sum_by E.weight entries.now * E.unit < 2 ^ 123 }
     ensures value { result ≡ total (E.flow side own) entries.now }
-    ensures within { IsWithin result (2 ^ 123) }
+    ensures within { IsMagnitudeAtMost result (2 ^ 123) }
 {
     let mut sum: i128 = 0;
     for x in entries {
@@ -27,7 +27,7 @@ fn link_flow_at(side: Side, own: i64, x: &Link, end: i64) -> i128
     requires end { IsHead end }
     requires fits { LinkFits x.now }
     ensures value { result ≡ branch_flow side x.now.lo x.now.hi (end -ℤ own) }
-    ensures within { IsWithin result (x.now.hi * 2 ^ 63) }
+    ensures within { IsMagnitudeAtMost result (x.now.hi * 2 ^ 63) }
 {
     branch_flow(side, x.lo, x.hi, end - own)
 }
@@ -40,7 +40,7 @@ pub(crate) fn sum_links(side: Side, own: i64, links: &[Link], values: &[i64]) ->
     requires fit { All LinkFits links.now }
     requires conductances { sum_by (λ x. x.hi) links.now < 2 ^ 60 }
     ensures value { (h : ℕ → ℤ) → ends_in h links.now ≡ values.now → result ≡ total (link_flow side h own) links.now }
-    ensures within { IsWithin result (2 ^ 123) }
+    ensures within { IsMagnitudeAtMost result (2 ^ 123) }
 {
     let mut sum: i128 = 0;
     for (i, x) in links.iter().enumerate() {

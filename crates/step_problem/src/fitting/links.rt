@@ -8,7 +8,7 @@ use crate::entry::{Cell, Link};
 pub(crate) const MOST_LINKS: usize = 6;
 
 // Whether no link before index j leads to the same cell as link j.
-fn is_first_there(links: &[Link], j: usize) -> bool
+fn is_first_link_to_its_cell(links: &[Link], j: usize) -> bool
     requires { j < length links.now }
     ensures { IsTrue result ↔ ((i : ℕ) → i < j → (link_at links.now i).cell ≡ (link_at links.now j).cell → ⊥) }
 {
@@ -20,7 +20,7 @@ fn ends_differ(links: &[Link]) -> bool
     ensures { IsTrue result ↔ ((i j : ℕ) → i < j → j < length links.now → (link_at links.now i).cell ≡ (link_at links.now j).cell → ⊥) }
 {
     for j in 0..links.len() {
-        if !is_first_there(links, j) {
+        if !is_first_link_to_its_cell(links, j) {
             return false;
         }
     }

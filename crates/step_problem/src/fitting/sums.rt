@@ -1,7 +1,7 @@
 // Sums over a cell's entries. Each stops at a cap, so that it can't overflow.
 ghost use Rattle.std.specs.Prelude.{◌≡◌, ◌+◌, ◌*◌, ◌^◌, ◌<◌, ◌≤◌, ◌-ℤ◌, ◌↔◌, ℕ, IsTrue, All, Contains, min, sum_by, unsigned_abs};
 ghost use Rattle.std.specs.Fn.{FnReturnsAt};
-ghost use Rattle.step_problem.specs.{conductance_of, flow_of, magnitude, deep_river, full_rate, RiverFits, EvapFits};
+ghost use Rattle.step_problem.specs.{conductance_of, flow_magnitude, magnitude, deep_river, full_rate, RiverFits, EvapFits};
 ghost use Rattle.step_problem.specs.declared.heads.Side.TheVariants.{Low, High};
 
 use crate::balance::branch::Branch;
@@ -68,7 +68,7 @@ fn full_rate_of(x: &Evap) -> u128
 pub fn flows_fit(cell: &Cell) -> bool
     requires rivers { All RiverFits cell.now.rivers }
     requires evaps { All EvapFits cell.now.evaps }
-    ensures { IsTrue result ↔ (flow_of cell.now < 2 ^ 109) }
+    ensures { IsTrue result ↔ (flow_magnitude cell.now < 2 ^ 109) }
 {
     let flows = sum_capped(&cell.flows, FLOW_CAP, |x| {
         x.lo.unsigned_abs().max(x.hi.unsigned_abs())

@@ -1,5 +1,5 @@
 use Rattle.barrier_vector.proofs.Common.{◌≤◌, arith, length, rules, slice_index, slice_index_or, FitsSigned, w64, to_z-of_z, Low, path_limit, sym, subst}
-use Rattle.barrier_vector.proofs.Common.{IsHead, labelled, longest_at}
+use Rattle.barrier_vector.proofs.Common.{IsHead, has_label, longest_at}
 use Rattle.barrier_vector.proofs.Spreading.{no_both}
 use Rattle.barrier_vector.proofs.Rooting.{capped_within}
 use Rattle.barrier_vector.proofs.Marking.{base_head}
@@ -11,7 +11,7 @@ pub overflow_add-inner : goal.overflow_add-inner
 overflow_add-inner c =
     let (s, path, cut) = c.requires.components.inner_paths c.args.c c.requires.cell in
     let own : slice_index_or c.args.inner.now c.args.c 0 ≤ path_limit = capped_within _ s cut in
-    let all = greatest_within (length c.args.p.now) (labelled c.args.labels.now c.in-Some.m) (slice_index c.args.inner.now) path_limit (λ k h. let (s, path, cut) = c.requires.components.inner_paths k h in capped_within (slice_index c.args.inner.now k) s cut) in
+    let all = greatest_within (length c.args.p.now) (has_label c.args.labels.now c.in-Some.m) (slice_index c.args.inner.now) path_limit (λ k h. let (s, path, cut) = c.requires.components.inner_paths k h in capped_within (slice_index c.args.inner.now k) s cut) in
     let top : longest_at c.args.totals.now c.in-Some.m ≤ path_limit = omega (arith, c.requires.components.tops c.in-Some.m, all) in
     omega (arith, own, top)
 

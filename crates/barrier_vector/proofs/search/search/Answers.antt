@@ -1,5 +1,5 @@
 use Rattle.barrier_vector.proofs.Common.{arith, rules, ◌≡◌, ◌+◌, ◌≤◌, length, subst, ap, ℕ, List, All, ◌<◌, sym, ◌∙◌, drop, inl, inr, Some, Option, mark_at}
-use Rattle.barrier_vector.proofs.Common.{unmarked, replicate}
+use Rattle.barrier_vector.proofs.Common.{count_unmarked, replicate}
 use Rattle.std.specs.Prelude.{None}
 use Rattle.barrier_vector.proofs.Starting.{all_none}
 use Rattle.std.proofs.lemmas.Grind.{common_steps}
@@ -25,7 +25,7 @@ loop-left-init c =
     let count = c.in_ok-frontier.ensures.marks.count in
     record {
       up_to = rw (levels, paths) (up_to_start c.args.p.now c.len-count.ensures.fits c.args.q c.args.own.now c.deref_mut.result.now c.begin.new.levels c.begin.new.paths c.in_ok-frontier.frontier.items c.requires.own (whole ∙ c.len-count.ensures.count) none_at (all ∙ c.len-count.ensures.count) c.in_ok-frontier.ensures);
-      left = let now = ap unmarked levels in omega (arith, count, now, all, c.len.ensures);
+      left = let now = ap count_unmarked levels in omega (arith, count, now, all, c.len.ensures);
     }
 
 pub spread-requires-clause-frontier : goal.spread-requires-clause-frontier
@@ -57,8 +57,8 @@ loop-left-preserved c =
           c.deref.ensures.value c.deref-in-loop-left-2.ensures.value c.loop-left.invariant.up_to c.in_ok-frontier-2.ensures c.extend_paths.auto.paths c.extend_paths.ensures.others c.extend_paths.ensures.paths;
       left =
           let count = c.in_ok-frontier-2.ensures.count in
-          let now = ap unmarked (written c.spread.new.marks (drop (length c.spread.new.marks) c.loop-left.levels.items) c.loop-left.levels.len n) in
-          let was = ap unmarked c.deref_mut-in-loop-left.ensures.value in omega (arith, count, now, was, c.loop-left.invariant.left, c.len-left.ensures);
+          let now = ap count_unmarked (written c.spread.new.marks (drop (length c.spread.new.marks) c.loop-left.levels.items) c.loop-left.levels.len n) in
+          let was = ap count_unmarked c.deref_mut-in-loop-left.ensures.value in omega (arith, count, now, was, c.loop-left.invariant.left, c.len-left.ensures);
     }
 
 pub returns : goal.returns

@@ -1,5 +1,5 @@
 use Rattle.conductance_bounds.proofs.Common.{◌≡◌, ◌^◌, ◌*◌, arith, FitsSigned, w64, w128, int_min, int_max, to_z-of_z, blend, IsNear, given_pair, ceiling_of}
-use Rattle.conductance_bounds.proofs.Common.{floor_of}
+use Rattle.conductance_bounds.proofs.Common.{head_floor_of}
 use Rattle.conductance_bounds.proofs.Blends.{fits_within, min_within, max_within, lesser, greater}
 use Rattle.conductance_bounds.proofs.GivenHeads.{given_is, head_encloses}
 use Rattle.conductance_bounds.proofs.HeadRange.{fits_64}
@@ -44,7 +44,7 @@ returns-clause-rounded c =
     let q' : c.blend-4.result ≡ blend c.head_bounds-start.result.hi c.head_bounds-end.result.hi c.args.part.hi = simp to_z-of_z at c.blend-4.ensures.value in
     let k : FitsSigned w64 c.head_floor.result = fits_64 _ c.head_floor.ensures.range in
     let k' : FitsSigned w64 c.head_ceiling.result = fits_64 _ c.head_ceiling.ensures.range in
-    let low : c.head_floor.result ≡ floor_of c.min-low.result = simp to_z-of_z at c.head_floor.ensures.floor in
+    let low : c.head_floor.result ≡ head_floor_of c.min-low.result = simp to_z-of_z at c.head_floor.ensures.floor in
     let high : c.head_ceiling.result ≡ ceiling_of c.max-high.result = simp to_z-of_z at c.head_ceiling.ensures.ceiling in
     let pair : pair_of c.head_floor.result c.head_ceiling.result ≡ given_pair c.args.shead c.args.ehead c.args.part =
     given_is c.args.shead c.args.ehead c.args.part c.head_bounds-start.result c.head_bounds-end.result c.head_floor.result c.head_ceiling.result c.head_bounds-start.ensures.rounded c.head_bounds-end.ensures.rounded

@@ -1,4 +1,4 @@
-use Rattle.conductance_bounds.proofs.Common.{◌≡◌, ◌∙◌, false, is_whole, one, subst, sym, true, value, AtMost, IsPassed, Sd, passed, Part, is_ceiling}
+use Rattle.conductance_bounds.proofs.Common.{◌≡◌, ◌∙◌, false, is_whole, one, subst, sym, true, value, AtMost, IsPassed, Sd, part_passed, Part, is_ceiling}
 use Rattle.conductance_bounds.proofs.PartBounds.{going_is, lower_at_most, multiplier_positive, over_is, part_encloses}
 use Rattle.conductance_bounds.proofs.part.time_part.Goals as goal
 
@@ -7,7 +7,7 @@ returns-then-is_over-clause-rounded c = over_is c.args.period.now c.args.step (s
 
 pub returns-then-is_over-clause-encloses : goal.returns-then-is_over-clause-encloses
 returns-then-is_over-clause-encloses c =
-    subst (λ (x : Part). IsPassed (passed c.args.period.now c.args.step) x.lo x.hi) (sym (returns-then-is_over-clause-rounded c))
+    subst (λ (x : Part). IsPassed (part_passed c.args.period.now c.args.step) x.lo x.hi) (sym (returns-then-is_over-clause-rounded c))
     (part_encloses c.args.period.now c.args.step c.requires.step.0 c.requires.step.1 (multiplier_positive c.args.period.now c.requires.times))
 
 pub lower_part-requires-clause-part : goal.lower_part-requires-clause-part
@@ -23,5 +23,5 @@ returns-clause-rounded c =
 
 pub returns-clause-encloses : goal.returns-clause-encloses
 returns-clause-encloses c =
-    subst (λ (x : Part). IsPassed (passed c.args.period.now c.args.step) x.lo x.hi) (sym (returns-clause-rounded c))
+    subst (λ (x : Part). IsPassed (part_passed c.args.period.now c.args.step) x.lo x.hi) (sym (returns-clause-rounded c))
     (part_encloses c.args.period.now c.args.step c.requires.step.0 c.requires.step.1 (multiplier_positive c.args.period.now c.requires.times))

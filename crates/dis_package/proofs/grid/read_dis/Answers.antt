@@ -1,4 +1,4 @@
-use Rattle.dis_package.proofs.Common.{rules, ◌≡◌, ◌∙◌, ap, LinesMay, without_comments, begun_held, begun, some_give}
+use Rattle.dis_package.proofs.Common.{rules, ◌≡◌, ◌∙◌, ap, LinesMay, without_comments, begun_held, model_of_grid, some_give}
 use Rattle.dis_package.proofs.Forward.{head_leaves}
 use Rattle.dis_package.proofs.DisForms.{dis_is}
 use Rattle.dis_package.proofs.FrameForms.{frame_is}
@@ -7,8 +7,8 @@ use Rattle.dis_package.proofs.grid.read_dis.Goals as goal
 
 pub grid_of-requires : goal.grid_of-requires
 grid_of-requires g c =
-    let begun : LinesMay (g.F.Folder.may c.args.folder.now) c.skip_comments.new.self = rw (c.skip_comments.ensures, c.new-lines.ensures) (begun_held _ _ c.requires.text) in
-    record { lines = head_leaves c.args.limits _ _ _ _ _ (head_read c.args.limits c.args.file.now _ _ _ _ _ c.in_ok-frame.frame c.in_ok-laycbd.laycbd.items c.in_ok-line.ensures c.of-words.ensures c.in_ok-frame.ensures.frame c.in_ok-laycbd.ensures.beds) begun }
+    let model_of_grid : LinesMay (g.F.Folder.may c.args.folder.now) c.skip_comments.new.self = rw (c.skip_comments.ensures, c.new-lines.ensures) (begun_held _ _ c.requires.text) in
+    record { lines = head_leaves c.args.limits _ _ _ _ _ (head_read c.args.limits c.args.file.now _ _ _ _ _ c.in_ok-frame.frame c.in_ok-laycbd.laycbd.items c.in_ok-line.ensures c.of-words.ensures c.in_ok-frame.ensures.frame c.in_ok-laycbd.ensures.beds) model_of_grid }
 
 pub returns-in-Err-clause-model : goal.returns-in-Err-clause-model
 returns-in-Err-clause-model g c = λ files agree.
@@ -16,7 +16,7 @@ returns-in-Err-clause-model g c = λ files agree.
 
 pub returns-in-Ok-clause-model : goal.returns-in-Ok-clause-model
 returns-in-Ok-clause-model g c = λ files agree.
-    let made : c.begun_model.result ≡ begun c.in_ok-grid.grid c.in_ok-frame.frame.lenuni c.in-Ok.periods.items = search rules in
+    let made : c.begun_model.result ≡ model_of_grid c.in_ok-grid.grid c.in_ok-frame.frame.lenuni c.in-Ok.periods.items = search rules in
     dis_read c.args.limits files _ _ _ _ _ _ _ (c.skip_comments.ensures ∙ ap without_comments c.new-lines.ensures) (head_read c.args.limits c.args.file.now _ _ _ _ _ c.in_ok-frame.frame c.in_ok-laycbd.laycbd.items c.in_ok-line.ensures c.of-words.ensures c.in_ok-frame.ensures.frame c.in_ok-laycbd.ensures.beds) (c.in_ok-grid.ensures.grid files agree) c.in-Ok.ensures.periods made
 
 pub returns-in-Ok-clause-form : goal.returns-in-Ok-clause-form

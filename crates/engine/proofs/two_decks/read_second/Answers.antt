@@ -1,4 +1,4 @@
-use Rattle.engine.proofs.Common.{rules, Err, Ok, named, refl, second_by, second_in}
+use Rattle.engine.proofs.Common.{rules, Err, Ok, read_by_name, refl, second_by, second_in}
 use Rattle.engine.proofs.Readings.{bad_reading, good_reading, passed_reading, reading_of, reads_both, second_read, stops_after, unread_model, unread_names}
 use Rattle.engine.proofs.two_decks.read_second.Goals as goal
 
@@ -7,7 +7,7 @@ returns-then-not-is_good_name-clause-reads g c = λ files agree. bad_reading sec
 
 pub returns-in_err-files-clause-reads : goal.returns-in_err-files-clause-reads
 returns-in_err-files-clause-reads g c = λ files agree.
-    passed_reading second_by (named c.args.name.now (second_in c.args.limits files)) c.from_residual.result _ c.from_residual.ensures.1 (good_reading second_by c.args.name.now _ (Err c.in_err-files.field-0.0) (search rules)
+    passed_reading second_by (read_by_name c.args.name.now (second_in c.args.limits files)) c.from_residual.result _ c.from_residual.ensures.1 (good_reading second_by c.args.name.now _ (Err c.in_err-files.field-0.0) (search rules)
     (reading_of second_by _ (Err c.in_err-files.field-0.0) (unread_names c.args.limits files c.args.name.now c.in_err-files.field-0.0 (c.in_err-files.ensures.names files agree))))
 
 pub returns-in-Err-clause-reads : goal.returns-in-Err-clause-reads

@@ -1,5 +1,5 @@
 use Rattle.listing_run.proofs.Common.{rules, ◌≡◌, ◌+◌, ◌∷◌, [], ◌++◌, drop, List, Some, None, true, false, inl, inr, refl, subst, sym, ◌∙◌, ap, append-nil, Put}
-use Rattle.listing_run.proofs.Common.{taken, TimeStep, joined, joined_thrice, put_was, lacks_at_first, IsListingBeside, IsCutListing, EndsAt, IsNextText}
+use Rattle.listing_run.proofs.Common.{whole_put, TimeStep, joined, joined_thrice, put_was, lacks_at_first, IsListingBeside, IsCutListing, EndsAt, IsNextText}
 use Rattle.listing_run.proofs.Common.{times_left, Write, first_text}
 use Rattle.listing_run.specs.declared.text.ListingEnd.TheVariants.{Whole}
 use Rattle.listing_run.proofs.Pieces.{ends_at_piece, ends_wanting, ends_with_line, under_way_at_first, under_way_more, beside, end_not_ok, ends_stopped}
@@ -46,7 +46,7 @@ returns-in-Some-stop-clause-puts g c = λ start puts h.
     let i = c.loop-at.invariant.puts start puts h in
     let p = c.put_while_solving-put.ensures.puts start (puts ++ i.0) i.1 in
     let m = c.end_stopped.ensures start (puts ++ i.0 ++ p.0) p.1 in
-    let was : p.0 ≡ taken c.loop-at.pending.items ∷ [] = put_was c.as_slice.result.now c.loop-at.pending.items _ None p.0 c.as_slice.ensures.value c.in_default-put.is p.2 in (
+    let was : p.0 ≡ whole_put c.loop-at.pending.items ∷ [] = put_was c.as_slice.result.now c.loop-at.pending.items _ None p.0 c.as_slice.ensures.value c.in_default-put.is p.2 in (
       i.0 ++ p.0 ++ m.0,
       joined_thrice (λ s. g.K.Sink.leads start s c.end_stopped.new.out) puts i.0 p.0 m.0 m.1,
       (ends_stopped (g.S.StepSettler.stop c.put_while_solving-put.new.settler ≡ Some Write) c.args.task.now c.in-Some-stop.error c.loop-at.steps c.loop-at.pending.items i.0 p.0 m.0 c.end_stopped.result i.2 was (λ w. sym c.stop.ensures ∙ c.in-Some-stop.is ∙ ap Some w) m.2, λ e. absurd (stop_end_not_ok c.in-Some-stop.error c.end_stopped.result m.0 m.2 e)),
@@ -65,7 +65,7 @@ loop-at-preserved g c =
       puts = λ start puts h.
           let i = c.loop-at.invariant.puts start puts h in
           let p = c.put_while_solving-put.ensures.puts start (puts ++ i.0) i.1 in
-          let was : p.0 ≡ taken c.loop-at.pending.items ∷ [] = put_was c.as_slice.result.now c.loop-at.pending.items _ None p.0 c.as_slice.ensures.value c.in_default-put.is p.2 in (
+          let was : p.0 ≡ whole_put c.loop-at.pending.items ∷ [] = put_was c.as_slice.result.now c.loop-at.pending.items _ None p.0 c.as_slice.ensures.value c.in_default-put.is p.2 in (
             i.0 ++ p.0,
             joined (λ s. g.K.Sink.leads start s c.put_while_solving-put.new.out) puts i.0 p.0 p.1,
             under_way_more c.args.task.now g.S.Settler.leads c.loop-at.steps c.put_while_solving-put.new.steps c.begin_step.new.settler c.put_while_solving-put.new.settler c.loop-at.pending.items c.in-Ok-next.text.items i.0 p.0 i.2 was next,
@@ -80,7 +80,7 @@ returns-in-Err-End-clause-puts g c = λ start puts h.
     let p = c.put_while_solving-put.ensures.puts start (puts ++ i.0) i.1 in
     let m = c.put_end.ensures start (puts ++ i.0 ++ p.0) p.1 in
     let here : EndsAt c.args.task.now c.in-Err-End.end c.loop-at.steps.heads (times_left c.loop-at.steps) = search rules in
-    let was : p.0 ≡ taken c.loop-at.pending.items ∷ [] = put_was c.as_slice.result.now c.loop-at.pending.items _ None p.0 c.as_slice.ensures.value c.in_default-put.is p.2 in (
+    let was : p.0 ≡ whole_put c.loop-at.pending.items ∷ [] = put_was c.as_slice.result.now c.loop-at.pending.items _ None p.0 c.as_slice.ensures.value c.in_default-put.is p.2 in (
       i.0 ++ p.0 ++ m.0,
       joined_thrice (λ s. g.K.Sink.leads start s c.put_end.new.out) puts i.0 p.0 m.0 m.1,
       (beside _ c.args.task.now c.put_end.result (i.0 ++ p.0 ++ m.0) (ends_with_line c.args.task.now c.loop-at.steps c.loop-at.pending.items i.0 p.0 c.put_end.result i.2 m.0 c.in-Err-End.end was here m.2), λ e. absurd (end_not_ok c.args.task.now c.loop-at.steps c.in-Some.at (drop (c.loop-at.steps.done + 1) c.loop-at.steps.times) c.in-Err-End.end c.put_end.result m.0 c.in-Some.ensures.left here m.2 e)),
@@ -94,7 +94,7 @@ returns-in-Err-Memory-clause-puts g c = λ start puts h.
     let i = c.loop-at.invariant.puts start puts h in
     let p = c.put_while_solving-put.ensures.puts start (puts ++ i.0) i.1 in
     let m = c.put_memory-in-Err-Memory.ensures start (puts ++ i.0 ++ p.0) p.1 in
-    let was : p.0 ≡ taken c.loop-at.pending.items ∷ [] = put_was c.as_slice.result.now c.loop-at.pending.items _ None p.0 c.as_slice.ensures.value c.in_default-put.is p.2 in (
+    let was : p.0 ≡ whole_put c.loop-at.pending.items ∷ [] = put_was c.as_slice.result.now c.loop-at.pending.items _ None p.0 c.as_slice.ensures.value c.in_default-put.is p.2 in (
       i.0 ++ p.0 ++ m.0,
       joined_thrice (λ s. g.K.Sink.leads start s c.put_memory-in-Err-Memory.new.out) puts i.0 p.0 m.0 m.1,
       (beside _ c.args.task.now c.put_memory-in-Err-Memory.result (i.0 ++ p.0 ++ m.0) (ends_wanting c.args.task.now c.loop-at.steps c.loop-at.pending.items i.0 p.0 c.put_memory-in-Err-Memory.result i.2 m.0 was m.2), λ e. absurd (wanting_not_ok c.put_memory-in-Err-Memory.result m.0 m.2 e)),
@@ -120,7 +120,7 @@ returns-clause-puts g c = λ start puts h.
     let i = c.loop-at.invariant.puts start puts h in
     let p = c.put_piece.ensures start (puts ++ i.0) i.1 in
     let m = c.put_end-2.ensures start (puts ++ i.0 ++ p.0) p.1 in
-    let was : p.0 ≡ taken c.loop-at.pending.items ∷ [] = put_was c.as_slice-2.result.now c.loop-at.pending.items _ None p.0 c.as_slice-2.ensures.value c.in_default-put_piece.is p.2 in
+    let was : p.0 ≡ whole_put c.loop-at.pending.items ∷ [] = put_was c.as_slice-2.result.now c.loop-at.pending.items _ None p.0 c.as_slice-2.ensures.value c.in_default-put_piece.is p.2 in
     let none : times_left s ≡ [] = c.in_default-time.ensures.left in
     let E : List TimeStep → Type 0 = λ times. EndsAt k Whole s.heads times in (
       i.0 ++ p.0 ++ m.0,

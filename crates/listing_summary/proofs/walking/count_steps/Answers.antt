@@ -1,5 +1,5 @@
 use Rattle.listing_summary.proofs.Common.{rules, ◌≡◌, ◌∙◌, ap, arith, subst, sym, List, All, length, Bound, IsHead, times_left, with_heads, EndsAt, Summary}
-use Rattle.listing_summary.proofs.Common.{stepped, cell_count}
+use Rattle.listing_summary.proofs.Common.{with_step, cell_count}
 use Rattle.model_types.specs.declared.time_steps.TimeStep.{TimeStep}
 use Rattle.listing_summary.proofs.Counts.{all_counted_to_end, none_counted, one_more_counted}
 use Rattle.listing_summary.proofs.walking.count_steps.Goals as goal
@@ -27,7 +27,7 @@ pub loop-summary-preserved-in-Ok : goal.loop-summary-preserved-in-Ok
 loop-summary-preserved-in-Ok g c =
     let next = c.in-Ok.ensures.next in
     let whole : length c.heads.result.now ≡ cell_count c.args.task.now.decks.first.grid = ap (λ (hs : List Bound). length hs) c.heads.ensures ∙ next.grid.whole in
-    let S : List Bound → Type 0 = λ hs. c.count_step.new.self ≡ stepped c.args.task.now.decks.first c.loop-summary.summary hs in
+    let S : List Bound → Type 0 = λ hs. c.count_step.new.self ≡ with_step c.args.task.now.decks.first c.loop-summary.summary hs in
     record {
       ready = c.next.ensures.ready;
       rounds = c.next.ensures.rounds ∙ c.loop-summary.invariant.rounds;

@@ -1,10 +1,10 @@
-use Rattle.lpf_package.proofs.Common.{◌≡◌, ℕ, ◌-◌, [], LinesMay, layer_at, FileSet, counted}
+use Rattle.lpf_package.proofs.Common.{◌≡◌, ℕ, ◌-◌, [], LinesMay, layer_at, FileSet, each_number}
 use Rattle.std.specs.Prelude.{List}
 use Rattle.lpf_package.proofs.settings.layers_of.Given as goal
 
 abbrev pub invariant-loop-k : goal.invariant-loop-k
 invariant-loop-k g l =
-    ((files : FileSet) → g.F.Folder.agrees l.folder files → counted (layer_at files l.file l.grid l.chani l.stores) l.k (l.count - l.k) (l.properties, l.lines)
-    ≡ counted (layer_at files l.file l.grid l.chani l.stores) 0 l.count (record { hk = []; hani = []; vka = []; ss = []; vkcb = [] }, l.fn.lines))
+    ((files : FileSet) → g.F.Folder.agrees l.folder files → each_number (layer_at files l.file l.grid l.chani l.stores) l.k (l.count - l.k) (l.properties, l.lines)
+    ≡ each_number (layer_at files l.file l.grid l.chani l.stores) 0 l.count (record { hk = []; hani = []; vka = []; ss = []; vkcb = [] }, l.fn.lines))
     × ((files : FileSet) → g.F.Folder.agrees l.folder files → g.F.Folder.agrees l.fn.folder files) × (g.F.Folder.faults l.folder ≡ g.F.Folder.faults l.fn.folder)
     × ((name : List ℕ) → g.F.Folder.may l.fn.folder name → g.F.Folder.may l.folder name) × LinesMay (g.F.Folder.may l.folder) l.lines

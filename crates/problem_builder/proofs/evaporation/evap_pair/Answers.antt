@@ -1,5 +1,5 @@
 use Rattle.problem_builder.proofs.Common.{◌-ℤ◌, ◌∙◌, ap, arith, ints, rules, subst, sym, size, Bound, EvapSource, evap_formula, FitsSigned, to_z-of_z, w64}
-use Rattle.problem_builder.proofs.Common.{IsPositive, delr_positive, delc_positive, capped, small_pair}
+use Rattle.problem_builder.proofs.Common.{IsPositive, delr_positive, delc_positive, capped_pair, small_pair}
 use Rattle.problem_builder.proofs.Fits.{depth_is, extinctions, kept_pair}
 use Rattle.problem_builder.proofs.evaporation.evap_pair.Goals as goal
 
@@ -27,7 +27,7 @@ overflow_sub-result-2 c =
     omega (arith, ints, k.above, k.below, a, b)
 
 pub returns : goal.returns
-unfolding capped
+unfolding capped_pair
 returns c =
     let x : EvapSource = record { rate = c.args.rate; surface = c.args.surface; depth = c.args.depth } in
     let (low, high) = extinctions x c.requires.source in

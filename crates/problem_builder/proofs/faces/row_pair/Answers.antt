@@ -1,9 +1,9 @@
-use Rattle.problem_builder.proofs.Common.{ap, ◌∙◌, capped, small_pair, ◌+◌, sym, subst, Row, stride, thickness, IsPositive, row_of, delc_positive}
+use Rattle.problem_builder.proofs.Common.{ap, ◌∙◌, capped_pair, small_pair, ◌+◌, sym, subst, Row, stride, thickness, IsPositive, row_of, delc_positive}
 use Rattle.problem_builder.proofs.Fits.{kept_pair}
 use Rattle.problem_builder.proofs.faces.row_pair.Goals as goal
 
 pub returns : goal.returns
-unfolding capped
+unfolding capped_pair
 returns c =
     let m = c.args.model.now in
     let a = c.args.first in

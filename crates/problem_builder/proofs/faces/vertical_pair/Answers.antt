@@ -1,4 +1,4 @@
-use Rattle.problem_builder.proofs.Common.{capped, small_pair, ◌≡◌, ◌+◌, ap, sym, subst, arith, ◌∙◌, IsBed, vertical_of, layer_size, dec_at, thickness}
+use Rattle.problem_builder.proofs.Common.{capped_pair, small_pair, ◌≡◌, ◌+◌, ap, sym, subst, arith, ◌∙◌, IsBed, vertical_of, layer_size, dec_at, thickness}
 use Rattle.problem_builder.proofs.Common.{bed_thickness, vkcb_at, IsPositive, span_in, layer_half, layered, delr_positive, delc_positive}
 use Rattle.conductance_bounds.specs.declared.vertical.Bed.{Bed}
 use Rattle.problem_builder.proofs.Halves.{bed_tests, bed_fits}
@@ -6,7 +6,7 @@ use Rattle.problem_builder.proofs.Fits.{kept_pair}
 use Rattle.problem_builder.proofs.faces.vertical_pair.Goals as goal
 
 pub returns : goal.returns
-unfolding capped
+unfolding capped_pair
 returns c =
     let m = c.args.model.now in
     let a = c.args.first in

@@ -32,6 +32,6 @@ returns-in-None c =
     let m = c.args.model.now in
     let are = c.requires.period.1 in
     let e = c.in-None.ensures ∙ are.given.each c.args.cell c.requires.cell in
-    c.kept_at.ensures ∙ are.kept.each c.args.cell c.requires.cell
+    c.kept_pair_at.ensures ∙ are.kept.each c.args.cell c.requires.cell
     ∙ ap (λ b. cond b (kept_bound m c.args.cell (last_given (take (c.args.at.period - 1) m.periods) c.args.cell)) no_bound) (constant_active m c.args.at.period c.args.cell c.requires.constant)
     ∙ ap (given_or_kept m c.args.at c.args.cell) e

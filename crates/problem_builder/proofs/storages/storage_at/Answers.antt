@@ -1,4 +1,4 @@
-use Rattle.problem_builder.proofs.Common.{capped, small_pair, thick_span, ◌≡◌, ◌-◌, cond, Option, Some, None, sym, ap, ◌∙◌, subst, size, Period, dec_at}
+use Rattle.problem_builder.proofs.Common.{capped_pair, small_pair, thick_span, ◌≡◌, ◌-◌, cond, Option, Some, None, sym, ap, ◌∙◌, subst, size, Period, dec_at}
 use Rattle.problem_builder.proofs.Common.{thickness, IsPositive, IsNotNegative, period_at, storage_of, storage_formula, storativity_term, storage_term}
 use Rattle.problem_builder.proofs.Common.{area_term, sum_term, power_term, span_in, delr_positive, delc_positive}
 use Rattle.scaled_decimal.specs.declared.decimal.Sd.{Sd}
@@ -34,7 +34,7 @@ storage_branch-requires-clause-perlen c =
     subst P (sym c.stress_period-period.ensures) ((period_valid c.args.model.now c.args.number c.requires.model c.requires.number).times.lasts c.requires.transient)
 
 pub returns : goal.returns
-unfolding capped
+unfolding capped_pair
 returns c n grown =
     let m = c.args.model.now in
     let d = c.args.cell in

@@ -1,4 +1,4 @@
-use Rattle.step_chain.proofs.Common.{List, subst, sym, Bound, Edges, IsCertificate, lower_at, upper_at, IsBarrier, IsGiven, clamped, Wide, IsRangeRefusal}
+use Rattle.step_chain.proofs.Common.{List, subst, sym, Bound, Edges, IsCertificate, lower_at, upper_at, IsBarrier, IsGiven, clamped_edges, Wide, IsRangeRefusal}
 use Rattle.step_chain.proofs.Limits.{edges_fit, certifies_clamped, is_pair, settled_refused}
 use Rattle.step_chain.proofs.solved.settle_cut.Goals as goal
 
@@ -10,7 +10,7 @@ settle-requires-clause-barrier g c =
 pub range_refusal-requires-clause-settled : goal.range_refusal-requires-clause-settled
 range_refusal-requires-clause-settled g c =
     let G : Edges → Type 0 = λ e. IsGiven c.args.p.now g.S.Settler.pairs e c.in_ok-bounds.bounds.items in
-    let C : List Bound → Type 0 = λ v. IsCertificate c.args.p.now (clamped c.args.cut.now) (lower_at v) (upper_at v) in
+    let C : List Bound → Type 0 = λ v. IsCertificate c.args.p.now (clamped_edges c.args.cut.now) (lower_at v) (upper_at v) in
     subst C (sym c.as_slice.ensures.value) (certifies_clamped c.args.p.now c.args.cut.now c.in_ok-bounds.bounds.items c.recall_conditions.ensures.fits c.requires.barrier g.S.Settler.pairs (subst G c.in_ok-edges.ensures c.in_ok-bounds.ensures.settles))
 
 pub returns-in-Some-clause-fault : goal.returns-in-Some-clause-fault

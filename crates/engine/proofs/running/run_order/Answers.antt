@@ -1,0 +1,58 @@
+use Rattle.engine.proofs.Common.{Err, None, ap, refl, subst, ReadsNothing, wanting_not_ok}
+use Rattle.engine.proofs.Ends.{ends_usage, ends_without_words, puts_more}
+use Rattle.engine.proofs.Beside.{not_ok, of_order, without_views}
+use Rattle.engine.proofs.BatchEnds.{may_do, order_read}
+use Rattle.engine.proofs.running.run_order.Goals as goal
+
+pub returns-in-Err-Usage-clause-answers : goal.returns-in-Err-Usage-clause-answers
+returns-in-Err-Usage-clause-answers g c = λ one is.
+    puts_more g.K.Sink.leads c.put_last-in-Err-Usage.ensures (λ more m files agree. without_views files one None
+    (((g.met.W.Sink g.world.𝓛 g.world.𝓜 g.world.𝓡 ((λ s x. x), (λ x. x), (λ x. x), λ x. x))).rests c.args.side.now) (is.1 (rw c.in-Err-Usage.is (ap Err (rw c.in-Err-Usage.is at c.in-Err-Usage.field-0-is)))) refl (ends_usage m))
+
+pub returns-in-Batch-clause-answers : goal.returns-in-Batch-clause-answers
+returns-in-Batch-clause-answers g c = λ one is.
+    puts_more g.K.Sink.leads c.put_last.ensures (λ more m files agree. without_views files one None
+    (((g.met.W.Sink g.world.𝓛 g.world.𝓜 g.world.𝓡 ((λ s x. x), (λ x. x), (λ x. x), λ x. x))).rests c.args.side.now) (order_read one c.args.read _ _ is.0 c.in-Ok.is c.in-Batch.is) refl (ends_usage m))
+
+pub returns-in-Err-Memory-clause-answers : goal.returns-in-Err-Memory-clause-answers
+returns-in-Err-Memory-clause-answers g c = λ one is. puts_more g.K.Sink.leads c.put_memory.ensures (λ more m files agree. not_ok _ _ (((g.met.W.Sink g.world.𝓛 g.world.𝓜 g.world.𝓡 ((λ s x. x), (λ x. x), (λ x. x), λ x. x))).rests c.args.side.now) (ends_without_words m) (wanting_not_ok _ more m))
+
+pub returns-in-Run-clause-answers : goal.returns-in-Run-clause-answers
+returns-in-Run-clause-answers g c = λ one is.
+    puts_more g.K.Sink.leads c.run_listing.ensures.answers (λ more m files agree. of_order files one _ (order_read one c.args.read _ _ is.0 c.in-Ok.is c.in-Run.is) (m files agree))
+
+pub returns-in-Make-clause-answers : goal.returns-in-Make-clause-answers
+returns-in-Make-clause-answers g c = λ one is.
+    puts_more g.K.Sink.leads c.put_made.ensures (λ more m files agree. without_views files one _
+    (((g.met.W.Sink g.world.𝓛 g.world.𝓜 g.world.𝓡 ((λ s x. x), (λ x. x), (λ x. x), λ x. x))).rests c.args.side.now) (order_read one c.args.read _ _ is.0 c.in-Ok.is c.in-Make.is) refl (m (g.F.Folder.faults c.args.folder.now)))
+
+pub returns-in-Check-clause-answers : goal.returns-in-Check-clause-answers
+returns-in-Check-clause-answers g c = λ one is.
+    puts_more g.K.Sink.leads c.check.ensures.answers (λ more m files agree. without_views files one _
+    (((g.met.W.Sink g.world.𝓛 g.world.𝓜 g.world.𝓡 ((λ s x. x), (λ x. x), (λ x. x), λ x. x))).rests c.args.side.now) (order_read one c.args.read _ _ is.0 c.in-Ok.is c.in-Check.is) refl (m files agree))
+
+pub returns-in-Write-clause-answers : goal.returns-in-Write-clause-answers
+returns-in-Write-clause-answers g c = λ one is.
+    puts_more g.K.Sink.leads c.write.ensures.answers (λ more m files agree. without_views files one _
+    (((g.met.W.Sink g.world.𝓛 g.world.𝓜 g.world.𝓡 ((λ s x. x), (λ x. x), (λ x. x), λ x. x))).rests c.args.side.now) (order_read one c.args.read _ _ is.0 c.in-Ok.is c.in-Write.is) refl (m files agree))
+
+pub returns-in-Run-clause-unasked : goal.returns-in-Run-clause-unasked
+returns-in-Run-clause-unasked g c = λ one is nothing. absurd (subst ReadsNothing (order_read one c.args.read _ _ is.0 c.in-Ok.is c.in-Run.is) nothing)
+
+pub returns-in-Check-clause-unasked : goal.returns-in-Check-clause-unasked
+returns-in-Check-clause-unasked g c = λ one is nothing. absurd (subst ReadsNothing (order_read one c.args.read _ _ is.0 c.in-Ok.is c.in-Check.is) nothing)
+
+pub returns-in-Write-clause-unasked : goal.returns-in-Write-clause-unasked
+returns-in-Write-clause-unasked g c = λ one is nothing. absurd (subst ReadsNothing (order_read one c.args.read _ _ is.0 c.in-Ok.is c.in-Write.is) nothing)
+
+pub run_listing-requires-clause-may : goal.run_listing-requires-clause-may
+run_listing-requires-clause-may g c = λ κs outlives. may_do (g.F.Folder.may c.args.folder.now) c.args.read _ _ c.requires.may c.in-Ok.is c.in-Run.is
+
+pub check-requires-clause-may : goal.check-requires-clause-may
+check-requires-clause-may g c = (may_do (g.F.Folder.may c.args.folder.now) c.args.read _ _ c.requires.may c.in-Ok.is c.in-Check.is).0
+
+pub check-requires-clause-listing : goal.check-requires-clause-listing
+check-requires-clause-listing g c = (may_do (g.F.Folder.may c.args.folder.now) c.args.read _ _ c.requires.may c.in-Ok.is c.in-Check.is).1
+
+pub write-requires : goal.write-requires
+write-requires g c = record { name = may_do (g.F.Folder.may c.args.folder.now) c.args.read _ _ c.requires.may c.in-Ok.is c.in-Write.is }
