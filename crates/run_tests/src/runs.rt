@@ -1,4 +1,7 @@
 // Runs, and what they put.
+ghost use Rattle.std.specs.Prelude.{IfOk, map, ◌≡◌};
+ghost use Rattle.engine.specs.{bytes_asked};
+
 use crate::bench::{Bench, text_of};
 use crate::gates::{Meeting, MeetingSink};
 use crate::views::{head_of, heads_of};
@@ -60,6 +63,16 @@ fn push_passes(page: &mut Page, passes: u64, most: u64) {
     }
 }
 
+// How many bytes of a file the words let be read.
+fn limit_asked(alloc: Global, words: &[&str]) -> Result<u64, AllocError>
+    ensures { IfOk result (λ n. n ≡ bytes_asked (map (λ w. w.now) words.entry.now)) }
+{
+    let asked = files_asked(alloc, words)?;
+    let limit = asked.limit;
+    drop(asked);
+    Ok(limit)
+}
+
 impl<R: Threads + Wait + Sync> Asked<'_, R> {
     // The put that lacks memory, if this is the question; else 0.
     fn lacking(&self, question: &str) -> u64 {
@@ -79,8 +92,7 @@ impl<R: Threads + Wait + Sync> Asked<'_, R> {
         side: &'s mut MemSink,
         meeting: &'s Meeting,
     ) -> Result<u8, AllocError> {
-        let asked = files_asked(alloc, self.words)?;
-        folder.set_limit(asked.limit);
+        folder.set_limit(limit_asked(alloc, self.words)?);
         let mut kept = MeetingSink::new(out, meeting, self.lacking("@shake_hands"));
         let mut shown = MeetingSink::new(side, meeting, self.lacking("@lack"));
         let code = serve(
