@@ -401,8 +401,8 @@ class Step:
         for cell, head in sorted(self.constant.items()):
             top = most.constant[cell]
             if listing.lower[cell] > head or listing.upper[cell] < top:
-                side, known = ("LOW", head) if listing.lower[cell] > head else ("HIGH", top)
-                wrong = f"the constant head {float(known)} isn't in its pair"
+                side, given = ("LOW", head) if listing.lower[cell] > head else ("HIGH", top)
+                wrong = f"the constant head {float(given)} isn't in its pair"
                 raise Fault(f"{self.name} {self.place[cell]} {side}: {wrong}")
             listing.lower[cell], listing.upper[cell] = head, top
         barriers: dict[str, dict[int, Fraction]] = {}
@@ -417,8 +417,8 @@ class Step:
                         wrong = f"the balance has the wrong sign, by {float(abs(balance)):.3g}"
                         raise Fault(f"{self.name} {self.place[cell]} {side}: {wrong}")
         for group in self.groups():
-            known = [branch for cell in group for branch in self.branches[cell] if branch.low is None]
-            if all(branch.conductance <= 0 for branch in known) and sum(self.deep[cell] for cell in group) <= 0:
+            holding = [branch for cell in group for branch in self.branches[cell] if branch.low is None]
+            if all(branch.conductance <= 0 for branch in holding) and sum(self.deep[cell] for cell in group) <= 0:
                 raise Fault(f"{self.name} {self.place[group[0]]}: nothing holds the group of this cell")
 
     def check_flows(self, most: "Step", listing: Listing, low: Values, high: Values, faces: Faces) -> None:
