@@ -1,11 +1,11 @@
-"""scripts/progress: what it prints of a stream of views. heads-tools run: what it shows of a slow step."""
+"""tests/progress: what it prints of a stream of views. heads-tools run: what it shows of a slow step."""
 import subprocess
 import sys
 
 import pytest
 from conftest import TOP
 
-PROGRESS = TOP / "scripts" / "progress"
+PROGRESS = TOP / "tests" / "progress"
 
 FIRST = ["WATCH 1 1", "HEAD 1 1 2 0.000000000 10.000000000", "HEAD 1 1 3 2.500000000 10.000000000"]
 SECOND = ["WATCH 1 1", "HEAD 1 1 2 3.333333333 3.333333334", "HEAD 1 1 3 6.000000000 6.666666667"]

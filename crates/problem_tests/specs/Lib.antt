@@ -1,2 +1,0 @@
-pub mod Actors
-pub use Rattle.problem_tests.specs.Actors.{IsShown}
