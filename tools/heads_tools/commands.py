@@ -49,10 +49,12 @@ def flags_of(args: argparse.Namespace) -> list[str]:
 
 
 def do_run(args: argparse.Namespace, options: list[str]) -> int:
+    from .below_top import lines_below_top
     from .explain import explain
     from .follow import MOST_WATCHED
     from .inside import careful
     from .limits import is_wide
+    from .listing import read_listing
     from .made_by import made_by
     from .program import digits_of, run, summary, with_wide
     from .spans import second_deck, target_of
@@ -82,6 +84,8 @@ def do_run(args: argparse.Namespace, options: list[str]) -> int:
         ended = run(nam, [*options, *given], out, steps, is_followed=is_followed)
     meaning = explain(ended.last, nam.parent, digits, ended.steps > 0)
     if meaning.is_good:
+        for line in lines_below_top(nam, read_listing(out)):
+            print(f"CAREFUL: {line}", file=sys.stderr)
         say(
             [
                 *meaning.lines,

@@ -2,18 +2,20 @@
 from __future__ import annotations
 
 import os
+import re
 import shlex
 import shutil
 import subprocess
 import sys
 import tempfile
 import time
-from dataclasses import dataclass, field
+from dataclasses import dataclass, field, replace
 from html import escape
 from pathlib import Path
 from string import Template
 
 from . import __version__
+from .below_top import ALL_FULL, BelowTop
 from .deck import KINDS
 from .explain import explain
 from .limits import is_wide, limits_of, wide_words
@@ -21,13 +23,14 @@ from .listing import read_listing
 from .look import look, title_of
 from .model import Model, read_model
 from .packages import read_deck
+from .page import bare, shown
 from .made_by import is_quick, keep_words, kind_of
 from .program import TOP, Ended, Version, beside, digits_of, files_of, version
 from .spans import target_of, what_differs
 from .spelling import quoted_words
 from .text import Problem, on_disk, read_text, sha256, whole_file, words
 from .verdict import Verdict, has_zones, program_file
-from .what_is_said import Words, words_of
+from .what_is_said import NOT_THE_MOST, Words, words_of
 from .zones import read_zones
 
 ONE_SPELLING = (
@@ -35,19 +38,23 @@ ONE_SPELLING = (
     "puts it. It is proved that its files are read as that model: whoever reads them item by item beside MODFLOW's "
     "input instructions need not believe how `heads` reads the spelling of the deck."
 )
+NO_CERTIFIED = "Nothing may be said of it: there is no certified listing."
 NOTHING = "Nothing may be said of this model's heads from this run."
 MOST_RECHECK_HEADS = 200_000
 
 
 @dataclass
 class Exhibit:
-    """What an exhibit says. `may`: what may be said; `words`: the sentences of its listing; `commands`: what was run
-    and can be run again, each as it stands in the exhibit's own folder; `facts`: name and text."""
+    """What an exhibit says. `may`: what may be said; `words`: the sentences of its listing; `tops`: what its heads say
+    of the tops of their cells, and `maps` the pictures of it; `commands`: what was run and can be run again, each as
+    it stands in the exhibit's own folder; `facts`: name and text."""
 
     title: str
     verdict: str = NOTHING
     may: list[str] = field(default_factory=list)
     words: Words = field(default_factory=Words)
+    tops: list[str] = field(default_factory=lambda: [NO_CERTIFIED])
+    maps: list[str] = field(default_factory=list)
     commands: list[str] = field(default_factory=list)
     facts: list[tuple[str, str]] = field(default_factory=list)
 
@@ -57,24 +64,27 @@ class Exhibit:
         lines += ["What may be said:", *(f"  {line}" for line in self.may or [NOTHING]), ""]
         may_not = [*self.words.may_not, f"({self.words.why_not})"]
         lines += ["What may not be said:", *(f"  {line}" for line in may_not), ""]
+        lines += ["Whether the layers are full:", *(f"  {line}" for line in self.tops), ""]
         lines += ["To test it, in this folder:", *(f"    {line}" for line in self.commands), ""]
-        lines += ["What was run:", *(f"  {name:<10}{text}" for name, text in self.facts)]
+        lines += ["What was run:", *(f"  {name:<13}{text}" for name, text in self.facts)]
         return "\n".join(lines) + "\n"
 
     def page(self) -> str:
         """judge.html."""
         frame = Template(Path(__file__).with_name("judge.html").read_text(encoding="utf-8"))
-        quote = lambda line, kind: f'<blockquote class="{kind}">{escape(line)}</blockquote>'
+        quote = lambda line, kind: f'<blockquote class="{kind}">{shown(line)}</blockquote>'
+        maps = (f'<p><img src="{escape(name)}" alt="cells whose heads lie below their tops"></p>' for name in self.maps)
         return frame.substitute(
-            title=escape(self.title),
-            verdict=escape(self.verdict),
+            title=bare(self.title),
+            verdict=shown(self.verdict),
             may="\n".join(quote(line, "may") for line in self.may or [NOTHING]),
             may_not="\n".join(quote(line, "not") for line in self.words.may_not)
-            + f"\n<p>{escape(self.words.why_not)}</p>",
-            proved=escape(self.words.proved),
-            tests=escape(self.words.tests),
+            + f"\n<p>{shown(self.words.why_not)}</p>",
+            tops="\n".join([*(f"<p>{shown(line)}</p>" for line in self.tops), *maps]),
+            proved=shown(self.words.proved),
+            tests=shown(self.words.tests),
             commands=escape("\n".join(self.commands)),
-            facts="".join(f"<dt>{escape(name)}</dt><dd>{escape(text)}</dd>" for name, text in self.facts),
+            facts="".join(f"<dt>{shown(name)}</dt><dd>{shown(text)}</dd>" for name, text in self.facts),
         )
 
 
@@ -153,6 +163,7 @@ def add_verdicts(told: Exhibit, folder: Path, name: str, listing: str, options: 
     told.words = words_of(read, model.length, differing(folder / "deck", name, to), wells_of(model))
     if verdict.is_certified and known.is_recorded is not False:
         told.may = told.words.may
+        add_tops(told, BelowTop(model.deck, read))
         if known.is_recorded is None:
             told.verdict += (
                 " No record of this program's bytes stands beside it: whether it is the proved one has to be shown."
@@ -161,7 +172,15 @@ def add_verdicts(told: Exhibit, folder: Path, name: str, listing: str, options: 
     if named and has_zones(read):
         numbers = read_zones(on_disk(deck, named[0]), deck / name, model.shape)
     look(read, folder / "look", model, verdict=verdict, zones=numbers)
+    told.maps = sorted(str(path.relative_to(folder)) for path in (folder / "look").glob("below_top_layer*.png"))
     return checked.status
+
+
+def add_tops(told: Exhibit, tops: BelowTop) -> None:
+    """Whether each layer is full, as the model takes it; where one isn't, what may not be said then."""
+    told.tops = tops.sentences() or [ALL_FULL]
+    if any(layer.below for layer in tops.layers):
+        told.words = replace(told.words, may_not=[*told.words.may_not, NOT_THE_MOST])
 
 
 def add_written(told: Exhibit, folder: Path, name: str, listing: str, options: list[str]) -> None:
@@ -290,15 +309,23 @@ def copy_program(binary: Path, folder: Path) -> None:
 
 
 def program_facts(known: Version) -> list[tuple[str, str]]:
-    facts = [("program", line.strip()) for line in known.lines]
-    return (
-        facts
-        + commit_facts()
-        + [
-            ("tools", f"heads-tools {__version__}, Python {sys.version.split()[0]} (not proved)"),
-            ("made", time.strftime("%Y-%m-%d %H:%M:%S UTC by this machine's clock", time.gmtime())),
-        ]
-    )
+    return [
+        ("program", "the file heads in this folder"),
+        *(fact for line in known.lines if (fact := program_fact(line.strip()))),
+        *commit_facts(),
+        ("tools", f"heads-tools {__version__}, Python {sys.version.split()[0]} (not proved)"),
+        ("made", time.strftime("%Y-%m-%d %H:%M:%S UTC by this machine's clock", time.gmtime())),
+    ]
+
+
+def program_fact(line: str) -> tuple[str, str] | None:
+    """A line on the program under a name of its own, without the folders of the machine; none for where it lay."""
+    word, _, rest = line.partition(" ")
+    if word in ("program", "which"):
+        return None
+    if word in ("sha256", "sources", "kit"):
+        return f"its {word}", rest.strip()
+    return "checkout" if "checkout" in line else "its record", re.sub(r"/\S*/", "", line)
 
 
 def commit_facts() -> list[tuple[str, str]]:

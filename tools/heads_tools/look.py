@@ -9,6 +9,7 @@ from .listing import Listing
 from .look_flows import Flows
 from .look_others import Others
 from .look_sections import Sections
+from .look_tops import Tops
 from .looking import title_of
 from .model import Model
 from .page import write_page
@@ -21,7 +22,7 @@ __all__ = ["Look", "look", "look_at_given", "title_of"]
 MOST_STEPS = 400
 
 
-class Look(Sections, Flows, Others):
+class Look(Sections, Tops, Flows, Others):
     """All parts of the page of a listing."""
 
 
@@ -51,6 +52,7 @@ def look(
         )
     last = listing.steps[-1]
     it.add_steps(listing.steps if is_every else [last])
+    it.add_below_top()
     it.add_sections(last, *(cells[0][1:] if cells else it.place[1:]))
     it.add_hydrographs(list(cells))
     it.add_budget()
@@ -79,7 +81,7 @@ def make_folder(folder: Path) -> None:
 
 def finish(it: Look) -> list[str]:
     it.draw()
-    write_tables(it.listing, it.folder, it.model.times if it.model else None)
+    it.page.files = write_tables(it.listing, it.folder, it.model.times if it.model else None)
     it.tell_facts()
     write_page(it.page, it.folder)
     told = [it.made_by] if it.made_by else []

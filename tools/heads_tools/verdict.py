@@ -132,6 +132,6 @@ def program_file() -> Path:
 
 
 def program_name() -> str:
-    """The program by its path and hash."""
+    """The program by its name and hash: a page says nothing of its maker's folders."""
     path = program_file()
-    return f"{path}, sha256 {sha256(path)}"
+    return f"{path.name}, sha256 {sha256(path)}"
