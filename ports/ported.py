@@ -12,12 +12,14 @@ READS, CODE, WRITES = 4, 1, 2
 
 @dataclass(frozen=True)
 class Piece:
-    """A section: its name, its address, its bytes, and its protection as a sum of READS, WRITES and CODE."""
+    """A section: its name, its address, its bytes, its protection as a sum of READS, WRITES and CODE, and where in the
+    file it begins."""
 
     name: str
     address: int
     body: bytes
     protection: int
+    offset: int
 
     def holds(self, address: int) -> bool:
         return self.address <= address < self.address + len(self.body)
@@ -25,19 +27,23 @@ class Piece:
 
 @dataclass(frozen=True)
 class Ported:
-    """The pieces of a port, and the addresses of the words that are moved with the whole where it is moved."""
+    """The pieces of a port, and the addresses of the words that are set anew where the whole is moved, each with the place
+    of its entry in the table that says so."""
 
     pieces: list[Piece]
-    moved: frozenset[int]
+    moved: dict[int, int]
     can_move: bool
 
 
 def read_port(path: Path) -> Ported:
-    start = path.open("rb").read(4)
-    if start[:2] == b"MZ":
-        return read_windows(path.read_bytes())
-    if start == b"\x7fELF":
-        return read_linux(Elf(path))
+    data = path.read_bytes()
+    try:
+        if data[:2] == b"MZ":
+            return read_windows(data)
+        if data[:4] == b"\x7fELF":
+            return read_linux(Elf(path))
+    except (struct.error, ValueError):
+        raise NotSo(f"{path} is cut or spoiled") from None
     raise NotSo(f"{path} is a program neither of Linux nor of Windows")
 
 
@@ -51,8 +57,8 @@ def read_linux(elf: Elf) -> Ported:
         if flags & 2:
             body = bytes(size) if kind == SHT_NOBITS else elf.bytes[offset : offset + size]
             protection = READS + WRITES * bool(flags & 1) + CODE * bool(flags & 4)
-            pieces.append(Piece(elf.section_name(section), address, body, protection))
-    return Ported(pieces, frozenset(), False)
+            pieces.append(Piece(elf.section_name(section), address, body, protection, offset))
+    return Ported(pieces, {}, False)
 
 
 def read_windows(data: bytes) -> Ported:
@@ -67,22 +73,24 @@ def read_windows(data: bytes) -> Ported:
         flags, = struct.unpack_from("<I", data, place + 36)
         body = data[offset : offset + min(size, kept)].ljust(size, b"\0")
         protection = READS * bool(flags >> 30 & 1) + WRITES * bool(flags >> 31) + CODE * bool(flags >> 29 & 1)
-        pieces.append(Piece(name.rstrip(b"\0").decode(), base + address, body, protection))
+        pieces.append(Piece(name.rstrip(b"\0").decode(), base + address, body, protection, offset))
     table = next((piece.body for piece in pieces if piece.name == ".reloc"), b"")
-    return Ported(pieces, frozenset(base + it for it in moved_words(table)), True)
+    return Ported(pieces, {base + it: at for it, at in moved_words(table).items()}, True)
 
 
-def moved_words(table: bytes) -> list[int]:
-    """The places that the table of base relocations names: of each page a head and two bytes a word."""
-    found, at = [], 0
+def moved_words(table: bytes) -> dict[int, int]:
+    """The words that the table of base relocations names, each with the place of its entry: of each page the table has a
+    head and two bytes a word."""
+    found, at = {}, 0
     while at + 8 <= len(table):
         page, size = struct.unpack_from("<II", table, at)
         if size < 8:
             break
-        for entry, in struct.iter_unpack("<H", table[at + 8 : at + size]):
+        for place in range(at + 8, at + size, 2):
+            entry, = struct.unpack_from("<H", table, place)
             kind = entry >> 12
             require(kind in (0, 10), f"a base relocation of kind {kind}")
             if kind:
-                found.append(page + (entry & 4095))
+                found[page + (entry & 4095)] = place
         at += size
     return found
