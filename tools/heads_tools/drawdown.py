@@ -14,8 +14,9 @@ from .listing import Listing, Step
 from .model import Model
 from .spans import demand_one
 from .tables import budget_of
-from .text import Problem, counted, decimal_text, down, up, whole_file
+from .text import Problem, counted, decimal_text, down, up
 from .verdict import UNCHECKED_ZONES, Verdict, check_listing, not_checked
+from .whole_files import whole_file
 
 Pair = tuple[int, int]
 Cell = tuple[int, int, int]
@@ -70,7 +71,8 @@ def changes_of(listing: Listing, base: Listing) -> Listing:
     """The changes of heads, listing less base, as a listing, for exports."""
     steps = [Step(c.period, c.step, c.low, c.high) for c in difference(listing, base)]
     end = listing.end if listing.end != "END" else base.end
-    return Listing(listing.path, listing.digits, listing.unit, steps, listing.cells, end, True)
+    digest = f"{listing.sha256} less {base.sha256}"
+    return Listing(listing.path, listing.digits, listing.unit, steps, listing.cells, end, True, sha256=digest)
 
 
 def nets(step: Step, scale: int) -> dict[str, Pair]:

@@ -13,6 +13,7 @@ from dataclasses import dataclass, field, replace
 from html import escape
 from pathlib import Path
 from string import Template
+from typing import IO
 
 from . import __version__
 from .below_top import ALL_FULL, BelowTop
@@ -25,12 +26,13 @@ from .model import Model, read_model
 from .packages import read_deck
 from .page import bare, shown
 from .made_by import is_quick, keep_words, kind_of
-from .program import TOP, Ended, Version, beside, digits_of, files_of, version
+from .program import TOP, Ended, Version, beside, digits_of, files_of, program_file, version
 from .spans import target_of, what_differs
 from .spelling import quoted_words
-from .text import Problem, on_disk, read_text, sha256, whole_file, words
-from .verdict import Verdict, has_zones, program_file
+from .text import Problem, on_disk, read_text, sha256, words
+from .verdict import Verdict, has_zones
 from .what_is_said import NOT_THE_MOST, Words, words_of
+from .whole_files import copy_whole, whole_file, why
 from .zones import read_zones
 
 ONE_SPELLING = (
@@ -88,13 +90,16 @@ class Exhibit:
         )
 
 
-def exhibit(nam: Path, folder: Path, options: list[str]) -> int:
+def exhibit(nam: Path, folder: Path, options: list[str], out: IO[str]) -> int:
     """Makes the exhibit of a model in a folder, whole or not at all; the run's status, or that of the check."""
     if folder.exists() and (not folder.is_dir() or any(folder.iterdir())):
         raise Problem(f"{folder} isn't an empty folder: an exhibit begins with one, or with none")
     binary, known = program_file(), version()
-    folder.parent.mkdir(parents=True, exist_ok=True)
-    made = Path(tempfile.mkdtemp(prefix=f".{folder.name}.", dir=folder.parent))
+    try:
+        folder.parent.mkdir(parents=True, exist_ok=True)
+        made = Path(tempfile.mkdtemp(prefix=f".{folder.name}.", dir=folder.parent))
+    except OSError as error:
+        raise why(error, folder) from None
     try:
         copy_deck(nam, made / "deck", options)
         copy_program(binary, made)
@@ -108,12 +113,15 @@ def exhibit(nam: Path, folder: Path, options: list[str]) -> int:
         if folder.exists():
             folder.rmdir()
         os.rename(made, folder)
-    except BaseException:
+    except BaseException as error:
         shutil.rmtree(made, ignore_errors=True)
+        if isinstance(error, Problem):
+            raise Problem(str(error).replace(str(made), str(folder))) from None
         raise
     print(
         told.text()
-        + f"\nwritten: {folder}. Note the sha256 of its SHA256SUMS elsewhere: {sha256(folder / 'SHA256SUMS')}"
+        + f"\nwritten: {folder}. Note the sha256 of its SHA256SUMS elsewhere: {sha256(folder / 'SHA256SUMS')}",
+        file=out,
     )
     return status
 
@@ -124,7 +132,7 @@ def fill(folder: Path, name: str, options: list[str], known: Version) -> tuple[i
     deck = f"cd deck && ../heads run {shlex.join([name, *options])}"
     ended = shell(folder, f"({deck}) > {shlex.quote(listing)}")
     ended.last = last_line(folder / listing)
-    meaning = explain(ended.last, folder / "deck", digits_of(options), is_part(folder / listing))
+    meaning = explain(ended.last, folder / "deck", digits_of(options), is_part(folder / listing), options)
     told = Exhibit(title_of(folder / "deck" / name), f"The run ended with status {ended.status}: {ended.last}")
     told.facts.append(("run", f"({deck}) > {listing}: status {ended.status}, last line {ended.last}"))
     status = ended.status
@@ -199,7 +207,8 @@ def add_written(told: Exhibit, folder: Path, name: str, listing: str, options: l
         return
     (folder / "written").mkdir()
     for file, content in files.items():
-        (folder / "written" / file).write_bytes(content)
+        with whole_file(folder / "written" / file, binary=True, is_own=True) as new:
+            new.write(content)
     copy_files(zone_files(folder / "deck", options), folder / "deck", folder / "written")
     run = f"cd written && ../heads run {shlex.join(['p.nam', *options])}"
     told.commands += [f"{write} | cmp - written.txt && echo SAME", *same_bytes(run, listing, options)]
@@ -293,19 +302,19 @@ def copy_files(names: list[str], source: Path, target: Path) -> None:
     for name in names:
         if on_disk(source, name).is_file():
             on_disk(target, name).parent.mkdir(parents=True, exist_ok=True)
-            shutil.copyfile(on_disk(source, name), on_disk(target, name))
+            copy_whole(on_disk(source, name), on_disk(target, name))
 
 
 def copy_program(binary: Path, folder: Path) -> None:
     """The program, the record of its sources, and recheck.py."""
-    shutil.copyfile(binary, folder / "heads")
+    copy_whole(binary, folder / "heads")
     (folder / "heads").chmod(0o755)
     record = binary.with_name(binary.name + ".txt")
     if record.is_file():
-        shutil.copyfile(record, folder / "heads.txt")
+        copy_whole(record, folder / "heads.txt")
     script = beside("recheck.py")
     if script:
-        shutil.copyfile(script, folder / "recheck.py")
+        copy_whole(script, folder / "recheck.py")
 
 
 def program_facts(known: Version) -> list[tuple[str, str]]:

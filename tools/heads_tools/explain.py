@@ -8,6 +8,7 @@ from pathlib import Path
 from .advice import NO_BOUNDS, NOT_ALIKE, ONLY_PRINT, OTHER_PACKAGES, OUT_OF_RANGE, REFUSALS, REMEDIES, UNKNOWN_PACKAGE
 from .deck import COLUMNS
 from .made_by import made_by
+from .option_faults import option_faults
 from .sources import odd_bytes
 from .spans import ALL_BETWEEN
 from .spelling import NUMBER
@@ -113,8 +114,10 @@ def explain_lines(lines: list[str], folder: Path, digits: int | None) -> Meaning
     return meaning
 
 
-def explain(last: str, folder: Path, digits: int = 12, has_steps: bool = False) -> Meaning:
-    """The meaning of a last line, of a run in a folder."""
+def explain(
+    last: str, folder: Path, digits: int = 12, has_steps: bool = False, options: list[str] | None = None
+) -> Meaning:
+    """The meaning of a last line, of a run in a folder with these options."""
     w = last.split()
     if not w:
         return Meaning(6, False, ["Nothing was written: a write failed (is the disk full?), or the run was stopped."])
@@ -131,7 +134,8 @@ def explain(last: str, folder: Path, digits: int = 12, has_steps: bool = False) 
     if w[0] in STATUSES:
         status, text, remedy = STATUSES[w[0]]
         parts = w[1:4] + [" ".join(w[4:])] if w[0] == "NOT" else w[1:] + ["?", "?"]
-        return Meaning(status, False, [text.format(*parts), f"  -> {remedy}"])
+        wrong = [f"     {fault}." for fault in option_faults(options or [])] if w[0] == "USAGE:" else []
+        return Meaning(status, False, [text.format(*parts), *wrong, f"  -> {remedy}"])
     return Meaning(
         6,
         False,

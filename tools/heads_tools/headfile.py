@@ -10,7 +10,8 @@ import numpy as np
 
 from .listing import Listing
 from .spans import demand_one
-from .text import Problem, read_text, whole_file
+from .text import Problem, read_text
+from .whole_files import whole_file
 
 Heads = dict[tuple[int, int], np.ndarray]
 ANY_STEP = (0, 0)

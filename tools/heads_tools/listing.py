@@ -2,6 +2,8 @@
 from __future__ import annotations
 
 import functools
+import hashlib
+import re
 from dataclasses import dataclass, field
 from pathlib import Path
 
@@ -39,7 +41,7 @@ class Step:
 class Listing:
     """A listing. `cells`: layer, row and column of each cell with flow, from 1, shape (cells, 3); `end`: its last
     line; `is_change`: its heads are those of one run less those of another (`changes_of` in drawdown.py); `is_span`: it
-    was made of two decks and holds for every deck between them."""
+    was made of two decks and holds for every deck between them; `sha256`: that of the bytes that were read."""
 
     path: Path
     digits: int
@@ -49,6 +51,7 @@ class Listing:
     end: str = ""
     is_change: bool = False
     is_span: bool = False
+    sha256: str = ""
 
     def __repr__(self) -> str:
         size = f"{counted(len(self.steps), 'step')} of {counted(len(self.cells), 'cell')}"
@@ -127,8 +130,14 @@ def head_floor(units: np.ndarray) -> np.ndarray:
 
 def read_listing(path: str | Path) -> Listing:
     """Reads a listing. One that ended early is read as far as its steps are whole; `end` is its last line."""
-    lines = read_text(Path(path)).split("\n")
+    text = read_text(Path(path))
+    lines = text.split("\n")
     first = lines[0].split()
+    if lines[0].endswith("\r"):
+        raise Problem(
+            f"{path}: its lines end with CR LF, so a mail program or an editor has changed it, and `heads check` refuses"
+            f" it (BadListing). Take the file as it was written, or take the CRs out: sed -i 's/\\r$//' {path}"
+        )
     if not lines[0].strip():
         raise Problem(f"{path} is empty: the write failed, or the run was stopped")
     if first[0] in NO_LISTING:
@@ -141,7 +150,8 @@ def read_listing(path: str | Path) -> Listing:
         or not (first[3] + first[5].lstrip("-")).isdigit()
     ):
         raise Problem(f"{path}, line 1: no listing of `heads` begins with {lines[0][:60]!r}")
-    listing = Listing(Path(path), int(first[3]), int(first[5]), is_span=is_span)
+    digest = hashlib.sha256(text.encode("latin-1")).hexdigest()
+    listing = Listing(Path(path), int(first[3]), int(first[5]), is_span=is_span, sha256=digest)
     starts = [n for n, line in enumerate(lines) if line.startswith("STEP ")]
     tail = next((n for n in range(len(lines) - 1, -1, -1) if lines[n].strip()), 0)
     listing.end = lines[tail].strip() if not lines[tail].startswith(("HEAD", "STEP", "IN ", "OUT ", "ZONE")) else ""
@@ -149,10 +159,10 @@ def read_listing(path: str | Path) -> Listing:
         is_last = begin == starts[-1]
         try:
             step, cells = _read_step(lines, begin, end, listing.flow_places)
-        except (ValueError, IndexError) as error:
+        except (ValueError, IndexError):
             if is_last and not listing.end:
                 break
-            raise Problem(f"{path}, line {_bad_line(lines, begin, end)}: not of a listing's form ({error})") from None
+            raise Problem(f"{path}, {_bad_line(lines, begin, end, listing.flow_places)}") from None
         if not listing.steps:
             listing.cells = cells
         elif len(step.low) != len(listing.cells) and is_last and not listing.end:
@@ -192,11 +202,26 @@ def _flow(word: str, places: int) -> int:
     return int(whole + part)
 
 
-def _bad_line(lines: list[str], begin: int, end: int) -> int:
-    """The number, from 1, of the first line of a step that isn't of any form of a listing's lines."""
-    for n in range(begin + 1, end):
-        w = lines[n].split()
-        size = {"HEAD": 6, "ZONE": 5}.get(w[0] if w else "", 0)
-        if not w or (size and len(w) != size) or w[0] not in ("HEAD", "IN", "OUT", "ZONE"):
-            return n + 1
-    return begin + 1
+def _bad_line(lines: list[str], begin: int, end: int, places: int) -> str:
+    """The first line of a step that isn't of any form of a listing's lines, by its number from 1, and what is wrong."""
+    flow = rf"-?\d+\.\d{{{places}}}" if places else r"-?\d+"
+    forms = {
+        "STEP": r"STEP( \d+){2}",
+        "HEAD": r"HEAD( \d+){3}( -?\d+\.\d{9}){2}",
+        "IN": rf"IN( {flow}){{2}} \S.*",
+        "OUT": rf"OUT( {flow}){{2}} \S.*",
+        "ZONE": rf"ZONE( \d+){{2}}( {flow}){{2}}",
+    }
+    for n in range(begin, end):
+        line = lines[n].rstrip()
+        if not line:
+            return f"line {n + 1}: it is empty, and a listing has no empty lines"
+        word = line.split()[0]
+        if word not in forms:
+            return f"line {n + 1}: no line of a step begins with `{word[:40]}`"
+        if not re.fullmatch(forms[word], line):
+            wrong = [w for w in line.split()[1:] if re.fullmatch(r"[+-]?(nan|inf(inity)?)", w.lower())]
+            return f"line {n + 1}: `{line[:80]}` isn't of the form of a line {word}" + (
+                f": `{wrong[0]}` is no number" if wrong else ""
+            )
+    return f"line {begin + 1}: the lines of this step aren't in the order of a listing"

@@ -63,7 +63,7 @@ class Looking:
         )
         self.page.is_good = True if self.verdict.is_certified else None if self.verdict.status is None else False
         self.page.rooms = {room: [] for room in ROOMS}
-        self.made_by = made_by(listing.path)
+        self.made_by = made_by(listing)
         self.album = Album(folder, has_svg)
         self.jobs: list[Callable[[], None]] = []
 

@@ -18,7 +18,8 @@ from .exports import Place
 from .listing import UNITS_IN_ONE, Listing, Step
 from .model import Model, exact_ends
 from .points import Point, Points
-from .text import Problem, decimal_text, whole_file
+from .text import Problem, decimal_text
+from .whole_files import whole_file
 
 HEADER = "name layer row col time lower upper measured measured_less_upper measured_less_lower cells".split()
 NEARLY = Fraction(1, 10**9)

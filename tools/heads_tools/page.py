@@ -7,7 +7,7 @@ from html import escape
 from pathlib import Path
 from string import Template
 
-from .text import whole_file
+from .whole_files import whole_file
 
 FRAME = Path(__file__).with_name("page.html")
 NOTE = (

@@ -9,8 +9,9 @@ from .drawdown_page import Plan, draw_plans, fall_pair
 from .explain import explain_output
 from .listing import Listing, read_listing
 from .model import read_model
-from .text import Problem, counted, whole_file
+from .text import Problem, counted
 from .verdict import Verdict
+from .whole_files import whole_file
 
 
 def compare_plans(path: Path, folder: Path, base_name: str | None, cells: list[Cell]) -> list[str]:

@@ -6,7 +6,8 @@ from pathlib import Path
 
 from .cell_lines import write_cells
 from .listing import Listing, Step
-from .text import decimal_text, whole_file
+from .text import decimal_text
+from .whole_files import whole_file
 
 
 @dataclass

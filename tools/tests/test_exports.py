@@ -158,11 +158,15 @@ def test_the_change_of_two_runs_is_exported_with_bounds(example, tool, tmp_path)
     plan, base = (heads_tools.run(nam.parent / name).listing for name in ("two_wells.nam", "no_well.nam"))
     words = "export", plan.path, tmp_path, "--name", nam.parent / "two_wells.nam", "--minus", base.path
     status, out, err = tool(*words)
-    assert status == 0 and out.count("written: ") == 4, out + err
+    assert status == 0 and out.count("written: ") == 4 and "--base-name" in out, out + err
+    with xarray.open_dataset(tmp_path / "change.nc") as data:
+        assert data.lower.attrs["comment"].startswith("Not checked")
+    status, out, err = tool(*words, "--base-name", nam.parent / "no_well.nam")
+    assert status == 0 and out.startswith("heads check: CERTIFIED, both listings."), out + err
     k, i, j = (plan.cells - 1).T
     with xarray.open_dataset(tmp_path / "change.nc") as data:
         lower, upper = (data[name].values[0, k, i, j] for name in ("lower", "upper"))
-        assert "less that of another" in data.lower.attrs["comment"]
+        assert "The change of each exact head lies between" in data.lower.attrs["comment"]
     for n in range(len(plan.cells)):
         low = Fraction(int(plan.steps[0].low[n] - base.steps[0].high[n]), 10**9)
         high = Fraction(int(plan.steps[0].high[n] - base.steps[0].low[n]), 10**9)
