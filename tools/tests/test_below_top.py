@@ -84,8 +84,8 @@ def test_the_steps_are_counted_with_the_worst_and_the_last(tmp_path):
     said = below_top(deck(tmp_path), listing(tmp_path, *steps)).sentences()
     assert said[0].startswith("In 3 of 3 cells of layer 1") and "at the end of some step" in said[0]
     assert said[1] == (
-        "Layer 1 has such cells at the end of 2 of 4 steps: most, 2, at the end of period 1 step 2, and 0 at the end of "
-        "the last one, period 1 step 4."
+        "Layer 1 has such cells at the end of 2 of 4 steps: most, 2, at the end of period 1 step 2, and 0 at the end "
+        "of the last one, period 1 step 4."
     )
 
 
