@@ -210,7 +210,7 @@ def zones() -> None:
         (Path(folder) / "m.heads").write_text(listed.stdout)
         listing = read_listing(Path(folder) / "m.heads")
     model = read_model(source / "m.nam")
-    entries = {kind: [e.cell for e in model.deck.lists[kind][0] or []] for kind in ("WEL", "RIV")}
+    entries = {kind: np.array([e.cell for e in model.deck.lists[kind][0] or []]) for kind in ("WEL", "RIV")}
     plan = plan_of(model.delr, model.delc, model.length, model.length, entries=entries)
     numbers = read_zones(source / "m.zon", source / "m.nam", model.shape)
     rate = f"{model.length}³ per {model.time}"
