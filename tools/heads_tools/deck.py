@@ -63,6 +63,11 @@ class Areal:
     line: int = 0
 
 
+def unread() -> Array:
+    """An array that wasn't read yet."""
+    return Array([], "0", (0, 0))
+
+
 @dataclass
 class Deck:
     """What the files of a name file say. Lists have, for each period, entries or None for 'as in the last one'."""
@@ -79,9 +84,9 @@ class Deck:
     itmuni: int = 0
     lenuni: int = 0
     laycbd: list[int] = field(default_factory=list)
-    delr: Array | None = None
-    delc: Array | None = None
-    top: Array | None = None
+    delr: Array = field(default_factory=unread)
+    delc: Array = field(default_factory=unread)
+    top: Array = field(default_factory=unread)
     bottom: list[Array] = field(default_factory=list)
     bed_bottom: dict[int, Array] = field(default_factory=dict)
     periods: list[Period] = field(default_factory=list)

@@ -7,6 +7,7 @@ import scipy.sparse
 
 from .deck import Entry
 from .model import Model, growth, value
+from .sources import Array
 
 TERMS = {
     "STORAGE": 0,
@@ -25,7 +26,7 @@ def given_heads(model: Model, period: int, before: Given) -> Given:
     """The cells that a CHD list has named so far, with the last entry of each; True where this period's list names
     it."""
     out = {cell: (entry, False) for cell, (entry, _) in before.items()}
-    lists = model.deck.lists.get("CHD")
+    lists = model.deck.lists.get("CHD", [])
     entries = lists[period] if lists else []
     if entries is None:
         entries = next(e for e in reversed(lists[:period]) if e is not None)
@@ -165,7 +166,8 @@ class Step:
         """The places and numbers of a list's entries in variable cells; a list of a period before where it is
         reused."""
         periods = self.model.deck.lists.get(kind, [])
-        entries = next((e for e in reversed(periods[: self.period + 1]) if e is not None), [])
+        none: list[Entry] = []
+        entries = next((e for e in reversed(periods[: self.period + 1]) if e is not None), none)
         width = {"WEL": 1, "RIV": 3, "DRN": 2, "GHB": 2}[kind]
         at = np.array([self.place[self.model.index(e.cell)] for e in entries], dtype=int)
         numbers = np.array([[value(w) for w in e.words] for e in entries]).reshape(len(entries), width)
@@ -178,7 +180,7 @@ class Step:
         width = 1 if kind == "RCH" else 3
         if areal is None:
             return np.zeros(0, int), np.zeros((0, width))
-        arrays = {}
+        arrays: dict[str, Array] = {}
         for _, new in areal.periods[: self.period + 1]:
             arrays |= new
         layers, active = np.zeros(m.shape[1:], int), m.ibound != 0

@@ -66,7 +66,10 @@ def asks_for_wide(last: str, folder: Path) -> bool:
     counts = whole_numbers(path, int(w[4]) if w[4].isdigit() else 0)
     if w[1] == "17":
         return bool(counts) and PLAIN.entries < counts[0] <= WIDE.entries
-    return len(counts) >= 3 and not PLAIN.has_room(tuple(counts[:3])) and WIDE.has_room(tuple(counts[:3]))
+    if len(counts) < 3:
+        return False
+    grid = counts[0], counts[1], counts[2]
+    return not PLAIN.has_room(grid) and WIDE.has_room(grid)
 
 
 def whole_numbers(path: Path, line: int) -> list[int]:

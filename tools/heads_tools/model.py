@@ -40,7 +40,8 @@ class Model:
 
     @property
     def shape(self) -> tuple[int, int, int]:
-        return self.thick.shape
+        layers, rows, columns = self.thick.shape
+        return layers, rows, columns
 
     @property
     def length(self) -> str:

@@ -3,13 +3,16 @@ each with the neighbour of its greatest conductance, twice; two rounds of conjug
 (Notay, An aggregation-based algebraic multigrid method, 2010)."""
 from __future__ import annotations
 
+from typing import Any, Callable
+
 import numpy as np
 import scipy.sparse
 import scipy.sparse.linalg
 
 MOST_COARSEST, MOST_LEVELS, PAIRINGS = 400, 20, 6
 DAMPING = 2 / 3
-Matrix = scipy.sparse.csr_matrix
+# A matrix of scipy.sparse, which has no types.
+Matrix = Any
 
 
 class Level:
@@ -18,6 +21,8 @@ class Level:
     def __init__(self, matrix: Matrix):
         self.matrix, self.scale = matrix, DAMPING / matrix.diagonal()
         self.coarse: Level | None = None
+        self.aggregate = np.zeros(0, int)
+        self.direct: Callable[[np.ndarray], np.ndarray]
 
     def correction(self, rest: np.ndarray) -> np.ndarray:
         """An approximate solution of matrix x = rest: a smoothing, a correction from the coarse grid, a smoothing."""

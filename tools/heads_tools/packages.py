@@ -79,6 +79,13 @@ class Reader:
         self.option_line = 0
         self.at: Source | None = None
 
+    @property
+    def now(self) -> Source:
+        """The file that is read."""
+        if self.at is None:
+            raise Problem("no file is read")
+        return self.at
+
     def refuse_text(self, kind: str, text: str) -> None:
         file = self.deck.files.get(kind, kind)
         here = self.at
@@ -90,18 +97,18 @@ class Reader:
             self.report.add("refusals", here.name if here else file, here.at if here else 0, text)
 
     def refuse(self, text: str) -> None:
-        self.report.add("refusals", self.at.name, self.at.at, text)
+        self.report.add("refusals", self.now.name, self.now.at, text)
 
     def need(self, text: str) -> None:
-        self.report.add("needed", self.at.name, self.at.at, text)
+        self.report.add("needed", self.now.name, self.now.at, text)
 
     def want_wide(self, faults: list[str]) -> None:
         """Notes what is within the wide limits alone."""
         if faults:
-            self.report.add("wide", self.at.name, self.at.at, "without --wide `heads` takes " + "; ".join(faults))
+            self.report.add("wide", self.now.name, self.now.at, "without --wide `heads` takes " + "; ".join(faults))
 
     def warn(self, text: str) -> None:
-        self.report.add("warnings", self.at.name, self.at.at, text)
+        self.report.add("warnings", self.now.name, self.now.at, text)
 
     def look_for_free_lists(self) -> None:
         """Where lists of a deck without FREE don't fit its columns: says first that FREE may have been left out."""
@@ -179,8 +186,8 @@ class Reader:
         name = self.deck.units.get(word)
         if name is None:
             raise Problem(f"unit {word} isn't in the name file")
-        if name == self.at.name:
-            return self.at
+        if name == self.now.name:
+            return self.now
         if name not in self.sources:
             self.sources[name] = self.open(name)
         return self.sources[name]
@@ -230,7 +237,7 @@ class Reader:
 
     def array(self, rows: int, cols: int, what: str, is_whole: bool = False) -> Array:
         """The next array of the file, `what` for people; `is_whole`: of whole numbers."""
-        source = self.at
+        source = self.now
         source.due = what
         record = source.line()
         begin = source.at
@@ -246,14 +253,14 @@ class Reader:
 
     def refuse_count(self, what: str, word: str, line: int) -> None:
         """Refuses a word where whole numbers are due."""
-        source = self.at
+        source = self.now
         self.report.due.setdefault(source.name, what)
         text = f"{what} has `{word}`, where a whole number is due (MODFLOW-2005 stops here, too)"
         self.report.add("refusals", source.name, line, text)
 
     def _array(self, line: str, rows: int, cols: int) -> Array:
         """The array whose record is this line."""
-        source, w = self.at, record_words(line)
+        source, w = self.now, record_words(line)
         kind, shape = w[0].upper(), (rows, cols)
         if "'" in line or '"' in line:
             self.need("quotes taken out of an array's record")
@@ -464,7 +471,8 @@ class Reader:
         return s.line()
 
     def entries(self, kind: str, count: int) -> list[Entry]:
-        source, factor, columns, out, due = self.at, "", len(COLUMNS[kind]), [], self.at.due
+        source, factor, columns, due = self.now, "", len(COLUMNS[kind]), self.now.due
+        out: list[Entry] = []
         while len(out) < count:
             source.due = f"{due}, entry {len(out) + 1} of {count}"
             line = source.line(on_blank="a blank line in a list: `heads` skips it, MODFLOW-2005 stops there")
@@ -489,7 +497,8 @@ class Reader:
             self.report.add(
                 "needed", source.name, source.at, "missing numbers of an entry written as 0, as MODFLOW-2005 reads them"
             )
-        cell = tuple(source.integer(x, "a layer, row or column") for x in w[:3])
+        layer, row, column = (source.integer(x, "a layer, row or column") for x in w[:3])
+        cell = layer, row, column
         if not all(1 <= x <= n for x, n in zip(cell, (deck.nlay, deck.nrow, deck.ncol))):
             self.report.add(
                 "refusals",

@@ -148,7 +148,8 @@ class Hob:
             times = [(name, reference, offset, measured)]
         else:
             self.line()
-            times = [tuple(self.line()[:4]) for _ in range(-int(reference))]
+            lines = [self.line()[:4] for _ in range(-int(reference))]
+            times = [(label, period, after, head) for label, period, after, head in lines]
         made, begin_of = self.points.made, lambda p: self.begins[period_of(p)]
         return [
             made(label, spots, begin_of(p) + exact_value(after) * multiplier, exact_value(head))

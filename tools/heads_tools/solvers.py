@@ -17,7 +17,8 @@ from .multigrid import multigrid
 DIRECT_FLAT, DIRECT_DEEP = 300_000, 12_000
 TOLERANCE, MOST_ROUNDS, MOST_SCALED = 1e-9, 600, 3000
 DEBIAN = "/usr/lib/petscdir/*/*-real/lib/python3/dist-packages"
-Matrix = scipy.sparse.csc_matrix
+# A matrix of scipy.sparse, which has no types.
+Matrix = Any
 
 
 def solved(matrix: Matrix, rest: np.ndarray, layers: int) -> np.ndarray:

@@ -5,6 +5,7 @@ from __future__ import annotations
 import re
 from dataclasses import dataclass, field
 from pathlib import Path, PureWindowsPath
+from typing import cast
 
 import numpy as np
 
@@ -215,7 +216,7 @@ class Source:
             found = quoted_words(line)
             known = list(map(self.known.get, found))
             if len(known) <= count - len(out) and None not in known:
-                out += known
+                out += cast("list[str]", known)
                 continue
             for word in found:
                 if len(out) >= count:
@@ -245,14 +246,17 @@ class Source:
 
     def fixed_values(self, count: int, text: str) -> list[str]:
         """The words of a list in columns of fixed width."""
-        fields, out = fortran(text), []
+        fields = fortran(text)
+        if fields is None:
+            raise Problem(f"the format {text} has no columns")
+        out: list[str] = []
         while len(out) < count:
             line = self.line(is_blank_taken=True)
             if "\t" in line and not self.has_tab:
                 self.has_tab = True
                 text = "a tab in columns of fixed width, here one letter: MODFLOW-2005 may count it otherwise"
                 self.report.add("warnings", self.name, self.at, text)
-            out += [self.number(fields.of(line, n)) for n in range(min(fields.count, count - len(out)))]
+            out += [self.number(fields.of(line, n)) for n in range(min(fields.repeats, count - len(out)))]
         return out
 
 

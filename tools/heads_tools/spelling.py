@@ -56,10 +56,15 @@ def number(word: str) -> Number:
         value = Context(prec=MOST_DIGITS).plus(value).normalize(EXACT) if digits > MOST_DIGITS else value
         text = f"{value:e}"
         change = f"`{word}` rounded to 18 digits: {text}" if digits > MOST_DIGITS else f"`{word}` written as {text}"
-    exponent = value.as_tuple().exponent if value else 0
+    exponent = exponent_of(value) if value else 0
     if not -40 <= exponent <= 40:
         raise Problem(f"`{word}`: the exponent lies outside -40 to 40")
     return Number(text, change, digits)
+
+
+def exponent_of(value: Decimal) -> int:
+    """The exponent of a number's last digit."""
+    return int(value.as_tuple().exponent)
 
 
 def scaled(word: str, power: int) -> str:
@@ -81,7 +86,7 @@ def product(a: str, b: str) -> Number:
 class Fields(NamedTuple):
     """A Fortran format of one repeated field: how many on a line, the letter, the width, the decimals, the scale."""
 
-    count: int
+    repeats: int
     letter: str
     width: int
     places: int

@@ -13,7 +13,7 @@ import numpy as np
 from .deck import Entry
 from .model import Model
 from .sources import Array
-from .spelling import EXACT, exact
+from .spelling import EXACT, exact, exponent_of
 from .text import Problem
 
 HEAD_PLACES = 9
@@ -49,8 +49,8 @@ def scaled(array: Array, places: int) -> np.ndarray:
 
 def places_of(array: Array) -> int:
     """The most decimals of an array's values."""
-    most = max(-exact(word).normalize(EXACT).as_tuple().exponent for word in set(array.words))
-    factor = 0 if array.is_constant else -exact(array.factor).normalize(EXACT).as_tuple().exponent
+    most = max(-exponent_of(exact(word).normalize(EXACT)) for word in set(array.words))
+    factor = 0 if array.is_constant else -exponent_of(exact(array.factor).normalize(EXACT))
     return max(0, most) + max(0, factor)
 
 

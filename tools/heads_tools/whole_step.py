@@ -5,7 +5,7 @@ at the upper and most at the lower one. `side` is 0 for the least, 1 for the mos
 from __future__ import annotations
 
 from fractions import Fraction
-from typing import Iterator
+from typing import Any, Iterator
 
 import numpy as np
 import scipy.sparse
@@ -15,6 +15,7 @@ from .deck import Entry
 from .equations import TERMS, Given
 from .sources import Array
 from .spelling import exact
+from .text import Problem
 from .whole import (
     HEAD_PLACES,
     Pair,
@@ -57,7 +58,8 @@ class WholeStep:
 
     def add_lists(self) -> None:
         """The entries of WEL, GHB, RIV and DRN in variable cells: `at`, conductances (or flows), levels as pairs."""
-        places, self.lists = self.network.digits, {}
+        places = self.network.digits
+        self.lists: dict[str, tuple[Any, ...]] = {}
         for kind, c, levels in (("WEL", 0, ()), ("GHB", 1, (0,)), ("RIV", 1, (0, 2)), ("DRN", 1, (0,))):
             at, found = [], []
             for entry in self.entries(kind):
@@ -78,8 +80,9 @@ class WholeStep:
     def add_areal(self) -> None:
         """Recharge by receiving cell; evapotranspiration's conductances, surfaces and extinction elevations."""
         none = np.zeros(0, int)
-        self.recharge: tuple[np.ndarray, Pair] = (none, (whole([]), whole([])))
-        self.evap: tuple[np.ndarray, Pair, Pair, Pair] = (none, *[(whole([]), whole([]))] * 3)
+        nothing = whole([]), whole([])
+        self.recharge: tuple[np.ndarray, Pair] = (none, nothing)
+        self.evap: tuple[np.ndarray, Pair, Pair, Pair] = (none, nothing, nothing, nothing)
         for kind in self.model.deck.areal:
             arrays, at, spots = self.receivers(kind)
             places = max(map(places_of, arrays.values()))
@@ -106,6 +109,8 @@ class WholeStep:
         size, active = model.area.size, (model.ibound != 0).reshape(model.shape[0], -1)
         layers = np.zeros(size, int)
         if areal.option == 2:
+            if layers_of is None:
+                raise Problem(f"{kind}: no layers are read")
             layers = layers_of.floats().astype(int).ravel() - 1
         elif areal.option == 3:
             layers = np.where(active.any(axis=0), active.argmax(axis=0), -1)

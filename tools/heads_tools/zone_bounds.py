@@ -24,7 +24,8 @@ def zone_branches(model: Model, digits: int, zones: np.ndarray) -> list[tuple[np
         a, b = cells[:-1].ravel(), cells[1:].ravel()
         some = parts_zones(zones, a, b) & (model.ibound.ravel()[a] != 0) & (model.ibound.ravel()[b] != 0)
         pairs = [network.between(x, y) for x, y in zip(a[some].tolist(), b[some].tolist())]
-        out.append((a[some], b[some], tuple(whole([pair[side] for pair in pairs]) for side in (0, 1))))
+        least, most = (whole([pair[side] for pair in pairs]) for side in (0, 1))
+        out.append((a[some], b[some], (least, most)))
     return out
 
 
@@ -42,7 +43,7 @@ def zone_flows(
         for side, flows in enumerate((least, most)):
             for pair in np.unique(pairs).tolist():
                 sums.setdefault(pair, [0, 0])[side] += int(flows[pairs == pair].sum())
-    return [(pair // ZONES, pair % ZONES, *sums[pair]) for pair in sorted(sums)]
+    return [(pair // ZONES, pair % ZONES, least, most) for pair, (least, most) in sorted(sums.items())]
 
 
 def turned(
@@ -53,8 +54,8 @@ def turned(
         some = parts_zones(zones, first, second) & (is_variable[first] | is_variable[second])
         a, b, pair = first[some], second[some], (least[some], most[some])
         x, y = (np.where(zones[a] < zones[b], *ends) for ends in ((a, b), (b, a)))
-        flows = (product(pair, side[x] - other[y], n) for n, (side, other) in enumerate(((low, high), (high, low))))
-        yield (zones[x] * ZONES + zones[y], *flows)
+        numbers = zones[x] * ZONES + zones[y]
+        yield numbers, product(pair, low[x] - high[y], 0), product(pair, high[x] - low[y], 1)
 
 
 def zone_faults(flows: list[ZoneFlow], listed: Step) -> list[str]:
