@@ -126,9 +126,9 @@ def test_a_run_says_where_modflow_reads_otherwise(change, part, tmp_path, tool):
 
 
 @pytest.mark.program
-def test_a_plain_deck_runs_without_a_warning(tmp_path, tool):
+def test_of_a_plain_deck_no_file_is_warned_of(tmp_path, tool):
     status, out, err = tool("run", spelled.write(tmp_path, "as it is"))
-    assert status == 0 and "CAREFUL" not in err
+    assert status == 0 and "CAREFUL: m." not in err
 
 
 @pytest.mark.program
