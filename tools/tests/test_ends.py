@@ -126,9 +126,13 @@ def test_a_run_says_where_modflow_reads_otherwise(change, part, tmp_path, tool):
 
 
 @pytest.mark.program
-def test_of_a_plain_deck_no_file_is_warned_of(tmp_path, tool):
-    status, out, err = tool("run", spelled.write(tmp_path, "as it is"))
-    assert status == 0 and "CAREFUL: m." not in err
+def test_a_plain_deck_runs_without_a_warning(tmp_path, tool):
+    nam = spelled.write(tmp_path, "as it is")
+    dis = nam.with_name("m.dis")
+    full = dis.read_text().replace("CONSTANT 30\nCONSTANT 15\nCONSTANT 0", "CONSTANT 10\nCONSTANT -5\nCONSTANT -20")
+    dis.write_text(full)
+    status, out, err = tool("run", nam)
+    assert status == 0 and "CAREFUL" not in err
 
 
 @pytest.mark.program
