@@ -30,7 +30,7 @@ pub use Rattle.engine.specs.{OneVerdict, ReadsFolder, ReadsNothing, Refuses, Sec
 pub use Rattle.engine.specs.{WrittenIsCertified, broken_off, but_batch, case_decks, case_named, case_of, case_read, certified_line, decks_task, defined}
 pub use Rattle.engine.specs.{files_if, files_of, job_of, job_task, jobs_read, lines_of, listing_read, made_fault, made_model, made_task, model_line, names_read}
 pub use Rattle.engine.specs.{not_alike, of_both, of_first, of_second, read_by_name, second_by, span_task_of, steps_read, summed_text, task_of, unread}
-pub use Rattle.engine.specs.{verdict_line, verdict_status, views_in, zones_read}
+pub use Rattle.engine.specs.{verdict_line, verdict_status, views_in, zones_read, ListsPairs}
 unfoldable pub use Rattle.engine.specs.{second_in}
 pub use Rattle.engine.specs.Batched.{Batched}
 pub use Rattle.engine.specs.OneListing.{OneListing}

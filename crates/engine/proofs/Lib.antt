@@ -4,6 +4,7 @@ pub mod Dues
 pub mod Ends
 pub mod DeckEnds
 pub mod Certifying
+pub mod Labels
 pub mod Spans
 pub mod OkRuns
 pub mod Outcomes

@@ -26,6 +26,7 @@ pub use Rattle.engine.specs.Checked.{IsCheck, certified_line, verdict_line, verd
 pub use Rattle.engine.specs.Commands.{MayRead}
 pub use Rattle.engine.specs.Decks.{IsDeck, OneDeck}
 pub use Rattle.engine.specs.Defined.{CutOf, Defines, Due, IsDue, IsJobEnd, IsRunText, JobDefines, ReadsFolder, broken_off, defined, model_line, unread}
+pub use Rattle.engine.specs.Headline.{ListsPairs}
 pub use Rattle.engine.specs.Made.{IsMade, made_task, summed_text}
 pub use Rattle.engine.specs.OneListing.{AreItsSteps, OneSummary, OneVerdict}
 pub use Rattle.engine.specs.Parts.{Answers, AnswersBeside, AreDecksAs, AreDecksOf, IsListed, IsNamedFault, IsNoSecond, IsReadingEnd, IsStopped, IsUnlikeFault}
