@@ -1,11 +1,8 @@
 -- The times of a listing's steps, and the pairs of zones of their flows, are those of its model.
-use Rattle.engine.proofs.Common.{[], ◌≡◌, List, ◌∷◌, map, None, sym, subst, refl, All, All-cons, All-nil, All-weaker, AreDecks, FlowModel}
-use Rattle.engine.proofs.Common.{AllSteps, IsStep, ListsPairs, Step, Task, TimeStep, Bound, pairs_in, times, one_valid, job_task, AskedBatch, IsModel}
-use Rattle.listing_run.specs.{Steps}
-use Rattle.check_run.proofs.FlowPairs.{flows_have_pairs}
+use Rattle.engine.proofs.Common.{[], ◌≡◌, List, ◌∷◌, map, None, sym, subst, refl, All, All-cons, All-nil, All-weaker, AreDecks, FlowModel, AllSteps, IsStep}
+use Rattle.engine.proofs.Common.{ListsPairs, Step, Task, TimeStep, Bound, pairs_in, times, one_valid, job_task, AskedBatch, IsModel, Steps, flows_have_pairs}
+use Rattle.engine.proofs.Common.{ZonePair, zones_of_flow}
 use Rattle.step_problem.specs.declared.place.ZoneFlow.{ZoneFlow}
-use Rattle.zone_pairs.specs.declared.pair.ZonePair.{ZonePair}
-use Rattle.zone_pairs.specs.{zones_of_flow}
 use Rattle.listing_run.specs.declared.text.ListingEnd.TheVariants as ends
 
 module _ (k : Task) where

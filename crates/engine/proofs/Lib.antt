@@ -10,6 +10,7 @@ pub mod OkRuns
 pub mod Outcomes
 pub mod StoredSteps
 pub mod Written
+pub mod Stating
 pub mod Numbers
 pub mod Beside
 pub mod Viewed

@@ -14,6 +14,7 @@ pub mod Runs
 pub mod Storage
 pub mod Parts
 pub mod Written
+pub mod Stated
 pub mod Serving
 pub mod Batched
 pub mod BatchReads
@@ -34,6 +35,7 @@ pub use Rattle.engine.specs.Parts.{IsValid, IsValidJob, made_fault, second_by}
 pub use Rattle.engine.specs.Runs.{EndIsDefined, EndsOk, GoesThrough, GoesWell, IsPlain, IsPlainJob, IsRunOf}
 pub use Rattle.engine.specs.Serving.{HeadlineOf, IsProgramEnd, IsRunResult, IsStopNumber, OneOf, bytes_asked, files_if, files_named, files_of, limits_asked}
 pub use Rattle.engine.specs.SpanHeadline.{ArePairOf, OneSpan, SpanVerdict}
+pub use Rattle.engine.specs.Stated.{DeckAndListingAreStated, DeckHasSameListing, DecksAndListingAreStated, SameDeckHasSameModel, SameModelHasSameListing}
 pub use Rattle.engine.specs.Storage.{StorageHolds}
 pub use Rattle.engine.specs.TwoDecks.{IsDecksRefusal, Second, not_alike, of_both, of_first, of_second}
 unfoldable pub use Rattle.engine.specs.TwoDecks.{second_in}
