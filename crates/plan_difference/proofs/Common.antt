@@ -1,7 +1,9 @@
 -- Names that several proofs of this crate cite, of the crates below and of its own definitions, passed on from one place. Declares nothing.
-pub use Rattle.std.proofs.Common.{Bool, List, None, Option, Some, [], ap, arith, cond, false, inl, inr, length, mul-pos, nat_eq, neg_ℤ, negsuc, pos, refl}
-pub use Rattle.std.proofs.Common.{subst, suc, sym, true, zero, ℕ, ℤ, ◌*ℤ◌, ◌*◌, ◌++◌, ◌+ℤ◌, ◌+◌, ◌-ℤ◌, ◌-◌, ◌<◌, ◌∙◌, ◌∷◌, ◌≡◌, ◌≤ℤ◌, ◌≤◌}
-pub use Rattle.std.proofs.Math.Nat.{mul-le-mul_left}
+pub use Rattle.std.proofs.Common.{All, Bool, Contains, List, None, Option, Some, [], ap, arith, cond, false, get_or, inl, inr, length, mul-pos, nat_eq, neg_ℤ}
+pub use Rattle.std.proofs.Common.{negsuc, pos, refl, subst, suc, sym, true, zero, ℕ, ℤ, ◌*ℤ◌, ◌*◌, ◌++◌, ◌+ℤ◌, ◌+◌, ◌-ℤ◌, ◌-◌, ◌<◌, ◌^◌, ◌∙◌, ◌∷◌, ◌≡◌, ◌≤ℤ◌}
+pub use Rattle.std.proofs.Common.{◌≤◌}
+pub use Rattle.std.proofs.Math.IntN.{zero-*ℤ}
+pub use Rattle.std.proofs.Math.Nat.{le_of_mul-le-mul_right, mul-le-mul_left, mul-le-mul_right}
 pub use Rattle.std.proofs.lemmas.Int.{by_lt_z, clamps, ints}
 pub use Rattle.std.specs.List.{AllZip}
 pub use Rattle.cell_balance.proofs.Deep.{sub_mul}
@@ -10,12 +12,15 @@ pub use Rattle.cell_balance.proofs.Enclosing.{same_over}
 pub use Rattle.cell_balance.proofs.ExactLaws.{heads_over}
 pub use Rattle.cell_balance.proofs.Ramps.{Ramp, net_flow, ramp_flow, rise, rise_grows}
 pub use Rattle.cell_balance.proofs.Scaling.{IsOver-minus, IsOver-none, IsOver-plus, IsOver-signed, IsOver-times, over_zero, positive_natural}
-pub use Rattle.cell_balance.specs.{ExactCell, ExactDrain, ExactEvap, ExactFixed, ExactLink, ExactRiver, balance, cell_at, drain_flow, evap_flow, fixed_flow}
-pub use Rattle.cell_balance.specs.{link_flow, minus, river_flow, share}
+pub use Rattle.cell_balance.specs.{CellEncloses, ExactCell, ExactDrain, ExactEvap, ExactFixed, ExactLink, ExactRiver, FixedEncloses, HasEqualEnds, HasLinkBack}
+pub use Rattle.cell_balance.specs.{balance, cell_at, drain_flow, evap_flow, fixed_flow, link_flow, minus, no_cell, river_flow, share}
 pub use Rattle.decimal_input.proofs.FloorLaws.{Same-sym, Same-trans, cancel_right, le-antisym, le-of, swap}
-pub use Rattle.decimal_input.specs.{Fraction, IsOver, Ratio, as_fraction, fraction_total, whole}
+pub use Rattle.decimal_input.specs.{Encloses, Fraction, IsOver, Ratio, as_fraction, fraction_total, whole}
 pub use Rattle.decimal_input.specs.Fractions.{Same, den, plus, times}
-pub use Rattle.plan_difference.specs.{AreInOneWeather, DifferenceSolvesIt, DifferenceStepExists, DifferencesLieAbove, DifferencesLieBelow, IsDifferenceCell}
+pub use Rattle.decimal_input.specs.Ratios.{AtMost}
+pub use Rattle.plan_difference.specs.{AreInOneWeather, BoundsDifferences, CertificateBoundsDifferences, DifferenceSolvesIt, DifferenceStepExists}
+pub use Rattle.plan_difference.specs.{DifferencesLieAbove, DifferencesLieBelow, EnclosesDifferences, IsDifferenceCell, IsDifferenceStep, IsOpenBranch}
 pub use Rattle.plan_difference.specs.{IsRampBranch, RampsShare, flow_difference, greatest_balance, known_difference, known_differences, least_balance}
 pub use Rattle.plan_difference.specs.{least_of_ramp, most_of_ramp}
 pub use Rattle.step_problem.proofs.Leasts.{as_diff, diffs, mul_add, mul_assoc, mul_mono, mul_neg, same_diff}
+pub use Rattle.step_problem.specs.{entries_at, least, most, no_entries, total}

@@ -4,8 +4,7 @@ use Rattle.plan_difference.proofs.Common.{◌++◌, length, AllZip, Same-sym, Sa
 use Rattle.plan_difference.proofs.Common.{plus, times, as_diff, diffs, same_diff, sub_mul, Goes-first, Goes-second, fraction_over, same_over, heads_over}
 use Rattle.plan_difference.proofs.Common.{IsOver-minus, IsOver-signed, IsOver-times, over_zero, ExactCell, ExactFixed, ExactLink, balance, cell_at, drain_flow}
 use Rattle.plan_difference.proofs.Common.{evap_flow, fixed_flow, link_flow, minus, river_flow, share, AreInOneWeather, DifferenceSolvesIt, IsDifferenceCell}
-use Rattle.plan_difference.proofs.Common.{known_difference, known_differences}
-use Rattle.std.proofs.Math.IntN.{zero-*ℤ}
+use Rattle.plan_difference.proofs.Common.{known_difference, known_differences, zero-*ℤ}
 use Rattle.decimal_input.specs.Ratios.{den as ratio_den}
 use Rattle.plan_difference.proofs.Sames.{difference_of_sums, difference_of_totals, nothing_after, same_is_over, same_self, sums_same, total_of_both}
 

@@ -2,10 +2,9 @@
 use Rattle.plan_difference.proofs.Common.{[], ◌*ℤ◌, ◌*◌, ◌+ℤ◌, ◌-ℤ◌, ◌∷◌, ◌∙◌, ◌≡◌, ◌≤ℤ◌, Bool, List, None, Option, Some, arith, cond, false, inl, inr, nat_eq}
 use Rattle.plan_difference.proofs.Common.{neg_ℤ, negsuc, pos, refl, suc, true, zero, ℕ, ℤ, clamps, ints, as_diff, diffs, mul_add, mul_mono, same_diff, Ramp}
 use Rattle.plan_difference.proofs.Common.{rise, ramp_flow, net_flow, rise_grows, most_of_ramp, least_of_ramp, greatest_balance, least_balance}
-use Rattle.plan_difference.proofs.Common.{DifferencesLieBelow, DifferencesLieAbove}
+use Rattle.plan_difference.proofs.Common.{DifferencesLieBelow, DifferencesLieAbove, least, most, total}
 use Rattle.cell_balance.proofs.Ramps.{link_flow}
 use Rattle.step_problem.proofs.Falls.{loss_falls}
-use Rattle.step_problem.specs.{least, most, total}
 use Rattle.cell_balance.proofs.Sums.{sum-same, sum-add}
 use Rattle.cell_balance.proofs.Comparison.{comparison}
 

@@ -5,3 +5,4 @@ pub mod Sames
 pub mod DifferenceBalance
 pub mod RampBranches
 pub mod DifferenceExists
+pub mod AnyWeather

@@ -1,5 +1,5 @@
 // The exact step of the differences of two plans' heads.
-ghost use Rattle.plan_difference.specs.{DifferenceSolvesIt, DifferenceStepExists};
+ghost use Rattle.plan_difference.specs.{CertificateBoundsDifferences, DifferenceSolvesIt, DifferenceStepExists, EnclosesDifferences};
 
 /// There is such a step: each river, drain and evapotranspiration gives more by a share of its conductance.
 pub fn difference_step_exists()
@@ -9,4 +9,14 @@ pub fn difference_step_exists()
 /// The difference of two plans' heads solves it.
 pub fn difference_solves_it()
     ensures { DifferenceSolvesIt }
+{}
+
+/// A problem that bounds the differences, with a branch to 0 over any part of its conductance for each ramp, encloses it in every weather.
+pub fn differences_are_enclosed()
+    ensures { EnclosesDifferences }
+{}
+
+/// So a certificate of such a problem encloses the differences of the two plans' solutions, wherever its barrier does.
+pub fn certificate_bounds_differences()
+    ensures { CertificateBoundsDifferences }
 {}
