@@ -46,13 +46,17 @@ def started(name: str, port: Path, folder: Path) -> Path:
     target = folder / f"{port.name}.started"
     subprocess.run(["gcc", "-static", "-O1", *settings, "-o", str(target), str(HERE / "tests" / "launch.c")], check=True)
     if runner.program == WINE:
-        # The first start makes the folder of settings; those that follow run at the same time.
+        # One server for all starts, and the first one makes the folder of settings: those that follow run at the same time.
+        subprocess.run([str(WINE_SERVER), "-p"], env=settings_of(folder), capture_output=True)
         subprocess.run([str(target)], cwd=folder, capture_output=True, timeout=120)
     return target
+
+
+def settings_of(folder: Path) -> dict[str, str]:
+    return os.environ | {"WINEPREFIX": str(folder / "wine")}
 
 
 def stop(folder: Path) -> None:
     """Ends the server that wine started for this folder."""
     if (folder / "wine").exists():
-        environment = os.environ | {"WINEPREFIX": str(folder / "wine")}
-        subprocess.run([str(WINE_SERVER), "-k"], env=environment, capture_output=True)
+        subprocess.run([str(WINE_SERVER), "-k"], env=settings_of(folder), capture_output=True)
