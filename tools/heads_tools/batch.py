@@ -16,6 +16,7 @@ from typing import IO, Iterable
 from .explain import explain
 from .kept_files import demand_free
 from .listing import read_listing
+from .machine import memory
 from .made_by import keep_words
 from .program import digits_of, direct_program, end_of, has_steps, run, settle_output
 from .text import Problem, counted, decimal_text, read_text, words
@@ -142,11 +143,6 @@ def collect(
     return first
 
 
-def memory() -> int:
-    """The machine's memory in bytes."""
-    return os.sysconf("SC_PAGE_SIZE") * os.sysconf("SC_PHYS_PAGES")
-
-
 def fits_memory(jobs: list[Job]) -> bool:
     """Whether all models and all texts that `heads batch` holds at once take at most half of the memory, in each
     folder. A model whose grid can't be read has no text."""
@@ -168,12 +164,12 @@ def run_by_program(jobs: list[Job], options: list[str], at_once: int) -> bool:
     program doesn't have the command."""
     for folder in sorted({j.nam.parent for j in jobs}):
         here = [j for j in jobs if j.nam.parent == folder]
-        with tempfile.NamedTemporaryFile("w", suffix=".txt", prefix="batch", dir=folder) as names:
+        with tempfile.NamedTemporaryFile("w", suffix=".txt", prefix="batch", dir=folder, newline="\n") as names:
             names.write("".join(f"{j.nam.name}\n" for j in here))
             names.flush()
             workers = [] if "--workers" in options else ["--workers", str(min(at_once, 64))]
             words = [str(direct_program()), "batch", Path(names.name).name, *options, *workers]
-            with tempfile.TemporaryFile("w+", dir=folder, encoding="latin-1") as text:
+            with tempfile.TemporaryFile("w+", dir=folder, encoding="latin-1", newline="\n") as text:
                 subprocess.run(words, cwd=folder, stdout=text, stderr=subprocess.DEVNULL)
                 text.seek(0)
                 if text.read(6) == "USAGE:":
@@ -193,7 +189,7 @@ def split_batch(lines: Iterable[str], jobs: list[Job]) -> None:
                 if out:
                     out.write(last)
                     out.close()
-                out, last, at = new_text(jobs[at]).open("w", encoding="latin-1"), "", at + 1
+                out, last, at = new_text(jobs[at]).open("w", encoding="latin-1", newline="\n"), "", at + 1
                 continue
             if out:
                 out.write(last)

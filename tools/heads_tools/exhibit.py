@@ -26,7 +26,7 @@ from .model import Model, read_model
 from .packages import read_deck
 from .page import bare, shown
 from .made_by import is_quick, keep_words, kind_of
-from .program import TOP, Ended, Version, beside, digits_of, files_of, program_file, version
+from .program import TOP, Ended, Version, beside, digits_of, files_of, program_file, record_of, version
 from .spans import target_of, what_differs
 from .spelling import quoted_words
 from .text import Problem, on_disk, read_text, sha256, words
@@ -94,6 +94,8 @@ def exhibit(nam: Path, folder: Path, options: list[str], out: IO[str]) -> int:
     """Makes the exhibit of a model in a folder, whole or not at all; the run's status, or that of the check."""
     if folder.exists() and (not folder.is_dir() or any(folder.iterdir())):
         raise Problem(f"{folder} isn't an empty folder: an exhibit begins with one, or with none")
+    if not shutil.which("sh"):
+        raise Problem("an exhibit's commands are those of a shell (sh), which isn't here: WSL has one, and Git for Windows")
     binary, known = program_file(), version()
     try:
         folder.parent.mkdir(parents=True, exist_ok=True)
@@ -307,10 +309,11 @@ def copy_files(names: list[str], source: Path, target: Path) -> None:
 
 def copy_program(binary: Path, folder: Path) -> None:
     """The program, the record of its sources, and recheck.py."""
-    copy_whole(binary, folder / "heads")
-    (folder / "heads").chmod(0o755)
-    record = binary.with_name(binary.name + ".txt")
-    if record.is_file():
+    copy = folder / ("heads.exe" if binary.suffix == ".exe" else "heads")
+    copy_whole(binary, copy)
+    copy.chmod(0o755)
+    record = record_of(binary)
+    if record:
         copy_whole(record, folder / "heads.txt")
     script = beside("recheck.py")
     if script:
@@ -350,4 +353,4 @@ def write_sums(folder: Path) -> None:
     """SHA256SUMS of all other files, as `sha256sum -c` reads it."""
     files = sorted(path for path in folder.rglob("*") if path.is_file())
     with whole_file(folder / "SHA256SUMS") as file:
-        file.writelines(f"{sha256(path)}  {path.relative_to(folder)}\n" for path in files)
+        file.writelines(f"{sha256(path)}  {path.relative_to(folder).as_posix()}\n" for path in files)

@@ -9,7 +9,8 @@ from pathlib import Path
 
 import numpy as np
 
-from .text import Problem, counted, decimal_text, read_text
+from .marks import plain_listing, tell
+from .text import Problem, counted, decimal_text, read_raw
 
 TERMS = ["STORAGE", "CONSTANT HEAD", "WELLS", "DRAINS", "RIVER LEAKAGE", "HEAD DEP BOUNDS", "RECHARGE", "ET"]
 UNITS_IN_ONE = 10**9
@@ -128,16 +129,19 @@ def head_floor(units: np.ndarray) -> np.ndarray:
     return np.where(units % FIFTHS == 0, units // FIFTHS / 512, np.nextafter(near, -np.inf))
 
 
+def listing_bytes(path: Path) -> bytes:
+    """The bytes of a listing as `heads` writes them; it is said where the file has others."""
+    content, said = plain_listing(read_raw(path))
+    tell(path, said)
+    return content
+
+
 def read_listing(path: str | Path) -> Listing:
-    """Reads a listing. One that ended early is read as far as its steps are whole; `end` is its last line."""
-    text = read_text(Path(path))
-    lines = text.split("\n")
+    """Reads a listing. One that ended early is read as far as its steps are whole; `end` is its last line. One that a
+    shell or a mail program has written in UTF-16 or with CR LF is read as `heads` wrote it; `sha256` is of that."""
+    content = listing_bytes(Path(path))
+    lines = content.decode("latin-1").split("\n")
     first = lines[0].split()
-    if lines[0].endswith("\r"):
-        raise Problem(
-            f"{path}: its lines end with CR LF, so a mail program or an editor has changed it, and `heads check` refuses"
-            f" it (BadListing). Take the file as it was written, or take the CRs out: sed -i 's/\\r$//' {path}"
-        )
     if not lines[0].strip():
         raise Problem(f"{path} is empty: the write failed, or the run was stopped")
     if first[0] in NO_LISTING:
@@ -150,7 +154,7 @@ def read_listing(path: str | Path) -> Listing:
         or not (first[3] + first[5].lstrip("-")).isdigit()
     ):
         raise Problem(f"{path}, line 1: no listing of `heads` begins with {lines[0][:60]!r}")
-    digest = hashlib.sha256(text.encode("latin-1")).hexdigest()
+    digest = hashlib.sha256(content).hexdigest()
     listing = Listing(Path(path), int(first[3]), int(first[5]), is_span=is_span, sha256=digest)
     starts = [n for n, line in enumerate(lines) if line.startswith("STEP ")]
     tail = next((n for n in range(len(lines) - 1, -1, -1) if lines[n].strip()), 0)

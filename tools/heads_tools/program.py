@@ -23,6 +23,8 @@ from .made_by import drop_words, is_quick, keep_words
 from .text import Problem, sha256
 from .whole_files import draft_of
 
+IS_WINDOWS = sys.platform == "win32"
+NAME = "heads.exe" if IS_WINDOWS else "heads"
 TOP = Path(__file__).resolve().parents[2]
 BIN = Path(__file__).resolve().parent / "bin"
 DEFAULT_DIGITS = 12
@@ -35,22 +37,51 @@ def beside(name: str) -> Path | None:
 
 def main() -> None:
     """The command `heads` of a wheel: the program that it carries."""
-    path = str(program())
-    os.execv(path, [path, *sys.argv[1:]])
+    words = [str(program()), *sys.argv[1:]]
+    if IS_WINDOWS:
+        # There a program that takes the place of another one leaves the shell with no status.
+        sys.exit(subprocess.call(words))
+    os.execv(words[0], words)
 
 
 def program() -> Path:
     """The program: the environment's HEADS, else the script of this checkout, else that of the wheel, else `heads` on
-    the path."""
+    the path. Windows can't start the script: there it is the checkout's port, if that is of the kept program."""
     if os.environ.get("HEADS"):
         path = Path(os.environ["HEADS"]).resolve()
         if not os.access(path, os.X_OK) or path.is_dir():
             raise Problem(f"HEADS names {path}, which is no program")
         return path
-    for path in (TOP / "heads", BIN / "heads", Path(shutil.which("heads") or "")):
-        if path.is_file() and os.access(path, os.X_OK):
+    here = windows_port(TOP / "dist" / "heads.exe") if IS_WINDOWS else TOP / "heads"
+    for path in (here, BIN / NAME, Path(shutil.which(NAME) or "")):
+        if path and path.is_file() and os.access(path, os.X_OK):
             return path.resolve()
     raise Problem("where is `heads`? Set HEADS=/path/to/heads, or put it on the PATH")
+
+
+def noted_in(record: Path) -> dict[str, str]:
+    """What dist/heads.txt, or a copy of it, says of the program: its sources, kit and sha256."""
+    return dict(line.split(" ", 1) for line in record.read_text().splitlines() if not line.startswith("port "))
+
+
+def port_in(record: Path, digest: str) -> str:
+    """The sha256 of the program that a port with this one is of; nothing where the record has no such port."""
+    found = re.search(rf"^port \S+ {digest} of (\w+) ", record.read_text(), re.M)
+    return found[1] if found else ""
+
+
+def record_of(binary: Path) -> Path | None:
+    """The record that stands beside a program: heads.txt of heads, of heads.exe and of the other ports in dist/."""
+    names = [f"{binary.name}.txt", *(["heads.txt"] if binary.name.startswith(("heads.exe", "heads-linux-")) else [])]
+    return next((path for path in map(binary.with_name, names) if path.is_file()), None)
+
+
+def windows_port(path: Path) -> Path | None:
+    """The port for Windows, if it has the bytes that are recorded, and is of the program that is."""
+    record = record_of(path)
+    if not path.is_file() or not record:
+        return None
+    return path if port_in(record, sha256(path)) == noted_in(record).get("program") else None
 
 
 @functools.lru_cache
@@ -107,11 +138,15 @@ def version() -> Version:
         binary = found
     lines = [f"program {found}"] + ([f"        which runs {binary}"] if binary != found else [])
     lines.append(f"sha256  {sha256(binary)}")
-    record = binary.with_name(binary.name + ".txt")
-    if not record.is_file():
+    record = record_of(binary)
+    if not record:
         return Version(lines + ["no record of its sources stands beside it"], None)
-    noted = dict(line.split(" ", 1) for line in record.read_text().splitlines() if " " in line)
-    is_same = noted.get("program") == sha256(binary)
+    noted, port = noted_in(record), port_in(record, sha256(binary))
+    if port and port != noted.get("program"):
+        return Version(lines + [f"A PORT OF AN OLDER PROGRAM than the one that {record} names: {port}"], False)
+    if port:
+        lines.append(f"port    of the program {port}")
+    is_same = bool(port) or noted.get("program") == sha256(binary)
     lines += [f"sources {noted.get('sources', 'not recorded')}", f"kit     {noted.get('kit', 'not recorded')}"]
     lines.append("its bytes are those recorded" if is_same else f"ITS BYTES ARE NOT THOSE RECORDED in {record}")
     if binary == TOP / "dist" / "heads" and (now := sources_now()):

@@ -6,6 +6,8 @@ import re
 from decimal import Decimal
 from pathlib import Path
 
+from .marks import plain, tell
+
 VERSION = "0.1.0"
 LENGTHS = {0: "length units", 1: "ft", 2: "m", 3: "cm"}
 TIMES = {0: "time units", 1: "s", 2: "min", 3: "h", 4: "d", 5: "a"}
@@ -31,9 +33,17 @@ def on_disk(folder: Path, name: str) -> Path:
 
 
 def read_text(path: Path) -> str:
-    """The text of a file, one character for each byte."""
+    """The text of a file, one character for each byte. A byte-order mark is left out, UTF-16 is read as UTF-8, and
+    this is said."""
+    content, said = plain(read_raw(path))
+    tell(Path(path), said)
+    return content.decode("latin-1")
+
+
+def read_raw(path: Path) -> bytes:
+    """The bytes of a file."""
     try:
-        return Path(path).read_bytes().decode("latin-1")
+        return Path(path).read_bytes()
     except IsADirectoryError:
         raise Problem(f"{path} is a folder; a file is due here") from None
     except FileNotFoundError:

@@ -2,17 +2,19 @@
 from __future__ import annotations
 
 import functools
-import shutil
+import hashlib
+import re
 import tempfile
 from dataclasses import dataclass, replace
 from pathlib import Path
 
 from .limits import wide_words
-from .listing import Listing
+from .listing import Listing, listing_bytes
 from .made_by import is_made_wide
+from .marks import plain_listing
 from .program import call, direct_program, program_file
 from .spans import ALL_BETWEEN, demand_decks
-from .text import Problem, sha256
+from .text import Problem, read_raw, sha256
 
 CERTIFIED = "CERTIFIED"
 ALL_EXACT = "Every exact solution of the model's equations lies between the listed numbers."
@@ -143,7 +145,7 @@ def check_listing(
 
 def demand_same(listing: Listing) -> None:
     """Refuses a listing in memory whose file has other bytes by now."""
-    if not listing.path.is_file() or sha256(listing.path) != listing.sha256:
+    if not listing.path.is_file() or hashlib.sha256(listing_bytes(listing.path)).hexdigest() != listing.sha256:
         raise Problem(
             f"{listing.path} isn't the file any more that this listing was read from, so it can't be checked: write each"
             " run that is still needed to a file of its own (--out), or leave the model's name out"
@@ -155,21 +157,16 @@ def has_zones(listing: Listing) -> bool:
 
 
 def readable(path: Path, copy: Path, leaves_zones: bool = False) -> Path:
-    """A file as `heads check` can open it: itself, or a copy where its name has a blank or its lines ZONE are left
-    out."""
-    full = str(path.resolve())
+    """A file as `heads check` can read it: itself, or a copy where its name has a blank, its text isn't plain, or its
+    lines ZONE are left out."""
+    full, raw = str(path.resolve()), read_raw(path)
+    content = plain_listing(raw)[0]
     if leaves_zones:
-        copy_without_zones(path, copy)
-    elif len(full) <= MOST_NAME and all("!" <= c <= "~" for c in full):
+        content = re.sub(rb"^ZONE .*\n", b"", content, flags=re.M)
+    if content == raw and len(full) <= MOST_NAME and all("!" <= c <= "~" for c in full):
         return path.resolve()
-    else:
-        shutil.copyfile(path, copy)
+    copy.write_bytes(content)
     return copy
-
-
-def copy_without_zones(source: Path, target: Path) -> None:
-    with open(source, "rb") as lines, open(target, "wb") as copy:
-        copy.writelines(line for line in lines if not line.startswith(b"ZONE "))
 
 
 def program_sha256() -> str:

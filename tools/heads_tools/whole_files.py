@@ -45,7 +45,9 @@ def whole_file(path: Path | str, binary: bool = False, is_own: bool = False) -> 
     its name the file is one of heads-tools' own, so that an earlier one needs no mark."""
     path = Path(path)
     with draft_of(path) as new:
-        with open(new, "wb" if binary else "w", **({} if binary else {"encoding": "utf-8"})) as file:
+        # Lines end with LF on each system: `heads` refuses a listing with CR LF.
+        how = {"mode": "wb"} if binary else {"mode": "w", "encoding": "utf-8", "newline": "\n"}
+        with open(new, **how) as file:
             yield file
         if not is_own:
             demand_free(path, new)
