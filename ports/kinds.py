@@ -69,7 +69,6 @@ def versions_of(packages: Sequence[str]) -> str:
     return ", ".join(kept) if len(kept) == len(packages) else ""
 
 
-KINDS = [
-    Kind("heads-linux-x86_64", ("gcc-12", "binutils", "musl-dev", "musl-tools"), link_musl),
-    Kind("heads.exe", ("gcc-mingw-w64-x86-64-win32", "binutils-mingw-w64-x86-64", "mingw-w64-x86-64-dev"), link_windows),
-]
+MUSL = ("gcc-12", "binutils", "musl-dev", "musl-tools")
+MINGW = ("gcc-mingw-w64-x86-64-win32", "binutils-mingw-w64-x86-64", "mingw-w64-x86-64-dev")
+KINDS = [Kind("heads-linux-x86_64", MUSL, link_musl), Kind("heads.exe", MINGW, link_windows)]

@@ -13,8 +13,8 @@ PROBES = ' "frame-pointer"="all"| "probe-stack"="inline-asm"| "stack-probe-size"
 
 @dataclass(frozen=True)
 class Target:
-    """A target of clang: its name, how it lays data out, the words for its processor, and which attributes of functions it
-    doesn't have."""
+    """A target of clang: its name, how it lays data out, the words for its processor, and which attributes of
+    functions it doesn't have."""
 
     triple: str
     layout: str

@@ -1,4 +1,5 @@
-"""A port's file as it lies in memory: its pieces with their addresses and protections, and which words a loader moves."""
+"""A port's file as it lies in memory: its pieces with their addresses and protections, and which words a loader
+moves."""
 from __future__ import annotations
 
 import struct
@@ -27,8 +28,8 @@ class Piece:
 
 @dataclass(frozen=True)
 class Ported:
-    """The pieces of a port, and the addresses of the words that are set anew where the whole is moved, each with the place
-    of its entry in the table that says so."""
+    """The pieces of a port, and the addresses of the words that are set anew where the whole is moved, each with the
+    place of its entry in the table that says so."""
 
     pieces: list[Piece]
     moved: dict[int, int]
@@ -79,8 +80,8 @@ def read_windows(data: bytes) -> Ported:
 
 
 def moved_words(table: bytes) -> dict[int, int]:
-    """The words that the table of base relocations names, each with the place of its entry: of each page the table has a
-    head and two bytes a word."""
+    """The words that the table of base relocations names, each with the place of its entry: of each page the table has
+    a head and two bytes a word."""
     found, at = {}, 0
     while at + 8 <= len(table):
         page, size = struct.unpack_from("<II", table, at)

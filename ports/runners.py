@@ -44,9 +44,10 @@ def started(name: str, port: Path, folder: Path) -> Path:
     listed = "".join(f'"{word}", ' for word in words)
     settings = [f"-DSTARTS={listed}", f'-DKEPT="{folder / "wine"}"']
     target = folder / f"{port.name}.started"
-    subprocess.run(["gcc", "-static", "-O1", *settings, "-o", str(target), str(HERE / "tests" / "launch.c")], check=True)
+    source = str(HERE / "tests" / "launch.c")
+    subprocess.run(["gcc", "-static", "-O1", *settings, "-o", str(target), source], check=True)
     if runner.program == WINE:
-        # One server for all starts, and the first one makes the folder of settings: those that follow run at the same time.
+        # One server for all starts. The first start makes the folder of settings; later ones run at the same time.
         subprocess.run([str(WINE_SERVER), "-p"], env=settings_of(folder), capture_output=True)
         subprocess.run([str(target)], cwd=folder, capture_output=True, timeout=120)
     return target

@@ -1,4 +1,5 @@
-"""Chromium and Firefox without a window, by WebDriver BiDi: pages are opened, files are put into them, pictures are taken.
+"""Chromium and Firefox without a window, by WebDriver BiDi: pages are opened, files are put into them, pictures are
+taken.
 
 Needs Debian's python3-websocket, and chromium with chromium-driver, or firefox-esr."""
 from __future__ import annotations
@@ -23,6 +24,10 @@ CHROMIUM_WORDS = ["--headless=new", "--no-sandbox", "--disable-gpu", "--disable-
 LOOKS = 'user_pref("layout.css.prefers-color-scheme.content-override", %d);\n'
 
 
+def started(words: list[str]) -> subprocess.Popen[str]:
+    return subprocess.Popen(words, stdout=subprocess.PIPE, stderr=subprocess.STDOUT, text=True)
+
+
 class Browser:
     """A browser with one page. It is to be closed."""
 
@@ -36,7 +41,7 @@ class Browser:
         self.page = self.send("browsingContext.getTree")["contexts"][0]["context"]
 
     def _start_chromium(self, is_dark: bool) -> str:
-        self.process = subprocess.Popen(["chromedriver", "--port=0"], stdout=subprocess.PIPE, stderr=subprocess.STDOUT, text=True)
+        self.process = started(["chromedriver", "--port=0"])
         port = self._said(r"started successfully on port (\d+)")
         words = [*CHROMIUM_WORDS, f"--user-data-dir={self.folder}", *(["--force-dark-mode"] if is_dark else [])]
         wanted = {"webSocketUrl": True, "goog:chromeOptions": {"args": words}}
@@ -47,8 +52,8 @@ class Browser:
 
     def _start_firefox(self, is_dark: bool) -> str:
         (self.folder / "user.js").write_text(LOOKS % (0 if is_dark else 1))
-        words = ["firefox-esr", "--headless", "--no-remote", "--profile", str(self.folder), "--remote-debugging-port", "0"]
-        self.process = subprocess.Popen(words, stdout=subprocess.PIPE, stderr=subprocess.STDOUT, text=True)
+        words = ["firefox-esr", "--headless", "--no-remote", "--remote-debugging-port", "0"]
+        self.process = started([*words, "--profile", str(self.folder)])
         return self._said(r"WebDriver BiDi listening on (ws://\S+)") + "/session"
 
     def _said(self, pattern: str) -> str:
@@ -87,8 +92,8 @@ class Browser:
         self.send("input.setFiles", context=self.page, element=node, files=[str(path) for path in paths])
 
     def press(self, *keys: str) -> None:
-        actions = [{"type": kind, "value": key} for key in keys for kind in ("keyDown", "keyUp")]
-        self.send("input.performActions", context=self.page, actions=[{"type": "key", "id": "keys", "actions": actions}])
+        moves = [{"type": kind, "value": key} for key in keys for kind in ("keyDown", "keyUp")]
+        self.send("input.performActions", context=self.page, actions=[{"type": "key", "id": "keys", "actions": moves}])
 
     def resize(self, width: int, height: int) -> None:
         self.send("browsingContext.setViewport", context=self.page, viewport={"width": width, "height": height})

@@ -241,7 +241,8 @@ def test_the_wheels_carry_the_program(tmp_path):
             assert "heads_tools/bin/recheck.py" in names and modules <= {n.split("/")[-1] for n in names}
             program = next((n for n in names if re.fullmatch("heads_tools/bin/heads(.exe)?", n)), None)
             commands = file.read(next(n for n in names if n.endswith("/entry_points.txt"))).decode()
-            assert ("heads = heads_tools.program:main" in commands) == (program is not None) == ("none-any" not in wheel.name)
+            has_command, is_pure = "heads = heads_tools.program:main" in commands, "none-any" in wheel.name
+            assert has_command == (program is not None) == (not is_pure)
             if program:
                 assert hashlib.sha256(file.read(program)).hexdigest() in record
                 assert file.read("heads_tools/bin/heads.txt").decode() == record
@@ -253,7 +254,8 @@ def test_an_installed_wheel_runs_the_program(tmp_path):
     """The wheel for this platform in an environment of its own, that has what it needs from the system."""
     if (TOP / "dist" / "heads").is_file() is False or platform.machine() != "x86_64" or sys.platform != "linux":
         pytest.skip("without dist/heads, or on another platform")
-    if subprocess.run([sys.executable, "-c", "import setuptools, wheel, venv, ensurepip"], capture_output=True).returncode:
+    needed = "import setuptools, wheel, venv, ensurepip"
+    if subprocess.run([sys.executable, "-c", needed], capture_output=True).returncode:
         pytest.skip("without setuptools, wheel and venv")
     subprocess.run([TOOLS / "wheel", tmp_path], check=True, env={"PATH": "/usr/bin:/bin", "PYTHON": sys.executable})
     made = tmp_path / "env"
