@@ -1,16 +1,15 @@
--- A problem that bounds the differences encloses their exact step, so a certificate of it bounds the differences of solutions.
-use Rattle.plan_difference.proofs.Common.{◌≡◌, ℕ, suc, ◌+◌, ◌*◌, ◌<◌, ◌≤◌, ◌^◌, ◌∙◌, ap, sym, refl, subst, arith, ℤ, pos, ◌*ℤ◌, ◌-ℤ◌, ◌≤ℤ◌, List, [], ◌∷◌, ◌++◌}
-use Rattle.plan_difference.proofs.Common.{length, get_or, inl, inr, All, Contains, zero-*ℤ, le_of_mul-le-mul_right, mul-le-mul_right, ints, AllZip, Encloses}
-use Rattle.plan_difference.proofs.Common.{Fraction, Ratio, AtMost, entries_at, no_entries, CellEncloses, ExactCell, ExactFixed, ExactLink, FixedEncloses}
-use Rattle.plan_difference.proofs.Common.{HasEqualEnds, HasLinkBack, cell_at, no_cell, BoundsDifferences, CertificateBoundsDifferences, EnclosesDifferences}
-use Rattle.plan_difference.proofs.Common.{IsDifferenceCell, IsDifferenceStep, IsOpenBranch, IsRampBranch}
+-- A problem that bounds the differences encloses their exact step, so what encloses its solutions bounds the differences of two plans' solutions.
+use Rattle.plan_difference.proofs.Common.{◌≡◌, ℕ, suc, ◌*◌, ◌<◌, ◌≤◌, ◌^◌, ◌∙◌, ap, sym, subst, arith, ℤ, pos, ◌*ℤ◌, ◌-ℤ◌, ◌≤ℤ◌, List, [], ◌∷◌, ◌++◌, length}
+use Rattle.plan_difference.proofs.Common.{get_or, inl, inr, All, Contains, zero-*ℤ, le_of_mul-le-mul_right, mul-le-mul_right, ints, AllZip, Encloses, Fraction}
+use Rattle.plan_difference.proofs.Common.{Ratio, AtMost, entries_at, no_entries, CellEncloses, ExactCell, ExactFixed, ExactLink, FixedEncloses, HasEqualEnds}
+use Rattle.plan_difference.proofs.Common.{HasLinkBack, cell_at, no_cell, BoundsDifferences, SolutionsBoundDifferences, EnclosesDifferences, IsDifferenceCell}
+use Rattle.plan_difference.proofs.Common.{IsDifferenceStep, IsOpenBranch, IsRampBranch}
 use Rattle.std.proofs.lemmas.Bool.{cases_lt}
 use Rattle.std.proofs.lemmas.List.{get_or_past}
 use Rattle.std.proofs.lemmas.List.Elements.{All-cons, All-head, All-nil, All-tail}
 use Rattle.decimal_input.specs.Ratios.{den}
 use Rattle.step_problem.specs.Entries.{Entries}
 use Rattle.step_problem.specs.declared.entry.Fixed.{Fixed}
-use Rattle.cell_balance.proofs.Encloses.{compares}
 use Rattle.plan_difference.proofs.DifferenceBalance.{difference_solves_it}
 use Rattle.plan_difference.proofs.DifferenceExists.{difference_step_exists}
 
@@ -107,15 +106,8 @@ differences_are_enclosed s p d X Y e f g bounds is = record {
     cell : (c : ℕ) → c < length e → CellEncloses s (entries_at p c) (cell_at g c)
     cell c here = cell_enclosed s _ _ _ (entries_at p c) (cell_at e c) (cell_at f c) (cell_at g c) (bounds.cells c here) (is.cells c here)
 
-pub certificate_bounds_differences : CertificateBoundsDifferences
-certificate_bounds_differences p b l u s e f d X Y given =
-    let (g, is) = difference_step_exists d X Y e f given.some in
-    compares p b l u s g d (λ c. X c -ℤ Y c) (record {
-      problem = given.problem;
-      held = given.held;
-      certificate = given.certificate;
-      encloses = differences_are_enclosed s p d X Y e f g given.bounds is;
-      some = given.some;
-      solves = difference_solves_it d X Y e f g given.some given.weather is given.base given.other;
-      barrier = given.barrier;
-    })
+pub solutions_bound_differences : SolutionsBoundDifferences
+solutions_bound_differences s p l u e f d X Y bounds solved encloses =
+    let (g, is) = difference_step_exists d X Y e f solved.some in
+    encloses s g d (λ c. X c -ℤ Y c) (differences_are_enclosed s p d X Y e f g bounds is) solved.some
+    (difference_solves_it d X Y e f g solved.some solved.weather is solved.base solved.other)

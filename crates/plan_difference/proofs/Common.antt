@@ -1,7 +1,6 @@
 -- Names that several proofs of this crate cite, of the crates below and of its own definitions, passed on from one place. Declares nothing.
 pub use Rattle.std.proofs.Common.{All, Bool, Contains, List, None, Option, Some, [], ap, arith, cond, false, get_or, inl, inr, length, mul-pos, nat_eq, neg_ℤ}
-pub use Rattle.std.proofs.Common.{negsuc, pos, refl, subst, suc, sym, true, zero, ℕ, ℤ, ◌*ℤ◌, ◌*◌, ◌++◌, ◌+ℤ◌, ◌+◌, ◌-ℤ◌, ◌-◌, ◌<◌, ◌^◌, ◌∙◌, ◌∷◌, ◌≡◌, ◌≤ℤ◌}
-pub use Rattle.std.proofs.Common.{◌≤◌}
+pub use Rattle.std.proofs.Common.{negsuc, pos, refl, subst, suc, sym, true, zero, ℕ, ℤ, ◌*ℤ◌, ◌*◌, ◌++◌, ◌+ℤ◌, ◌-ℤ◌, ◌-◌, ◌<◌, ◌^◌, ◌∙◌, ◌∷◌, ◌≡◌, ◌≤ℤ◌, ◌≤◌}
 pub use Rattle.std.proofs.Math.IntN.{zero-*ℤ}
 pub use Rattle.std.proofs.Math.Nat.{le_of_mul-le-mul_right, mul-le-mul_left, mul-le-mul_right}
 pub use Rattle.std.proofs.lemmas.Int.{by_lt_z, clamps, ints}
@@ -18,9 +17,9 @@ pub use Rattle.decimal_input.proofs.FloorLaws.{Same-sym, Same-trans, cancel_righ
 pub use Rattle.decimal_input.specs.{Encloses, Fraction, IsOver, Ratio, as_fraction, fraction_total, whole}
 pub use Rattle.decimal_input.specs.Fractions.{Same, den, plus, times}
 pub use Rattle.decimal_input.specs.Ratios.{AtMost}
-pub use Rattle.plan_difference.specs.{AreInOneWeather, BoundsDifferences, CertificateBoundsDifferences, DifferenceSolvesIt, DifferenceStepExists}
-pub use Rattle.plan_difference.specs.{DifferencesLieAbove, DifferencesLieBelow, EnclosesDifferences, IsDifferenceCell, IsDifferenceStep, IsOpenBranch}
-pub use Rattle.plan_difference.specs.{IsRampBranch, RampsShare, flow_difference, greatest_balance, known_difference, known_differences, least_balance}
+pub use Rattle.plan_difference.specs.{AreInOneWeather, BoundsDifferences, DifferenceSolvesIt, DifferenceStepExists, DifferencesLieAbove, DifferencesLieBelow}
+pub use Rattle.plan_difference.specs.{EnclosesDifferences, IsDifferenceCell, IsDifferenceStep, IsOpenBranch, IsRampBranch, RampsShare}
+pub use Rattle.plan_difference.specs.{SolutionsBoundDifferences, flow_difference, greatest_balance, known_difference, known_differences, least_balance}
 pub use Rattle.plan_difference.specs.{least_of_ramp, most_of_ramp}
 pub use Rattle.step_problem.proofs.Leasts.{as_diff, diffs, mul_add, mul_assoc, mul_mono, mul_neg, same_diff}
 pub use Rattle.step_problem.specs.{entries_at, least, most, no_entries, total}

@@ -1,7 +1,7 @@
 -- The balance of a difference's cell is the difference of the two plans' balances.
-use Rattle.plan_difference.proofs.Common.{◌≡◌, ℕ, ◌-◌, ◌*◌, ◌<◌, ◌∙◌, ap, sym, refl, subst, arith, mul-pos, ℤ, pos, ◌*ℤ◌, ◌+ℤ◌, ◌-ℤ◌, neg_ℤ, List, [], ◌∷◌}
-use Rattle.plan_difference.proofs.Common.{◌++◌, length, AllZip, Same-sym, Same-trans, Fraction, IsOver, Ratio, as_fraction, fraction_total, whole, Same, den}
-use Rattle.plan_difference.proofs.Common.{plus, times, as_diff, diffs, same_diff, sub_mul, Goes-first, Goes-second, fraction_over, same_over, heads_over}
+use Rattle.plan_difference.proofs.Common.{◌≡◌, ℕ, ◌*◌, ◌<◌, ◌∙◌, ap, sym, refl, subst, arith, mul-pos, ℤ, pos, ◌*ℤ◌, ◌+ℤ◌, ◌-ℤ◌, neg_ℤ, List, [], ◌∷◌, ◌++◌}
+use Rattle.plan_difference.proofs.Common.{length, AllZip, Same-sym, Same-trans, Fraction, IsOver, Ratio, as_fraction, fraction_total, whole, Same, den, plus}
+use Rattle.plan_difference.proofs.Common.{times, as_diff, diffs, same_diff, sub_mul, Goes-first, Goes-second, fraction_over, same_over, heads_over}
 use Rattle.plan_difference.proofs.Common.{IsOver-minus, IsOver-signed, IsOver-times, over_zero, ExactCell, ExactFixed, ExactLink, balance, cell_at, drain_flow}
 use Rattle.plan_difference.proofs.Common.{evap_flow, fixed_flow, link_flow, minus, river_flow, share, AreInOneWeather, DifferenceSolvesIt, IsDifferenceCell}
 use Rattle.plan_difference.proofs.Common.{known_difference, known_differences, zero-*ℤ}

@@ -1,12 +1,13 @@
--- Whole bounds of the differences' step that hold in every weather, and what a certificate over them says.
+-- Whole bounds of the differences' step that hold in every weather, and what encloses all solutions of a problem of them.
 use Rattle.std.specs.Prelude.{ℕ, ℤ, pos, ◌-ℤ◌, ◌<◌, ◌≡◌, List, [], ◌∷◌, ◌++◌, length}
 use Rattle.std.specs.List.{AllZip}
 use Rattle.decimal_input.specs.{Encloses, Ratio}
 use Rattle.step_problem.specs.declared.entry.Fixed.{Fixed}
 use Rattle.step_problem.specs.declared.entry.FixedKind.TheVariants.{General}
 use Rattle.step_problem.specs.Entries.{Entries}
-use Rattle.step_problem.specs.{Edges, IsCertificate, IsProblem, entries_at, head_at}
-use Rattle.cell_balance.specs.{ExactCell, FixedEncloses, FlowEncloses, HasEqualEnds, IsHeldBelow, LiesBetween, LinkEncloses, SolvesStep, cell_at, EnclosesStep}
+use Rattle.step_problem.specs.{entries_at}
+use Rattle.cell_balance.specs.{ExactCell, FixedEncloses, FlowEncloses, HasEqualEnds, LiesBetween, LinkEncloses, SolvesStep, cell_at, EnclosesStep}
+use Rattle.cell_balance.specs.{EnclosesSolutions}
 use Rattle.plan_difference.specs.DifferenceStep.{AreStepsInOneWeather, IsDifferenceStep, flow_difference, known_differences}
 
 -- A branch of the cell of this number to a known head of 0, over a conductance from 0 to what is at least `own`.
@@ -45,20 +46,16 @@ EnclosesDifferences =
     (s : ℕ) (p : List Entries) (d : ℕ) (X Y : ℕ → ℤ) (e f g : List ExactCell) → BoundsDifferencesOf s p e f →
     IsDifferenceStep d X Y e f g → EnclosesStep s p g
 
--- Two plans solved in one weather, and a certificate over a barrier that encloses the differences of the two solutions.
-pub record ArePlansCertified (p : List Entries) (b : Edges) (l u : ℕ → ℤ) (s : ℕ) (e f : List ExactCell) (d : ℕ) (X Y : ℕ → ℤ) : Type 0 where
-  pub problem : IsProblem p
-  pub held : IsHeldBelow p
-  pub certificate : IsCertificate p b l u
-  pub bounds : BoundsDifferencesOf s p e f
+-- The steps of two plans in one weather, and a solution of each over d.
+pub record AreSolvedInOneWeather (e f : List ExactCell) (d : ℕ) (X Y : ℕ → ℤ) : Type 0 where
   pub weather : AreStepsInOneWeather e f
   pub some : 0 < d
   pub base : SolvesStep e d X
   pub other : SolvesStep f d Y
-  pub barrier : LiesBetween (length p) d (λ c. X c -ℤ Y c) (head_at b.floor) (head_at b.ceiling)
 
--- It encloses the differences.
-abbrev pub CertificateBoundsDifferences : Type 0
-CertificateBoundsDifferences =
-    (p : List Entries) (b : Edges) (l u : ℕ → ℤ) (s : ℕ) (e f : List ExactCell) (d : ℕ) (X Y : ℕ → ℤ) →
-    ArePlansCertified p b l u s e f d X Y → LiesBetween (length p) d (λ c. X c -ℤ Y c) l u
+-- Heads l and u that enclose all solutions of the steps that such a problem encloses, as a barrier does and a certificate over
+-- it, enclose the differences of the two plans' solutions.
+abbrev pub SolutionsBoundDifferences : Type 0
+SolutionsBoundDifferences =
+    (s : ℕ) (p : List Entries) (l u : ℕ → ℤ) (e f : List ExactCell) (d : ℕ) (X Y : ℕ → ℤ) → BoundsDifferencesOf s p e f →
+    AreSolvedInOneWeather e f d X Y → EnclosesSolutions p l u → LiesBetween (length p) d (λ c. X c -ℤ Y c) l u

@@ -1,5 +1,5 @@
 // The exact step of the differences of two plans' heads.
-ghost use Rattle.plan_difference.specs.{CertificateBoundsDifferences, DifferenceSolvesIt, DifferenceStepExists, EnclosesDifferences};
+ghost use Rattle.plan_difference.specs.{SolutionsBoundDifferences, DifferenceSolvesIt, DifferenceStepExists, EnclosesDifferences};
 
 /// There is such a step: each river, drain and evapotranspiration gives more by a share of its conductance.
 pub fn difference_step_exists()
@@ -16,7 +16,7 @@ pub fn differences_are_enclosed()
     ensures { EnclosesDifferences }
 {}
 
-/// So a certificate of such a problem encloses the differences of the two plans' solutions, wherever its barrier does.
-pub fn certificate_bounds_differences()
-    ensures { CertificateBoundsDifferences }
+/// So what encloses all solutions of such a problem's steps, as a barrier does and a certificate over it, encloses the differences of the two plans' solutions.
+pub fn solutions_bound_differences()
+    ensures { SolutionsBoundDifferences }
 {}
