@@ -2,6 +2,7 @@
 from __future__ import annotations
 
 import argparse
+import logging
 import os
 import re
 import signal
@@ -257,6 +258,7 @@ def parser() -> argparse.ArgumentParser:
     add_to(s, "the second deck, where the listing is that of two decks")
     add_zones(s)
     add_wide(s)
+    add_force(s)
     s = add(
         "drawdown",
         "what a plan does: the differences of two listings with bounds, as tables, map, curves and sentences",
@@ -406,9 +408,14 @@ def stop(*_: object) -> None:
     raise KeyboardInterrupt
 
 
-def silence() -> None:
-    """Sends what standard output still holds nowhere: it can't be written."""
-    os.dup2(os.open(os.devnull, os.O_WRONLY), sys.stdout.fileno())
+def silenced() -> bool:
+    """Whether standard output can't be written; what it still holds then goes nowhere."""
+    try:
+        sys.stdout.flush()
+        return False
+    except OSError:
+        os.dup2(os.open(os.devnull, os.O_WRONLY), sys.stdout.fileno())
+        return True
 
 
 PASSING = {"run", "exhibit", "batch", "mf2005"}
@@ -441,6 +448,9 @@ def main(words: list[str] | None = None) -> int:
     complete(top)
     from . import commands
 
+    # Where the home can't be written, matplotlib tells of its own folder for a while: nothing that a user can act on.
+    logging.getLogger("matplotlib").setLevel(logging.ERROR)
+
     try:
         args, rest = top.parse_known_args(joined(sys.argv[1:] if words is None else words))
         if rest and args.command not in PASSING:
@@ -461,9 +471,8 @@ def main(words: list[str] | None = None) -> int:
         sys.stderr.close()
         return 141
     except OSError as error:
-        print(f"heads-tools: {error.filename or 'standard output'}: {error.strerror}", file=sys.stderr)
-        if error.filename is None:
-            silence()
+        where = error.filename or ("standard output" if silenced() else "a file")
+        print(f"heads-tools: {where}: {error.strerror or error}", file=sys.stderr)
         return 2
     except KeyboardInterrupt:
         print("heads-tools: stopped", file=sys.stderr)

@@ -26,6 +26,7 @@ PACKAGES = {
     "rasterio": "python3-rasterio",
     "meshio": "python3-meshio",
 }
+METRES = {"m": 1.0, "ft": 0.3048, "cm": 0.01}
 ROUNDED = "Heads are rounded outward to doubles."
 
 
@@ -76,6 +77,34 @@ def place_of(text: str) -> Place:
             f"`{text}`: a place is X0,Y0[,ANGLE[,EPSG]], the grid's lower left corner, degrees against the clock, a"
             " code of EPSG"
         ) from None
+
+
+def system_of(epsg: int) -> Any:
+    """The reference system of a code of EPSG; None where rasterio isn't here, which knows them."""
+    try:
+        from rasterio.crs import CRS
+        from rasterio.errors import CRSError
+    except ImportError:
+        return None
+    try:
+        return CRS.from_epsg(epsg)
+    except CRSError:
+        raise Problem(f"EPSG:{epsg} isn't known: a code of EPSG is due, as 28992") from None
+
+
+def demand_unit(model: Model | None, place: Place) -> None:
+    """Refuses a reference system whose lengths have another unit than the model's: the grid isn't converted."""
+    system, metres = system_of(place.epsg) if place.epsg else None, METRES.get(model.length) if model else None
+    if system is None:
+        return
+    if not system.is_projected:
+        raise Problem(f"EPSG:{place.epsg} has degrees, and the grid has lengths: a code of a projection is due")
+    name, factor = system.linear_units_factor
+    if metres and abs(factor - metres) > 1e-5 * metres:
+        raise Problem(
+            f"{model.deck.path.name} has its lengths in {model.length}, and EPSG:{place.epsg} in {name}: the grid isn't"
+            " converted. Take a code with the model's unit, or leave the code out"
+        )
 
 
 class Unwritten(Problem):

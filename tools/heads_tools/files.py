@@ -9,7 +9,7 @@ from xml.sax.saxutils import quoteattr
 import numpy as np
 
 from .about import write_about
-from .exports import Place, Unwritten, comment_of, facts_for, heads_frame, package, time_of
+from .exports import Place, Unwritten, comment_of, demand_unit, facts_for, heads_frame, package, time_of
 from .listing import Listing
 from .model import Model
 from .netcdf import to_netcdf
@@ -37,6 +37,7 @@ def to_geotiff(
     for name, widths in (("DELR", model.delr), ("DELC", model.delc)):
         if widths.max() - widths.min() > 1e-9 * widths.max():
             raise Unwritten(f"a GeoTIFF has cells of one width, and {name} differs: take NetCDF or VTK")
+    demand_unit(model, place)
     x, y = place.world(np.array(0.0), np.array(model.delc.sum()))
     corner, turn = Affine.translation(float(x), float(y)), Affine.rotation(place.angle)
     nlay, nrow, ncol = model.shape
@@ -91,7 +92,7 @@ def to_vtk(
         head, body = draft.read_bytes().split(b"\n", 1)
 
     def look(new: Path) -> None:
-        found = meshio.read(new, file_format="vtu").cell_data
+        found = meshio.vtu.read(new).cell_data
         if any(not np.array_equal(found[name][0], data[name][0]) for name in ("lower", "upper")):
             raise ValueError("it has other values")
 

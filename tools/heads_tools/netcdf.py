@@ -9,7 +9,7 @@ from typing import TYPE_CHECKING, Any
 
 import numpy as np
 
-from .exports import Place, comment_of, facts_for, middles, package, time_of
+from .exports import Place, comment_of, demand_unit, facts_for, middles, package, system_of, time_of
 from .listing import Listing
 from .model import Model
 from .places import start_of
@@ -47,11 +47,12 @@ def to_xarray(
     coords["step_of_period"] = (first, [s.step for s in listing.steps], {"long_name": "time step of the period"})
     what = "change of the head" if listing.is_change else "head"
     about = {"units": LENGTHS.get(listing.unit, "length units"), "comment": comment_of(listing, verdict)}
-    if mapping := mapping_of(model, place):
-        coords[MAPPING] = ((), 0, mapping)
-        about["grid_mapping"] = MAPPING
+    demand_unit(model, place)
+    mapping = mapping_of(model, place)
+    about |= {"grid_mapping": MAPPING} if mapping else {}
     dims = (first, "layer", *axes)
-    data: dict[str, Any] = {
+    data: dict[str, Any] = {MAPPING: ((), 0, mapping)} if mapping else {}
+    data |= {
         "lower": (dims, listing.lower(shape), about | {"long_name": f"lower bound of the {what}"}),
         "upper": (dims, listing.upper(shape), about | {"long_name": f"upper bound of the {what}"}),
     }
@@ -121,18 +122,9 @@ def transform_of(model: Model, place: Place) -> list[float]:
 
 
 def wkt_of(epsg: int) -> str:
-    """The text of a reference system; empty where no package here knows it."""
-    try:
-        from rasterio.crs import CRS
-    except ImportError:
-        try:
-            from pyproj import CRS
-        except ImportError:
-            return ""
-    try:
-        return str(CRS.from_epsg(epsg).to_wkt())
-    except Exception:
-        raise Problem(f"EPSG:{epsg} isn't known here: a code of EPSG, as 28992, is due") from None
+    """The text of a reference system; empty where the package that knows it isn't here."""
+    system = system_of(epsg)
+    return str(system.to_wkt()) if system else ""
 
 
 def grid_data(model: Model, dims: tuple[str, ...], mapping: str | None) -> dict[str, Any]:
@@ -158,8 +150,8 @@ def to_netcdf(
     netcdf, backends = package("netCDF4"), package("xarray").backends
     with ALONE:
         file = netcdf.Dataset("heads.nc", "w", memory=1 << 16)
-        numbers = [name for name in data.data_vars if data[name].ndim]
-        encoding = {name: {"zlib": True, "complevel": 4} for name in numbers}
+        encoding: dict[str, dict] = {name: {"_FillValue": None} for name in data.coords}
+        encoding |= {name: {"zlib": True, "complevel": 4} for name in data.data_vars if data[name].ndim}
         data.dump_to_store(backends.NetCDF4DataStore(file), encoding=encoding)
         content = bytes(file.close())
         write_whole(path, content, lambda new: look_at(new, data))

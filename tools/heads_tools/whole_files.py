@@ -23,19 +23,21 @@ def why(error: OSError, path: Path) -> Problem:
 def draft_of(path: Path) -> Iterator[Path]:
     """An empty file in the folder of `path`, for what is to get its name; if it is still there at the end, it goes. A
     fault of writing it is told by the name `path`."""
-    name = ""
     try:
         path.parent.mkdir(parents=True, exist_ok=True)
         handle, name = tempfile.mkstemp(prefix=f".{path.name[:200]}.", dir=path.parent)
         os.close(handle)
+    except OSError as error:
+        raise why(error, path) from None
+    try:
         os.chmod(name, 0o644)
         yield Path(name)
     except OSError as error:
-        if error.filename not in (None, name, str(path.parent)) and not str(error.filename).startswith(f"{name}."):
+        if error.filename not in (None, name):
             raise
         raise why(error, path) from None
     finally:
-        if name and os.path.exists(name):
+        if os.path.exists(name):
             os.unlink(name)
 
 
