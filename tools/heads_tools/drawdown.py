@@ -4,6 +4,7 @@ numbers, outward, with nothing rounded."""
 from __future__ import annotations
 
 from dataclasses import dataclass, field
+from functools import cached_property
 from pathlib import Path
 
 import numpy as np
@@ -147,12 +148,22 @@ class Drawdown:
         times = self.model.times if self.model else {}
         return times.get((change.period, change.step), (0.0, None))[1]
 
-    def deepest(self, change: Change) -> int:
+    def deepest(self, change: Change, among: np.ndarray | None = None) -> int:
         """The place of the cell whose head the plan lowers most, by the least that the bounds show; else changes
-        most."""
-        return int(change.high.argmin() if (change.high < 0).any() else np.maximum(-change.low, change.high).argmax())
+        most. `among`: the places of the cells to choose from, all where left out."""
+        places = np.arange(len(change.low)) if among is None else among
+        low, high = change.low[places], change.high[places]
+        return int(places[high.argmin() if (high < 0).any() else np.maximum(-low, high).argmax()])
 
-    @property
+    @cached_property
+    def without_wells(self) -> np.ndarray:
+        """The places of the cells without an entry of the plan's WEL; none where its model isn't named, or has no
+        entry."""
+        lists = self.model.deck.lists.get("WEL", []) if self.model else []
+        wells = {entry.cell for entries in lists for entry in entries or []}
+        return np.flatnonzero([tuple(cell) not in wells for cell in self.plan.cells.tolist()] if wells else [])
+
+    @cached_property
     def worst(self) -> Change:
         """The step at whose end the bounds show the deepest drawdown; where they show none, the last."""
         least = [int(change.high.min()) for change in self.changes]
@@ -171,6 +182,9 @@ class Drawdown:
         if worst is not last:
             deepest = f"at the end of {self.at(worst)}, {self.most(worst)}"
             out.append(f"The deepest of all {len(self.changes)} steps: {deepest}.")
+        if len(self.without_wells):
+            most = self.most(worst, self.without_wells)
+            out.append(f"Of the cells without a well the most, at the end of {self.at(worst)}: {most}.")
         out += [
             told(int(last.low[n]), int(last.high[n]), self.unit, where=place_of(cell)).replace(
                 "the plan", "The plan", 1
@@ -183,9 +197,9 @@ class Drawdown:
         out.append(f"At {counted(shown, 'cell')} of {len(last.low)} the bounds show which of the two heads is higher.")
         return out + self.tops
 
-    def most(self, change: Change) -> str:
-        """What the plan does at the end of a step to the cell whose head it changes most."""
-        at = self.deepest(change)
+    def most(self, change: Change, among: np.ndarray | None = None) -> str:
+        """What the plan does at the end of a step to the cell, of all or of some, whose head it changes most."""
+        at = self.deepest(change, among)
         return told(
             int(change.low[at]), int(change.high[at]), self.unit, where=place_of(tuple(self.plan.cells[at].tolist()))
         )

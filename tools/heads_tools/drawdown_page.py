@@ -119,8 +119,9 @@ def draw(it: Drawdown, folder: Path, cells: list[Cell], files: list[str]) -> Non
     set_verdict(page, it.verdicts)
     for text in it.sentences(cells)[len(it.verdicts) :]:
         page.say(text)
-    deepest = [tuple(it.plan.cells[it.deepest(change)].tolist()) for change in (it.worst, last)]
-    chosen = cells or list(dict.fromkeys(deepest))
+    deepest = [it.deepest(it.worst), it.deepest(last)]
+    deepest += [it.deepest(it.worst, it.without_wells)] if len(it.without_wells) else []
+    chosen = cells or [tuple(it.plan.cells[at].tolist()) for at in dict.fromkeys(deepest)]
     rows = []
     for cell in chosen:
         at = it.plan.at(cell)

@@ -6,11 +6,12 @@ from pathlib import Path
 import numpy as np
 
 from .listing import Listing
+from .live_map import NAME, write_live_map
 from .look_flows import Flows
 from .look_others import Others
 from .look_sections import Sections
 from .look_tops import Tops
-from .looking import title_of
+from .looking import HEADS, title_of
 from .model import Model
 from .page import write_page
 from .pictures import Cell
@@ -51,6 +52,7 @@ def look(
             "Its pairs are bounds only where a run ends with END."
         )
     last = listing.steps[-1]
+    it.jobs.append(lambda: add_live_map(it))
     it.add_steps(listing.steps if is_every else [last])
     it.add_below_top()
     it.add_sections(last, *(cells[0][1:] if cells else it.place[1:]))
@@ -70,6 +72,12 @@ def look_at_given(listing: Listing, folder: Path, model: Model | None, verdict: 
     make_folder(folder)
     it.add_given(given)
     finish(it)
+
+
+def add_live_map(it: Look) -> None:
+    """The map to point at, beside the page, with a link to it."""
+    if about := write_live_map(it):
+        it.page.add(HEADS, f'<p><a href="{NAME}">A map to point at</a>: {about}</p>')
 
 
 def make_folder(folder: Path) -> None:
