@@ -2,6 +2,7 @@
 make."""
 from __future__ import annotations
 
+import functools
 import mmap
 import re
 from contextlib import contextmanager
@@ -64,7 +65,7 @@ def demand_free(path: Path | str, new: Path | None = None) -> None:
     for nam in name_files(place, keep):
         if place == nam:
             raise Problem(f"{path} isn't written over: it is a name file")
-        kind = kind_of(place, nam)
+        kind = kinds_of(nam).get(place, "")
         if kind and not (kind in OUTPUTS and is_free):
             raise Problem(f"{path} isn't written over: {nam.name} names it ({kind})")
         if not is_free and place in opened(nam):
@@ -87,9 +88,17 @@ def named(nam: Path) -> list[tuple[str, str]]:
     return [(words[0].upper(), name) for words in lines for name in words[1:3] if len(words) > 1]
 
 
-def kind_of(place: Path, nam: Path) -> str:
-    """As what a name file names a file; nothing where it doesn't."""
-    return next((kind for kind, name in named(nam) if on_disk(nam.parent, name).resolve() == place), "")
+def kinds_of(nam: Path) -> dict[Path, str]:
+    """As what a name file names its files: as an input, where it names one twice."""
+    at = nam.stat()
+    return known_kinds(nam, at.st_mtime_ns, at.st_ctime_ns, at.st_size)
+
+
+@functools.lru_cache(maxsize=4096)
+def known_kinds(nam: Path, *_: int) -> dict[Path, str]:
+    """The same of a name file with these times and this size: a batch asks for each of its models."""
+    kinds = {on_disk(nam.parent, name).resolve(): kind for kind, name in named(nam) if kind in OUTPUTS}
+    return kinds | {on_disk(nam.parent, name).resolve(): kind for kind, name in named(nam) if kind not in OUTPUTS}
 
 
 def opened(nam: Path) -> set[Path]:

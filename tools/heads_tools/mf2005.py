@@ -17,7 +17,7 @@ from .about import about_file, write_about
 from .cli import main as run_command
 from .explain import explain
 from .headfile import write_heads
-from .kept_files import OUTPUTS, is_ours, named
+from .kept_files import OUTPUTS, is_ours, kinds_of
 from .listing import TERMS, Listing, Step
 from .model import Model, read_model
 from .plain import plain
@@ -124,8 +124,7 @@ def make_room(files: list[Path], nam: Path, out: IO[str]) -> None:
     """Removes the outputs of the run before. One that another program wrote is lost to nobody: it gets the name
     NAME.before."""
     for path in files:
-        kinds = {kind for kind, name in named(nam) if on_disk(nam.parent, name).resolve() == path.resolve()}
-        if kinds - OUTPUTS:
+        if kinds_of(nam).get(path.resolve()) not in OUTPUTS:
             raise Problem(f"{path} would be written over: {nam.name} names it as a file of the deck, too")
         if not path.is_file():
             continue
