@@ -13,7 +13,7 @@
 #undef realloc
 #undef free
 
-enum { CALLS = 1000000, BLOCKS = 700, MOST_PAGES = 256 };
+enum { CALLS = 300000, BLOCKS = 700, MOST_PAGES = 256 };
 static unsigned char room[MOST_PAGES * PAGE + PAGE] __attribute__((aligned(65536)));
 static u64 pages = 2, state = 88172645463325252u, refused;
 static struct { unsigned char *at; u64 size; unsigned char mark; } kept[BLOCKS];

@@ -4,12 +4,14 @@ import importlib.util
 import io
 import json
 import os
+import shutil
 import struct
 import subprocess
 import sys
 import tarfile
 import tempfile
 import unittest
+import zipfile
 from pathlib import Path
 from unittest import mock
 
@@ -180,6 +182,75 @@ class Images(unittest.TestCase):
                 os.chdir("/model")
             done = subprocess.run(["/heads", "run", "m.nam"], capture_output=True, preexec_fn=enter)
         self.assertEqual((done.returncode, done.stdout), (0, wanted))
+
+
+@unittest.skipUnless(shutil.which("gcc"), "gcc isn't installed")
+class PartsOfThePage(unittest.TestCase):
+    """The C of web/ by itself, compiled for this machine."""
+
+    def run_test(self, name):
+        with tempfile.TemporaryDirectory() as folder:
+            program, source = str(Path(folder) / name), str(PORTS / "tests" / f"{name}.c")
+            warnings = ["-Wall", "-Wextra", "-Werror", "-Wno-builtin-declaration-mismatch"]
+            subprocess.run(["gcc", "-O2", *warnings, "-o", program, source], check=True)
+            done = subprocess.run([program], capture_output=True, text=True)
+        self.assertEqual(done.returncode, 0, done.stdout)
+
+    def test_memory_keeps_blocks_apart_and_joins_what_is_given_back(self):
+        self.run_test("memory_test")
+
+    def test_arithmetic_of_128_bits_is_that_of_gcc(self):
+        self.run_test("wide_test")
+
+
+@unittest.skipUnless(shutil.which("node"), "node isn't installed")
+class Files(unittest.TestCase):
+    """Names and .zip files as the page takes them."""
+
+    def node(self, text):
+        done = subprocess.run(["node", "--input-type=module", "-e", text], cwd=PORTS / "web", capture_output=True, text=True)
+        self.assertEqual(done.returncode, 0, done.stderr)
+        return json.loads(done.stdout)
+
+    def test_names_are_looked_up_from_the_folder_of_the_name_file(self):
+        asked = ["a.nam", "./a.nam", "sub/a.dis", "sub\\a.dis", "../other.bas", "sub/../a.nam", "A.NAM", "none/../a.nam",
+                 "../../other.bas", "/model/a.nam", "b.nam", ""]
+        found = self.node("""
+            import { Folder } from "./host.mjs";
+            const names = ["model/a.nam", "model/sub/a.dis", "other.bas"];
+            const folder = new Folder(new Map(names.map((name) => [name, name])), "model/");
+            console.log(JSON.stringify([ASKED.map((name) => folder.find(name) ?? null), [...folder.taken]]));
+        """.replace("ASKED", json.dumps(asked)))
+        due = ["model/a.nam", "model/a.nam", "model/sub/a.dis", "model/sub/a.dis", "other.bas", "model/a.nam",
+               "model/a.nam", None, None, None, None, None]
+        self.assertEqual(found, [due, [["A.NAM", "model/a.nam"]]])
+
+    def test_a_zip_is_unpacked_and_a_spoiled_one_is_refused(self):
+        with tempfile.TemporaryDirectory() as folder:
+            path = Path(folder) / "a.zip"
+            with zipfile.ZipFile(path, "w") as file:
+                file.writestr("sub/a.dis", b"1 1 3\n" * 100, zipfile.ZIP_DEFLATED)
+                file.writestr("a.nam", b"DIS 11 a.dis\n", zipfile.ZIP_STORED)
+            whole = path.read_bytes()
+            spoiled = bytearray(whole)
+            spoiled[whole.index(b"DIS 11")] ^= 1
+            given = [list(whole), list(spoiled), list(whole[:-30]), list(b"not a zip")]
+            found = self.node("""
+                import { unzipped } from "./unzip.mjs";
+                const said = [];
+                for (const bytes of GIVEN) {
+                    try {
+                        const files = await unzipped(new Uint8Array(bytes));
+                        said.push([...files].map(([name, content]) => [name, new TextDecoder().decode(content)]));
+                    } catch (error) {
+                        said.push(error.message);
+                    }
+                }
+                console.log(JSON.stringify(said));
+            """.replace("GIVEN", json.dumps(given)))
+        self.assertEqual(found[0], [["sub/a.dis", "1 1 3\n" * 100], ["a.nam", "DIS 11 a.dis\n"]])
+        self.assertEqual(found[1], "a.nam is spoiled in this .zip")
+        self.assertEqual(found[2:], ["this is no whole .zip"] * 2)
 
 
 if __name__ == "__main__":

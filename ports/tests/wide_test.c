@@ -13,7 +13,7 @@
 #define __modti3 wide_modti3
 #include "../web/wide.c"
 
-enum { RANDOM = 2000000 };
+enum { RANDOM = 300000 };
 static u64 state = 88172645463325252u, compared, wrong;
 
 static u64 next(void)

@@ -67,27 +67,66 @@ struct divided {
     u128 quotient, rest;
 };
 
-// Long division, a bit at a time, from the first bit of the divided number on. The divisor isn't 0.
+// The quotient of high and low, as one number, by a divisor that is more than high; Knuth's algorithm D with two digits of
+// 32 bits. The divisor's first bit is set by a shift of all, so that a digit that is guessed by its first 32 bits is at most
+// 2 too large.
+static u64 word_quotient(u64 high, u64 low, u64 divisor, u64 *rest)
+{
+    int shift = __builtin_clzll(divisor);
+    u64 quotient = 0, digits[2] = {low << shift >> 32, (u32)(low << shift)};
+    divisor <<= shift;
+    high = shift ? high << shift | low >> (64 - shift) : high;
+    for (int n = 0; n < 2; n++) {
+        u64 digit = high / (divisor >> 32), left = high - digit * (divisor >> 32);
+        while (digit >> 32 || digit * (u32)divisor > (left << 32 | digits[n])) {
+            digit--;
+            left += divisor >> 32;
+            if (left >> 32)
+                break;
+        }
+        high = (high << 32 | digits[n]) - digit * divisor;
+        quotient = quotient << 32 | digit;
+    }
+    *rest = high >> shift;
+    return quotient;
+}
+
+// The divisor has an upper half, so the quotient is a word: long division, a bit at a time.
+static struct divided long_division(u128 number, u128 divisor)
+{
+    u64 nh = high_of(number), nl = low_of(number), dh = high_of(divisor), dl = low_of(divisor), quotient = 0;
+    if (nh < dh)
+        return (struct divided){0, number};
+    int shift = __builtin_clzll(dh) - __builtin_clzll(nh);
+    if (shift) {
+        dh = dh << shift | dl >> (64 - shift);
+        dl <<= shift;
+    }
+    for (; shift >= 0; shift--) {
+        u64 is_less = nl < dl;
+        quotient <<= 1;
+        if (nh > dh || (nh == dh && !is_less)) {
+            nh -= dh + is_less;
+            nl -= dl;
+            quotient |= 1;
+        }
+        dl = dl >> 1 | dh << 63;
+        dh >>= 1;
+    }
+    return (struct divided){of(0, quotient), of(nh, nl)};
+}
+
+// The divisor isn't 0.
 static struct divided divide(u128 number, u128 divisor)
 {
-    u64 nh = high_of(number), nl = low_of(number), dh = high_of(divisor), dl = low_of(divisor);
-    if (!(nh | dh))
-        return (struct divided){of(0, nl / dl), of(0, nl % dl)};
-    u64 rh = 0, rl = 0, qh = 0, ql = 0;
-    for (int bit = nh ? 127 - __builtin_clzll(nh) : 63 - (nl ? __builtin_clzll(nl) : 63); bit >= 0; bit--) {
-        // The rest is less than the divisor, so its first bit is lost only where the doubled rest is more than it.
-        u64 is_over = rh >> 63;
-        rh = rh << 1 | rl >> 63;
-        rl = rl << 1 | ((bit & 64 ? nh : nl) >> (bit & 63) & 1);
-        qh = qh << 1 | ql >> 63;
-        ql <<= 1;
-        if (is_over || rh > dh || (rh == dh && rl >= dl)) {
-            rh -= dh + (rl < dl);
-            rl -= dl;
-            ql |= 1;
-        }
-    }
-    return (struct divided){of(qh, ql), of(rh, rl)};
+    u64 high = high_of(number), low = low_of(number), by = low_of(divisor), rest = 0;
+    if (high_of(divisor))
+        return long_division(number, divisor);
+    u64 first = high / by, left = high % by;
+    if (!left)
+        return (struct divided){of(first, low / by), of(0, low % by)};
+    u64 second = word_quotient(left, low, by, &rest);
+    return (struct divided){of(first, second), of(0, rest)};
 }
 
 u128 __udivti3(u128 a, u128 b)
