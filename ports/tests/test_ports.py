@@ -208,13 +208,14 @@ class Files(unittest.TestCase):
     """Names and .zip files as the page takes them."""
 
     def node(self, text):
-        done = subprocess.run(["node", "--input-type=module", "-e", text], cwd=PORTS / "web", capture_output=True, text=True)
+        words = ["node", "--input-type=module", "-e", text]
+        done = subprocess.run(words, cwd=PORTS / "web", capture_output=True, text=True)
         self.assertEqual(done.returncode, 0, done.stderr)
         return json.loads(done.stdout)
 
     def test_names_are_looked_up_from_the_folder_of_the_name_file(self):
-        asked = ["a.nam", "./a.nam", "sub/a.dis", "sub\\a.dis", "../other.bas", "sub/../a.nam", "A.NAM", "none/../a.nam",
-                 "../../other.bas", "/model/a.nam", "b.nam", ""]
+        asked = ["a.nam", "./a.nam", "sub/a.dis", "sub\\a.dis", "../other.bas", "sub/../a.nam", "A.NAM",
+                 "none/../a.nam", "../../other.bas", "/model/a.nam", "b.nam", ""]
         found = self.node("""
             import { Folder } from "./host.mjs";
             const names = ["model/a.nam", "model/sub/a.dis", "other.bas"];
