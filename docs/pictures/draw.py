@@ -1,7 +1,7 @@
 #!/usr/bin/env python3
 """Draws the pictures of the documents into this folder.
 
-    docs/pictures/draw.py [NAME ..]      (river_valley, bounds, house, excess, zones)
+    docs/pictures/draw.py [NAME ..]      (river_valley, bounds, excess, zones)
 
 It needs numpy, scipy and matplotlib, and for `river_valley`, `bounds` and `zones` the program: that of the
 environment's HEADS, else dist/heads.
@@ -13,7 +13,6 @@ import re
 import subprocess
 import sys
 import tempfile
-import textwrap
 from pathlib import Path
 
 HERE = Path(__file__).resolve().parent
@@ -33,16 +32,6 @@ from heads_tools.zones import ZoneMap, read_zones, zone_map  # noqa: E402
 
 ALBUM = Album(HERE)
 BLUE, RED, GREY, GREEN = "#1f5fa8", "#b3261e", "0.45", "#2a7d4f"
-ROOMS = {
-    "The program": ("words to an exit status", "#dbe9f6"),
-    "Checking": ("step after step, certificates", "#e3f1e5"),
-    "Settling": ("to the one settled pair", "#fbeedd"),
-    "A step": ("a problem, floors, ceilings", "#fbe3df"),
-    "Reading a model": ("files of the packages", "#eee6f5"),
-    "Text": ("lines, words, refusals", "#f3f3d9"),
-    "Numbers": ("exact and rounded", "#e9e9e9"),
-}
-EDGES = ["text, status", "Step", "Bounds", "Problem, Barrier", "FlowModel", "files"]
 
 
 def plain(axes: Axes) -> None:
@@ -91,45 +80,6 @@ def bounds() -> None:
         )
         axes.set_title("Every exact solution lies between the two heads, in each view and in the listing")
         axes.legend(loc="upper left", bbox_to_anchor=(0, -0.19), ncol=2, borderaxespad=0)
-
-
-def crates() -> dict[str, list[str]]:
-    """The crates of each room, but for those of tests, from crates.txt."""
-    out: dict[str, list[str]] = {}
-    room: list[str] = []
-    for line in (TOP / "crates.txt").read_text().splitlines():
-        if line.startswith("#"):
-            room = out.setdefault(re.split(r"[:,]", line[1:])[0].strip(), [])
-        elif ":" in line:
-            room.append(line.partition(":")[0])
-    return {name: out[name] for name in ROOMS}
-
-
-def house() -> None:
-    """The rooms of the crates, one on top of the other, with their crates and what is handed up."""
-    rooms = {name: textwrap.wrap(", ".join(names), 100) for name, names in crates().items()}
-    gap, wide, line = 0.22, 6.3, 0.16
-    talls = [0.42 + line * len(lines) for lines in rooms.values()]
-    with ALBUM.figure("house", 8.4, sum(talls) + gap * (len(talls) + 1)) as figure:
-        height = figure.get_size_inches()[1]
-        axes = box(figure, 0, 0, 8.4, height)
-        axes.set(xlim=(0, 8.4), ylim=(0, height))
-        plain(axes)
-        top = height - gap
-        for (name, lines), tall, what in zip(rooms.items(), talls, [*EDGES, ""]):
-            about, colour = ROOMS[name]
-            shape = FancyBboxPatch((0.2, top - tall), wide, tall, boxstyle="round,pad=0,rounding_size=0.07")
-            shape.set(facecolor=colour, edgecolor="0.4", linewidth=0.8)
-            axes.add_patch(shape)
-            axes.text(0.32, top - 0.2, name, va="center", fontsize=11, weight="bold")
-            axes.text(0.2 + wide - 0.12, top - 0.2, about, va="center", ha="right", fontsize=9)
-            axes.text(0.32, top - 0.36, "\n".join(lines), va="top", fontsize=7.5, color="0.25", linespacing=1.25)
-            x = 0.2 + wide + 0.25
-            axes.annotate(
-                "", (x, top + 0.12), (x, top - tall + 0.05), arrowprops={"arrowstyle": "-|>", "color": BLUE, "lw": 1.4}
-            )
-            axes.text(x + 0.12, top - tall / 2, what, va="center", fontsize=9.5, color=BLUE)
-            top -= tall + gap
 
 
 def excess() -> None:
@@ -210,7 +160,7 @@ def zones() -> None:
         (Path(folder) / "m.heads").write_text(listed.stdout)
         listing = read_listing(Path(folder) / "m.heads")
     model = read_model(source / "m.nam")
-    entries = {kind: [e.cell for e in model.deck.lists[kind][0] or []] for kind in ("WEL", "RIV")}
+    entries = {kind: np.array([e.cell for e in model.deck.lists[kind][0] or []]) for kind in ("WEL", "RIV")}
     plan = plan_of(model.delr, model.delc, model.length, model.length, entries=entries)
     numbers = read_zones(source / "m.zon", source / "m.nam", model.shape)
     rate = f"{model.length}³ per {model.time}"
@@ -233,7 +183,7 @@ def valley() -> None:
     (HERE / "map_layer1_p1_s1.png").rename(HERE / "river_valley.png")
 
 
-PICTURES = {"river_valley": valley, "bounds": bounds, "house": house, "excess": excess, "zones": zones}
+PICTURES = {"river_valley": valley, "bounds": bounds, "excess": excess, "zones": zones}
 
 if __name__ == "__main__":
     unknown = [name for name in sys.argv[1:] if name not in PICTURES]

@@ -117,7 +117,7 @@ def leaky_strip():
     last = 12
     deck = Deck("leaky_strip", ["A strip that leaks to a river bed below it: dx dx / (T c) = 1/2, so that the discrete solution is of powers of 2.",
                                 "Exact: h_i = 9 (2^(13-i) + 2^(i-12)) / (2^13 + 2^-12); the continuum's cosh differs by the grid's 9 percent."],
-                (1, 1, last + 1), 10, 10, 10, [0], 1, 1, [[-1] + [1] * last], [[9] + [0] * last])
+                (1, 1, last + 1), 10, 10, 0, [-10], 1, 1, [[-1] + [1] * last], [[9] + [0] * last])
     deck.entries("GHB", [[(1, 1, j + 1, 0, 5) for j in range(1, last + 1)]])
     power = lambda n: Fraction(2) ** n
     for i in range(last + 1):
@@ -196,7 +196,7 @@ def ferris():
     level = [round(math.sin(2 * math.pi * k / steps), 9) for k in range(steps * turns + 1)]
     deck = Deck("ferris_tide", ["A tide of 1 m and half a day at the end of a confined strip, T 100 m2/d, S 0.001, in its eighth turn.",
                                 "Published (Jacob; Ferris 1951): exp(-a x) sin(w t - a x), a = sqrt(pi S / (T t0)). The difference is the time steps'."],
-                (1, 1, n), dx, dx, 0, [-10], 10, 10, 1, 0, tuple([f"{Fraction(1, 48).__float__():.12f} 1 1 TR"] * (steps * turns)), ss=0.0001)
+                (1, 1, n), dx, dx, -5, [-15], 10, 10, 1, 0, tuple([f"{Fraction(1, 48).__float__():.12f} 1 1 TR"] * (steps * turns)), ss=0.0001)
     deck.entries("CHD", [[(1, 1, 1, level[k], level[k + 1])] for k in range(steps * turns)])
     a = math.sqrt(math.pi * storage / (day * transmissivity))
     for k in range(steps * (turns - 1), steps * turns):
@@ -235,7 +235,7 @@ def island():
     deck = Deck("island", ["A round island of radius 1400 m in the sea, recharge w 0.002 m/d, T 500 m2/d; "
                            "the sea is a general head of conductance 1e7 on its rim.",
                            "Published: w (R R - r r) / (4 T). The difference is the rim's steps. So large a conductance wants --digits 9."],
-                (1, n, n), dx, dx, 10, [-40], 10, 10, is_land, 0)
+                (1, n, n), dx, dx, -5, [-55], 10, 10, is_land, 0)
     deck.entries("GHB", [[(1, i + 1, j + 1, 0, 10000000) for i in range(1, n - 1) for j in range(1, n - 1) if is_rim(i, j)]])
     deck.recharge(rate)
     for j in range(mid, mid + 26, 5):

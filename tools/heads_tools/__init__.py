@@ -3,31 +3,55 @@ import sys
 from types import ModuleType
 
 from .drawdown import changes_of  # before the call drawdown, whose name the module would take
-from .calls import Answer, between, certify, compare, drawdown, inside, look, plain, run
-from .exports import Place, heads_frame, terms_frame, to_netcdf, to_xarray
+from .calls import (
+    Answer,
+    between,
+    certify,
+    check,
+    compare,
+    drawdown,
+    export,
+    hds,
+    inside,
+    look,
+    observe,
+    plain,
+    run,
+)
+from .exports import Place, heads_frame, terms_frame
+from .failures import NoBounds, RunFailed
 from .files import to_geotiff, to_vtk
 from .headfile import read_heads, write_heads
 from .listing import Listing, Step, read_listing
 from .model import Model, read_model
-from .text import Problem
+from .netcdf import to_netcdf, to_xarray
+from .text import VERSION, Problem
+from .verdict import Verdict
 
-__version__ = "0.1.0"
-CALLS = ("between", "certify", "compare", "drawdown", "inside", "look", "plain", "run")
+__version__ = VERSION
+CALLS = ("between", "certify", "compare", "drawdown", "inside", "look", "observe", "plain", "run")
 __all__ = [
     "Answer",
     "Listing",
     "Model",
+    "NoBounds",
     "Place",
     "Problem",
+    "RunFailed",
     "Step",
+    "Verdict",
     "between",
     "certify",
+    "check",
     "changes_of",
     "compare",
     "drawdown",
+    "export",
+    "hds",
     "heads_frame",
     "inside",
     "look",
+    "observe",
     "plain",
     "read_heads",
     "read_listing",

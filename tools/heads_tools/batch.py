@@ -11,13 +11,16 @@ import tempfile
 from concurrent.futures import ThreadPoolExecutor
 from dataclasses import dataclass
 from pathlib import Path
-from typing import Iterable
+from typing import IO, Iterable
 
 from .explain import explain
+from .kept_files import demand_free
 from .listing import read_listing
+from .machine import memory
 from .made_by import keep_words
-from .program import digits_of, direct_program, end_of, has_steps, program, run, settle_output
-from .text import Problem, counted, decimal_text, read_text, whole_file, words
+from .program import digits_of, direct_program, end_of, has_steps, run, settle_output
+from .text import Problem, counted, decimal_text, read_text, words
+from .whole_files import whole_file
 
 MOST_JOBS = 1000
 # What `heads batch` holds: of each cell's model, and of its line in the text of each step (measured).
@@ -49,7 +52,7 @@ def read_jobs(path: Path) -> list[Job]:
         if w and not line.startswith("#"):
             nam = path.parent / w[0].replace("\\", "/")
             if not nam.is_file():
-                raise Problem(f"{path}, line {n}: there is no file {w[0]}")
+                raise Problem(f"{path}, line {n}: there is no file {w[0]}{blank_in(line.strip(), path.parent)}")
             jobs.append(Job(w[0], nam.resolve()))
     if len(jobs) > MOST_JOBS:
         raise Problem(f"{path} has {len(jobs)} models; {MOST_JOBS} are the most")
@@ -60,21 +63,33 @@ def read_jobs(path: Path) -> list[Job]:
     return jobs
 
 
-def batch(path: Path, options: list[str], way: str, at_once: int, is_written_only: bool) -> int:
+def blank_in(line: str, folder: Path) -> str:
+    """What to say where a whole line names a file, and its first word doesn't."""
+    if not (folder / line.replace("\\", "/")).is_file():
+        return ""
+    return f". There is `{line}`, but a blank ends a name: rename the file, without blanks"
+
+
+def batch(
+    path: Path, options: list[str], way: str, at_once: int, is_written_only: bool, out: IO[str]
+) -> int:
     """Runs all models of a list in the way asked for, and prints how each ended; the first status that isn't 0."""
     jobs = read_jobs(path)
+    for job in jobs:
+        demand_free(job.listing)
     before = [stamps(job) for job in jobs]
     if way == "slurm":
-        run_slurm(path, jobs, options, at_once, is_written_only)
+        run_slurm(path, jobs, options, at_once, is_written_only, out)
     elif way == "parallel":
-        run_parallel(path, jobs, options, at_once, is_written_only)
+        run_parallel(path, jobs, options, at_once, is_written_only, out)
     elif not (fits_memory(jobs) and run_by_program(jobs, options, at_once or os.cpu_count() or 1)):
         with ThreadPoolExecutor(at_once or os.cpu_count() or 1) as pool:
             for done, job in enumerate(
                 pool.map(lambda job: run(job.nam, options, job.listing, is_told=False) and job, jobs), 1
             ):
                 print(f"{done} of {len(jobs)}: {job.name}", file=sys.stderr)
-    return 0 if is_written_only and way != "here" else collect(jobs, before, options, path.with_suffix(".ends.csv"))
+    table = path.with_suffix(".ends.csv")
+    return 0 if is_written_only and way != "here" else collect(jobs, before, options, table, out)
 
 
 def stamp(path: Path) -> tuple[int, int] | None:
@@ -94,7 +109,9 @@ def new_output(job: Job, before: list[tuple[int, int] | None]) -> Path | None:
     return next((path for path, old in zip(job.outputs, before) if stamp(path) not in (None, old)), None)
 
 
-def collect(jobs: list[Job], before: list[list[tuple[int, int] | None]], options: list[str], table: Path) -> int:
+def collect(
+    jobs: list[Job], before: list[list[tuple[int, int] | None]], options: list[str], table: Path, stream: IO[str]
+) -> int:
     """Prints how each model ended, writes it as a table, keeps the words of whole listings beside them, and gives the
     first status that isn't 0. A listing that was there `before` isn't this batch's: its model has not run."""
     first = 0
@@ -103,7 +120,7 @@ def collect(jobs: list[Job], before: list[list[tuple[int, int] | None]], options
         for job, old in zip(jobs, before):
             output = new_output(job, old)
             last = read_text(output).rstrip("\n").rsplit("\n", 1)[-1] if output else ""
-            meaning = explain(last, job.nam.parent, digits_of(options))
+            meaning = explain(last, job.nam.parent, digits_of(options), options=options)
             steps = cells = width = ""
             if meaning.is_good:
                 listing = read_listing(job.listing)
@@ -120,15 +137,10 @@ def collect(jobs: list[Job], before: list[list[tuple[int, int] | None]], options
                 if good or not has_steps(job.listing) or output == job.listing
                 else f" ({job.listing.name} is that of an earlier run)"
             )
-            print(f"{job.name}: {good or meaning.lines[0]}{kept}")
+            print(f"{job.name}: {good or meaning.lines[0]}{kept}", file=stream)
             first = first or meaning.status
-    print(f"{counted(len(jobs), 'model')}; a table of their ends: {table}")
+    print(f"{counted(len(jobs), 'model')}; a table of their ends: {table}", file=stream)
     return first
-
-
-def memory() -> int:
-    """The machine's memory in bytes."""
-    return os.sysconf("SC_PAGE_SIZE") * os.sysconf("SC_PHYS_PAGES")
 
 
 def fits_memory(jobs: list[Job]) -> bool:
@@ -152,12 +164,12 @@ def run_by_program(jobs: list[Job], options: list[str], at_once: int) -> bool:
     program doesn't have the command."""
     for folder in sorted({j.nam.parent for j in jobs}):
         here = [j for j in jobs if j.nam.parent == folder]
-        with tempfile.NamedTemporaryFile("w", suffix=".txt", prefix="batch", dir=folder) as names:
+        with tempfile.NamedTemporaryFile("w", suffix=".txt", prefix="batch", dir=folder, newline="\n") as names:
             names.write("".join(f"{j.nam.name}\n" for j in here))
             names.flush()
             workers = [] if "--workers" in options else ["--workers", str(min(at_once, 64))]
-            words = [str(program()), "batch", Path(names.name).name, *options, *workers]
-            with tempfile.TemporaryFile("w+", dir=folder, encoding="latin-1") as text:
+            words = [str(direct_program()), "batch", Path(names.name).name, *options, *workers]
+            with tempfile.TemporaryFile("w+", dir=folder, encoding="latin-1", newline="\n") as text:
                 subprocess.run(words, cwd=folder, stdout=text, stderr=subprocess.DEVNULL)
                 text.seek(0)
                 if text.read(6) == "USAGE:":
@@ -177,7 +189,7 @@ def split_batch(lines: Iterable[str], jobs: list[Job]) -> None:
                 if out:
                     out.write(last)
                     out.close()
-                out, last, at = new_text(jobs[at]).open("w", encoding="latin-1"), "", at + 1
+                out, last, at = new_text(jobs[at]).open("w", encoding="latin-1", newline="\n"), "", at + 1
                 continue
             if out:
                 out.write(last)
@@ -225,12 +237,14 @@ def shell_job(options: list[str]) -> str:
 
 def write_names(path: Path, jobs: list[Job]) -> Path:
     names = path.with_suffix(".jobs.txt")
-    with whole_file(names) as file:
+    with whole_file(names, is_own=True) as file:
         file.write("".join(f"{j.nam}\n" for j in jobs))
     return names
 
 
-def run_slurm(path: Path, jobs: list[Job], options: list[str], at_once: int, is_written_only: bool) -> None:
+def run_slurm(
+    path: Path, jobs: list[Job], options: list[str], at_once: int, is_written_only: bool, out: IO[str]
+) -> None:
     """Writes an array job, and submits it and waits for its end. At most `at_once` jobs at a time, 0: as Slurm
     likes."""
     names, script = write_names(path, jobs), path.with_suffix(".slurm")
@@ -242,14 +256,16 @@ def run_slurm(path: Path, jobs: list[Job], options: list[str], at_once: int, is_
             f'#SBATCH --cpus-per-task={cpus}\n#SBATCH --output="{path.stem}.%a.log"\n'
             f'NAM=$(sed -n "${{SLURM_ARRAY_TASK_ID}}p" {shlex.quote(str(names))})\n{shell_job(options)}'
         )
-    print(f"written: {script} (sbatch --wait {shlex.quote(script.name)})")
+    print(f"written: {script} (sbatch --wait {shlex.quote(script.name)})", file=out)
     if not is_written_only:
         call_tool(
             "sbatch", ["sbatch", "--wait", script.name], path.parent, "slurm-wlm (or run where your cluster has it)"
         )
 
 
-def run_parallel(path: Path, jobs: list[Job], options: list[str], at_once: int, is_written_only: bool) -> None:
+def run_parallel(
+    path: Path, jobs: list[Job], options: list[str], at_once: int, is_written_only: bool, out: IO[str]
+) -> None:
     """Writes a script for GNU parallel, and runs it. At most `at_once` jobs at a time, 0: one for each processor."""
     names, script = write_names(path, jobs), path.with_suffix(".parallel.sh")
     limit = f"--jobs {at_once} " if at_once else ""
@@ -260,7 +276,7 @@ def run_parallel(path: Path, jobs: list[Job], options: list[str], at_once: int, 
             f" {shlex.quote(path.stem + '.joblog')} \"$@\" one {{}} <{shlex.quote(str(names))}\n"
         )
     script.chmod(0o755)
-    print(f"written: {script}")
+    print(f"written: {script}", file=out)
     if not is_written_only:
         call_tool("parallel", ["bash", script.name], path.parent, "parallel")
 

@@ -1,25 +1,29 @@
 """The commands as calls of Python. Each takes the command's words and, by name, its options: `run(nam, digits=9)` is
-`heads-tools run NAM --digits 9`. What isn't known to the command raises Problem."""
+`heads-tools run NAM --digits 9`. What isn't known to the command, and a run that doesn't end well, raises Problem."""
 from __future__ import annotations
 
-import contextlib
+import argparse
 import io
 from dataclasses import dataclass
 from pathlib import Path
-from typing import Any
+from typing import TYPE_CHECKING, Any
 
-from .listing import Listing, read_listing
+from .failures import failure_of
+from .listing import Listing
 from .text import Problem
+
+if TYPE_CHECKING:
+    from .verdict import Verdict
 
 
 @dataclass(repr=False)
 class Answer:
-    """How a command ended: its status (0: well), what it said, and the listing that it speaks of, if any."""
+    """How a command ended: its status (0: well), what it said, and the listing that it wrote, if any."""
 
     command: str
     status: int
     lines: list[str]
-    path: Path | None = None
+    written: Listing | None = None
 
     def __repr__(self) -> str:
         return f"<{self.command}: status {self.status}, {self.lines[0] if self.lines else 'nothing said'}>"
@@ -33,10 +37,10 @@ class Answer:
 
     @property
     def listing(self) -> Listing:
-        """The listing that the command wrote."""
-        if self.path is None:
-            raise Problem(f"{self.command} writes no listing")
-        return read_listing(self.path)
+        """The listing that the command wrote, as it was written: what became of the file later changes nothing."""
+        if self.written is None:
+            raise Problem(f"{self.command} wrote no listing")
+        return self.written
 
 
 def option_words(options: dict[str, Any]) -> list[str]:
@@ -50,59 +54,115 @@ def option_words(options: dict[str, Any]) -> list[str]:
     return out
 
 
-def call(command: str, *words: Any, path: Path | None = None, **options: Any) -> Answer:
-    from . import commands
+def arguments(command: str, given: dict[str, Any], options: dict[str, Any]) -> tuple[argparse.Namespace, list[str]]:
+    """What the command's parser makes of words by name and of options. Listings in memory are handed over as they
+    are."""
     from .cli import PASSING, joined, parser
 
-    said, wrong = io.StringIO(), io.StringIO()
+    memory = {name: each for name, each in (given | options).items() if isinstance(each, Listing)}
+    words = [str(each.path if isinstance(each, Listing) else each) for each in given.values()]
+    named = {name: each.path if isinstance(each, Listing) else each for name, each in options.items()}
     try:
-        with contextlib.redirect_stderr(wrong):
-            args, rest = parser().parse_known_args(joined([command, *map(str, words), *option_words(options)]))
+        args, rest = parser().parse_known_args(joined([command, *words, *option_words(named)]))
     except SystemExit:
-        raise Problem(wrong.getvalue().strip().split("\n")[-1]) from None
+        raise Problem(f"{command}: help and version are for the command line") from None
     if rest and command not in PASSING:
         raise Problem(f"{command} doesn't know {' '.join(rest)}")
-    with contextlib.redirect_stdout(said):
-        status = getattr(commands, "do_" + command)(args, rest)
-    return Answer(command, status, said.getvalue().rstrip("\n").split("\n"), path)
+    vars(args).update(memory)
+    return args, rest
+
+
+def call(command: str, given: dict[str, Any], options: dict[str, Any]) -> Answer:
+    """Does a command, whose words are `given` by their names in the parser."""
+    from . import commands
+
+    args, rest = arguments(command, given, options)
+    said = io.StringIO()
+    with commands.guarded(args):
+        status = getattr(commands, "do_" + command)(args, rest, said)
+    return Answer(command, status, said.getvalue().rstrip("\n").split("\n"))
+
+
+def made(command: str, given: dict[str, Any], options: dict[str, Any]) -> Answer:
+    """Does a command that makes a listing, and raises RunFailed where it makes none."""
+    from . import commands
+
+    args, rest = arguments(command, given, options)
+    said = io.StringIO()
+    with commands.guarded(args):
+        ran = commands.run_model(args, rest, said) if command == "run" else commands.certify_heads(args, said)
+    if ran.status != 0 or ran.listing is None:
+        raise failure_of(ran.status, ran.last, ran.lines)
+    return Answer(command, 0, said.getvalue().rstrip("\n").split("\n"), ran.listing)
 
 
 def run(nam: str | Path, out: str | Path | None = None, **options: Any) -> Answer:
     """Runs the model; `.listing` is its listing. Options are those of `heads run`: digits, workers, rounds, zones,
-    watch, quick, wide."""
-    return call("run", nam, out=out, path=Path(out or Path(nam).with_suffix(".heads")), **options)
+    watch, quick, wide, to. A run that doesn't end well raises RunFailed; where a step has no bounds, NoBounds."""
+    return made("run", {"nam": nam}, {"out": out} | options)
 
 
 def inside(nam: str | Path, **options: Any) -> Answer:
     """Whether the model is inside, with all reasons; status 1 where it isn't."""
-    return call("inside", nam, **options)
+    return call("inside", {"nam": nam}, options)
 
 
 def plain(nam: str | Path, folder: str | Path) -> Answer:
     """Writes the deck in the spelling that heads reads."""
-    return call("plain", nam, folder)
+    return call("plain", {"nam": nam, "folder": folder}, {})
 
 
 def between(nam: str | Path, folder: str | Path, **options: Any) -> Answer:
     """Writes two decks of one shape: wells, recharge, stage (each "LOW..HIGH"), package."""
-    return call("between", nam, folder, **options)
+    return call("between", {"nam": nam, "folder": folder}, options)
 
 
 def look(listing: str | Path | Listing, folder: str | Path, **options: Any) -> Answer:
     """Draws a listing: name, cell, given, every and what else the command knows."""
-    return call("look", listing.path if isinstance(listing, Listing) else listing, folder, **options)
+    return call("look", {"listing": listing, "folder": folder}, options)
 
 
 def compare(listing: str | Path | Listing, heads: str | Path, **options: Any) -> Answer:
     """How far given heads are off: name, map, csv."""
-    return call("compare", listing.path if isinstance(listing, Listing) else listing, heads, **options)
+    return call("compare", {"listing": listing, "heads": heads}, options)
 
 
 def certify(nam: str | Path, heads: str | Path, out: str | Path | None = None, **options: Any) -> Answer:
-    """Certified bounds round given heads; `.listing` is the certified listing."""
-    return call("certify", nam, heads, out=out, path=Path(out or Path(nam).with_suffix(".certified.heads")), **options)
+    """Certified bounds round given heads; `.listing` is the certified listing. Where the check refuses them it raises
+    RunFailed."""
+    return made("certify", {"nam": nam, "heads": heads}, {"out": out} | options)
 
 
 def drawdown(plan: str | Path | Listing, base: str | Path | Listing, folder: str | Path, **options: Any) -> Answer:
     """What a plan does: name, base_name, cell."""
-    return call("drawdown", *(x.path if isinstance(x, Listing) else x for x in (plan, base)), folder, **options)
+    return call("drawdown", {"plan": plan, "base": base, "folder": folder}, options)
+
+
+def export(listing: str | Path | Listing, folder: str | Path, name: str | Path, **options: Any) -> Answer:
+    """Writes NetCDF, GeoTIFF, VTK and CSV of a listing of the model `name`, after its check: at, start, minus."""
+    return call("export", {"listing": listing, "folder": folder}, {"name": name} | options)
+
+
+def hds(listing: str | Path | Listing, out: str | Path, **options: Any) -> Answer:
+    """Writes a head file of a listing: name, lower, upper, middle, single."""
+    return call("hds", {"listing": listing, "out": out}, options)
+
+
+def observe(listing: str | Path | Listing, points: str | Path, name: str | Path, **options: Any) -> Answer:
+    """Heads at the points of a table or a HOB file; the lines of the answer are the table: at, between, out."""
+    return call("observe", {"listing": listing, "points": points}, {"name": name} | options)
+
+
+def check(nam: str | Path, listing: str | Path | Listing, **options: Any) -> Verdict:
+    """What `heads check` says of a listing: to, zones, wide. It goes with the listing into to_netcdf and the like."""
+    from . import commands
+    from .spans import second_deck
+    from .verdict import check_listing
+
+    args, _ = arguments("check", {"nam": nam, "listing": listing}, options)
+    if args.parts is not None:
+        raise Problem("a check by parts has no verdict of the whole: call `heads-tools check --parts`")
+    path = commands.existing(args.nam)
+    zones = commands.existing(args.zones) if args.zones else None
+    with commands.guarded(args):
+        return check_listing(path, commands.listing_of(args.listing), zones, second_deck(path, args.to), args.wide)

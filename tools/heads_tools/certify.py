@@ -21,7 +21,9 @@ import scipy.sparse
 from .cell_lines import write_cells
 from .compare import compare, sentences
 from .equations import TERMS, Given, Network, Step, given_heads
+from .fitting import demand_fit
 from .headfile import ANY_STEP, Heads, read_heads
+from .kept_files import demand_free
 from .limits import limits_of, wide_words
 from .listing import Listing, read_listing
 from .listing import Step as Listed
@@ -29,9 +31,10 @@ from .model import Model, read_model
 from .pieces import is_large
 from .program import call
 from .solvers import solved
-from .text import decimal_text, whole_file
-from .verdict import readable
+from .text import Problem, decimal_text, sha256
+from .verdict import demand_same, readable
 from .whole import Pair, constant_head, pair_of, pair_of_heads
+from .whole_files import whole_file
 from .zone_bounds import ZoneFlow, zone_branches, zone_flows
 
 UNIT = 1e-9
@@ -42,8 +45,13 @@ NEWTON_STEPS, REPAIRS = 60, 2000
 
 @dataclass
 class Certified:
+    """How certify ended: the check's status and first words, lines for people, and the listing where the check
+    certified it."""
+
     status: int
+    last: str
     lines: list[str]
+    listing: Listing | None = None
 
 
 def certify(
@@ -57,6 +65,7 @@ def certify(
 ) -> Certified:
     """Writes the listing, with the flows between zones of a zone file, and checks it, with wider margins where the
     check refuses. `has_wide`: the check is one with --wide."""
+    demand_free(out)
     model = read_model(nam, any_size=True)
     given = read_heads(heads, model.shape)
     parted = Zones.of(model, digits, zones, nam) if zones else None
@@ -64,28 +73,38 @@ def certify(
     for margin in (theta,) if theta else THETAS:
         listing = Bounds(model, digits, margin, parted).listing(given, tried)
         write_listing(listing, model)
+        listing.sha256 = sha256(tried)
         checked = check(nam, tried, model, digits, zones, has_wide)
+        demand_same(listing)
         if checked.status != 8:
             break
         print(f"margins of {margin} roundings don't hold: {checked.first}", file=sys.stderr)
     if checked.status:
-        return Certified(checked.status, [*checked.lines, f"{tried} is no certificate"])
+        return Certified(checked.status, checked.first, [*checked.lines, f"{tried} is no certificate"])
     os.replace(tried, out)
+    listing.path = out
     lines = [
         f"{checked.first} {out} (margins of {margin} roundings; the check took {checked.seconds:.2f} s)",
         *checked.lines[1:],
         listing.summary(),
     ]
     beside = nam.with_suffix(".heads")
-    if beside.is_file() and beside != out:
-        ran = read_listing(beside)
-        if ran.is_whole:
-            lines.append(f"beside `heads run` ({beside.name}): its widest pair is {decimal_text(ran.widest()[0], 9)}")
+    if beside != out and (width := widest_of(beside, model)):
+        lines.append(f"beside `heads run` ({beside.name}): its widest pair is {width}")
     elif not is_large(model.shape, limits_of(has_wide)):
         lines.append(f"`heads-tools run {nam.name}` gives the run's own pairs to compare with")
-    return Certified(
-        0, lines + [f"{heads.name}: {s}" for s in sentences(listing, compare(listing, given), model.length)]
-    )
+    lines += [f"{heads.name}: {told}" for told in sentences(listing, compare(listing, given), model.length)]
+    return Certified(0, checked.first, lines, listing)
+
+
+def widest_of(path: Path, model: Model) -> str:
+    """The widest pair of a file's listing, where that is whole and of a model of these cells and steps."""
+    try:
+        listing = read_listing(path)
+        demand_fit(listing, model)
+    except Problem:
+        return ""
+    return decimal_text(listing.widest()[0], 9)
 
 
 @dataclass
@@ -115,7 +134,8 @@ def check(
         words += wide_words(has_wide)
         ended = call(["check", nam.name, str(tried), "--digits", str(digits), *words], nam.parent)
     meaning = explain(ended.last, nam.parent, digits)
-    return Check(ended.status, "CERTIFIED:" if meaning.is_good else ended.last, meaning.lines, ended.seconds)
+    status = ended.status or (0 if meaning.is_good else meaning.status or 6)
+    return Check(status, "CERTIFIED:" if status == 0 else ended.last, meaning.lines, ended.seconds)
 
 
 @dataclass

@@ -2,12 +2,14 @@
 from __future__ import annotations
 
 import argparse
+import logging
 import os
 import re
 import signal
 import sys
 import threading
 from pathlib import Path
+from typing import NoReturn
 
 from . import __version__
 from .text import Problem
@@ -47,8 +49,8 @@ def add_place(sub: argparse.ArgumentParser, is_needed: bool) -> None:
     sub.add_argument(
         "--at",
         metavar="X0,Y0[,ANGLE[,EPSG]]",
-        default="0,0",
-        help="the grid's lower left corner, degrees against the clock, a code of EPSG",
+        help="the grid's lower left corner, degrees against the clock, a code of EPSG; that of the name file's comments "
+        "(xll, yll, rotation, EPSG) where left out",
     )
 
 
@@ -101,6 +103,15 @@ def add_wide(sub: argparse.ArgumentParser, about: str = "") -> None:
     )
 
 
+def add_force(sub: argparse.ArgumentParser) -> None:
+    sub.add_argument(
+        "--force",
+        action="store_true",
+        help="write over results that heads-tools didn't make, too; never over a file of a deck, or one that a name file"
+        " names",
+    )
+
+
 WIDE_RUN = (
     "up to 4,194,304 cells, 4,096 rows or columns, 1,024 layers, files of 1 GiB; floors and ceilings that are out of "
     "range are cut"
@@ -114,8 +125,23 @@ def cell(text: str) -> tuple[int, int, int]:
     return tuple(map(int, parts))
 
 
+class Wrong(Problem):
+    """Words that the command doesn't know; `usage`: those that it knows."""
+
+    def __init__(self, text: str, usage: str):
+        super().__init__(text)
+        self.usage = usage
+
+
+class Parser(argparse.ArgumentParser):
+    """A parser that raises Wrong: who calls it from Python has no use for the end of the process."""
+
+    def error(self, message: str) -> NoReturn:
+        raise Wrong(message, f"{self.format_usage()}{self.prog}: error: {message}")
+
+
 def parser() -> argparse.ArgumentParser:
-    top = argparse.ArgumentParser(
+    top = Parser(
         prog="heads-tools",
         description="Runs, explains, feeds and shows `heads`.",
         epilog=EPILOG,
@@ -138,6 +164,7 @@ def parser() -> argparse.ArgumentParser:
     add_to(s, "a second deck: bounds for every deck between the two, into NAME-TO.heads")
     add_quick(s)
     add_wide(s, WIDE_RUN + "; taken by itself where an end without it asks for it")
+    add_force(s)
     s = add("explain", "what the last line of an output means, and what to change", ("output", "an output of heads"))
     s.add_argument("folder", nargs="?", type=Path, help="the model's folder, the output's own where left out")
     s.add_argument("--digits", type=int, help="the digits of the run, where they aren't in the output")
@@ -211,6 +238,7 @@ def parser() -> argparse.ArgumentParser:
     add_wide(s)
     s.add_argument("--every", action="store_true", help="maps of every step, and not of the last alone")
     s.add_argument("--svg", action="store_true", help="each picture as SVG, too")
+    add_force(s)
     s = add(
         "compare",
         "how far given heads are from every exact solution",
@@ -230,6 +258,7 @@ def parser() -> argparse.ArgumentParser:
     add_to(s, "the second deck, where the listing is that of two decks")
     add_zones(s)
     add_wide(s)
+    add_force(s)
     s = add(
         "drawdown",
         "what a plan does: the differences of two listings with bounds, as tables, map, curves and sentences",
@@ -249,6 +278,7 @@ def parser() -> argparse.ArgumentParser:
     s.add_argument(
         "--cell", type=cell, action="append", default=[], metavar="K,I,J", help="a curve of this cell; may stand again"
     )
+    add_force(s)
     s = add(
         "plans",
         "one page that compares all listings of a batch with the first of them",
@@ -264,6 +294,7 @@ def parser() -> argparse.ArgumentParser:
         metavar="K,I,J",
         help="the drawdown at this cell; may stand again",
     )
+    add_force(s)
     s = add(
         "certify",
         "certified bounds from any solver's heads: margins by a sparse solve, then heads check",
@@ -277,6 +308,7 @@ def parser() -> argparse.ArgumentParser:
     )
     s.add_argument("--zones", type=Path, metavar="M.ZON", help="a zone file: the flows between its zones, too")
     add_wide(s, "one check with the wide limits and cut floors, and not one by parts, of up to 4,194,304 cells")
+    add_force(s)
     s = add("check", "certify a listing by heads check, or piece by piece", nam, ("listing", "the listing"))
     add_to(s, "the second deck, where the listing is that of two decks")
     add_zones(s)
@@ -300,6 +332,9 @@ def parser() -> argparse.ArgumentParser:
     for name in ("lower", "upper", "middle"):
         side.add_argument(f"--{name}", dest="side", action="store_const", const=name)
     s.add_argument("--single", action="store_true", help="single precision (double where left out)")
+    add_to(s, "the second deck, where the listing is that of two decks")
+    add_wide(s)
+    add_force(s)
     s = add(
         "export",
         "NetCDF, GeoTIFF, VTK and CSV of a listing, each if its package is here",
@@ -312,6 +347,16 @@ def parser() -> argparse.ArgumentParser:
     s.add_argument(
         "--minus", type=Path, metavar="BASE.HEADS", help="another listing: export the change of the heads, with bounds"
     )
+    s.add_argument("--base-name", type=Path, metavar="BASE.NAM", help="the other run's model: its listing is checked")
+    s.add_argument(
+        "--start",
+        metavar="YYYY-MM-DD",
+        help="the date on which the model starts, for the times of NetCDF; that of the name file's comments where left "
+        "out",
+    )
+    add_to(s, "the second deck, where the listing is that of two decks")
+    add_wide(s)
+    add_force(s)
     s = add(
         "observe",
         "heads at points, by a table name,x,y,layer,time,measured or a HOB file: lower, upper, measured",
@@ -324,6 +369,7 @@ def parser() -> argparse.ArgumentParser:
     add_wide(s)
     s.add_argument("--between", action="store_true", help="points of a table lie between the middles of cells, too")
     s.add_argument("--out", type=Path, help="the table's file, standard output where left out")
+    add_force(s)
     s = commands.add_parser(
         "mf2005", help="run as MODFLOW-2005 is called by FloPy and ModelMuse: head file and list file"
     )
@@ -352,6 +398,7 @@ def parser() -> argparse.ArgumentParser:
     s.add_argument(
         "--write-only", action="store_true", help="with --slurm or --parallel: write the files, and run nothing"
     )
+    add_force(s)
     add("version", "the program, its sources and kit, and whether its hash is the recorded one")
     return top
 
@@ -361,9 +408,14 @@ def stop(*_: object) -> None:
     raise KeyboardInterrupt
 
 
-def silence() -> None:
-    """Sends what standard output still holds nowhere: it can't be written."""
-    os.dup2(os.open(os.devnull, os.O_WRONLY), sys.stdout.fileno())
+def silenced() -> bool:
+    """Whether standard output can't be written; what it still holds then goes nowhere."""
+    try:
+        sys.stdout.flush()
+        return False
+    except OSError:
+        os.dup2(os.open(os.devnull, os.O_WRONLY), sys.stdout.fileno())
+        return True
 
 
 PASSING = {"run", "exhibit", "batch", "mf2005"}
@@ -394,17 +446,24 @@ def main(words: list[str] | None = None) -> int:
     """Does what the words say; the status."""
     top = parser()
     complete(top)
-    args, rest = top.parse_known_args(joined(sys.argv[1:] if words is None else words))
-    if rest and args.command not in PASSING:
-        top.error(f"unknown words: {' '.join(rest)}")
     from . import commands
 
-    if threading.current_thread() is threading.main_thread():
-        signal.signal(signal.SIGTERM, stop)
+    # Where the home can't be written, matplotlib tells of its own folder for a while: nothing that a user can act on.
+    logging.getLogger("matplotlib").setLevel(logging.ERROR)
+
     try:
-        status = getattr(commands, "do_" + args.command)(args, rest)
+        args, rest = top.parse_known_args(joined(sys.argv[1:] if words is None else words))
+        if rest and args.command not in PASSING:
+            top.error(f"unknown words: {' '.join(rest)}")
+        if threading.current_thread() is threading.main_thread():
+            signal.signal(signal.SIGTERM, stop)
+        with commands.guarded(args):
+            status = getattr(commands, "do_" + args.command)(args, rest, sys.stdout)
         sys.stdout.flush()
         return status
+    except Wrong as error:
+        print(error.usage, file=sys.stderr)
+        return 2
     except Problem as error:
         print(f"heads-tools: {error}", file=sys.stderr)
         return 2
@@ -412,9 +471,8 @@ def main(words: list[str] | None = None) -> int:
         sys.stderr.close()
         return 141
     except OSError as error:
-        print(f"heads-tools: {error.filename or 'standard output'}: {error.strerror}", file=sys.stderr)
-        if error.filename is None:
-            silence()
+        where = error.filename or ("standard output" if silenced() else "a file")
+        print(f"heads-tools: {where}: {error.strerror or error}", file=sys.stderr)
         return 2
     except KeyboardInterrupt:
         print("heads-tools: stopped", file=sys.stderr)

@@ -1,18 +1,27 @@
-"""What each command does, by the modules of this package; the status of each."""
+"""What each command does, by the modules of this package; the status of each. What there is to say goes to a stream
+that the caller gives."""
 from __future__ import annotations
 
 import argparse
 import sys
+from contextlib import contextmanager
+from dataclasses import dataclass, field
 from pathlib import Path
-from typing import TYPE_CHECKING
+from typing import IO, TYPE_CHECKING, ContextManager, Iterator
 
+from .listing import Listing, read_listing
 from .text import Problem, counted
 
 if TYPE_CHECKING:
-    from .listing import Listing
+    from .exports import Place
+    from .explain import Meaning
     from .model import Model
     from .program import Ended
     from .verdict import Verdict
+
+OUTPUTS = {"out", "csv", "map", "folder"}
+NOT_CALLED = 2
+NO_BASE = "the other run's model wasn't named by --base-name"
 
 MOST_DIGITS = 18
 
@@ -23,8 +32,27 @@ def existing(path: Path) -> Path:
     return path.resolve()
 
 
-def say(lines: list[str]) -> None:
-    print("\n".join(lines))
+@contextmanager
+def guarded(args: argparse.Namespace) -> Iterator[None]:
+    """Within the block the command's inputs are never written over."""
+    from .kept_files import keeping
+    from .program import look_again
+
+    look_again()
+    given = [value for name, value in vars(args).items() if name not in OUTPUTS]
+    flat = [each for value in given for each in (value if isinstance(value, list) else [value])]
+    inputs = [each.path if isinstance(each, Listing) else each for each in flat if isinstance(each, (Path, Listing))]
+    with keeping(inputs, getattr(args, "force", False)):
+        yield
+
+
+def listing_of(given: Path | Listing) -> Listing:
+    """A listing that is in memory, or that of a file."""
+    return given if isinstance(given, Listing) else read_listing(existing(given))
+
+
+def say(lines: list[str], out: IO[str]) -> None:
+    print("\n".join(lines), file=out)
 
 
 def size_of(nam: Path) -> tuple[int | None, int]:
@@ -48,13 +76,29 @@ def flags_of(args: argparse.Namespace) -> list[str]:
     return ([QUICK] if args.quick else []) + wide_words(args.wide)
 
 
-def do_run(args: argparse.Namespace, options: list[str]) -> int:
+@dataclass
+class Ran:
+    """How a command ended that writes a listing: its status, the last line of the output, what it means, and the
+    listing where the status is 0."""
+
+    status: int
+    last: str = ""
+    lines: list[str] = field(default_factory=list)
+    listing: Listing | None = None
+
+
+def do_run(args: argparse.Namespace, options: list[str], out: IO[str]) -> int:
+    return run_model(args, options, out).status
+
+
+def run_model(args: argparse.Namespace, options: list[str], out: IO[str]) -> Ran:
+    from .below_top import lines_below_top
     from .explain import explain
     from .follow import MOST_WATCHED
     from .inside import careful
     from .limits import is_wide
     from .made_by import made_by
-    from .program import digits_of, run, summary, with_wide
+    from .program import digits_of, run, with_wide
     from .spans import second_deck, target_of
 
     nam = existing(args.nam)
@@ -62,10 +106,10 @@ def do_run(args: argparse.Namespace, options: list[str]) -> int:
     options = [*options, *to, *flags_of(args)]
     for warning in dict.fromkeys(w for deck in (nam, *(nam.with_name(name) for name in to[1:])) for w in careful(deck)):
         print(f"CAREFUL: {warning}", file=sys.stderr)
-    out = (args.out or target_of(nam, to)).resolve()
+    target = (args.out or target_of(nam, to)).resolve()
     digits, tried, (steps, cells) = digits_of(options), [], size_of(nam)
     is_followed = steps is not None and cells * steps <= MOST_WATCHED
-    ended = run(nam, options, out, steps, is_followed=is_followed)
+    ended = run(nam, options, target, steps, is_followed=is_followed)
     while True:
         if more := with_wide(ended, options, nam.parent):
             options = more
@@ -75,31 +119,36 @@ def do_run(args: argparse.Namespace, options: list[str]) -> int:
             digits += -3 if fewer else 3
             if not 0 <= digits <= MOST_DIGITS or digits in tried:
                 break
-            print(f"{ended.last}: {'too few' if not fewer else 'too many'} digits; once more with --digits {digits}")
+            many = "too few" if not fewer else "too many"
+            say([f"{ended.last}: {many} digits; once more with --digits {digits}"], out)
         else:
             break
         given = ["--digits", str(digits)] if tried else []
-        ended = run(nam, [*options, *given], out, steps, is_followed=is_followed)
-    meaning = explain(ended.last, nam.parent, digits, ended.steps > 0)
-    if meaning.is_good:
-        say(
-            [
-                *meaning.lines,
-                *([made_by(out)] if args.quick or is_wide(options) else []),
-                summary(out),
-                f"listing {out} ({ended.seconds:.1f} s" + (f", --digits {digits})" if tried else ")"),
-            ]
-        )
-    else:
-        say(
-            meaning.lines
-            + (
-                [f"{out} is that of an earlier run and was left; this run's output is {ended.output.name}"]
-                if ended.output != out
-                else []
-            )
-        )
-    return ended.status
+        ended = run(nam, [*options, *given], target, steps, is_followed=is_followed)
+    meaning = explain(ended.last, nam.parent, digits, ended.steps > 0, options)
+    if ended.status != 0 or not meaning.is_good:
+        return without_listing(ended, meaning, target, out)
+    listing = ended.listing()
+    for line in lines_below_top(nam, listing):
+        print(f"CAREFUL: {line}", file=sys.stderr)
+    lines = [
+        *meaning.lines,
+        *([made_by(listing)] if args.quick or is_wide(options) else []),
+        listing.summary(),
+        f"listing {target} ({ended.seconds:.1f} s" + (f", --digits {digits})" if tried else ")"),
+    ]
+    say(lines, out)
+    return Ran(0, ended.last, lines, listing)
+
+
+def without_listing(ended: Ended, meaning: Meaning, target: Path, out: IO[str]) -> Ran:
+    """Says how a run ended that wrote no whole listing."""
+    lines = meaning.lines if not meaning.is_good else [f"The run ended with status {ended.status} after its last line."]
+    if ended.output != target:
+        kept = f"{target} is that of an earlier run and was left; this run's output is {ended.output.name}"
+        lines = [*lines, kept]
+    say(lines, out)
+    return Ran(ended.status or meaning.status or NOT_CALLED, ended.last, lines)
 
 
 def is_of_digits(ended: Ended, options: list[str]) -> bool:
@@ -107,67 +156,80 @@ def is_of_digits(ended: Ended, options: list[str]) -> bool:
     return ended.status == 3 and ended.last.split()[1:2] in (["22"], ["21"]) and "--digits" not in " ".join(options)
 
 
-def do_explain(args: argparse.Namespace, _: list[str]) -> int:
+def do_explain(args: argparse.Namespace, _: list[str], out: IO[str]) -> int:
     from .explain import explain_output
 
     meaning = explain_output(existing(args.output), (args.folder or args.output.parent), args.digits)
-    say(meaning.lines)
+    say(meaning.lines, out)
     return meaning.status
 
 
-def do_inside(args: argparse.Namespace, _: list[str]) -> int:
+def do_inside(args: argparse.Namespace, _: list[str], out: IO[str]) -> int:
     from .inside import inside
 
     verdict = inside(existing(args.nam), args.most)
-    say(verdict.lines)
+    say(verdict.lines, out)
     return 0 if verdict.is_inside else 1
 
 
-def do_plain(args: argparse.Namespace, _: list[str]) -> int:
+def do_plain(args: argparse.Namespace, _: list[str], out: IO[str]) -> int:
     from .plain import plain
 
     written = plain(existing(args.nam), args.folder)
     lines = written.notes()
-    say([f"  {line}" for line in lines[:20]] + ([f"  and {len(lines) - 20} more"] if len(lines) > 20 else []))
-    say([f"written: {written.path}; each change stands in {args.folder / 'plain.txt'}"])
+    say([f"  {line}" for line in lines[:20]] + ([f"  and {len(lines) - 20} more"] if len(lines) > 20 else []), out)
+    say([f"written: {written.path}; each change stands in {args.folder / 'plain.txt'}"], out)
     if written.refused:
-        say(["the program refuses it all the same:", *("  " + line for line in written.refused)])
+        say(["the program refuses it all the same:", *("  " + line for line in written.refused)], out)
     return 1 if written.refused else 0
 
 
-def do_between(args: argparse.Namespace, _: list[str]) -> int:
+def do_between(args: argparse.Namespace, _: list[str], out: IO[str]) -> int:
     from .decks_between import Ranges, write_between
 
     named = {name: span for name in ("wells", "recharge", "stage") if (span := getattr(args, name))}
     packages = [existing(path) for path in args.package]
-    say(write_between(existing(args.nam), args.folder, Ranges(**named, packages=packages)))
+    say(write_between(existing(args.nam), args.folder, Ranges(**named, packages=packages)), out)
     return 0
 
 
-def do_model(args: argparse.Namespace, _: list[str]) -> int:
+def do_model(args: argparse.Namespace, _: list[str], out: IO[str]) -> int:
     from .describe import describe
     from .model import read_model
 
-    say(describe(read_model(existing(args.nam))))
+    say(describe(read_model(existing(args.nam))), out)
     return 0
 
 
-def do_look(args: argparse.Namespace, _: list[str]) -> int:
-    from .listing import read_listing
+def do_look(args: argparse.Namespace, _: list[str], out: IO[str]) -> int:
     from .look import look
     from .model import read_model
     from .zones import read_zones
 
     model_for_zones(args)
-    listing = read_listing(existing(args.listing))
+    listing = listing_of(args.listing)
     model = read_model(existing(args.name)) if args.name else None
     verdict = verdict_of(args, listing)
     given = existing(args.given) if args.given else None
     zones = read_zones(existing(args.zones), existing(args.name), model.shape) if args.zones and model else None
-    base = read_listing(existing(args.minus)) if args.minus else None
-    said = look(listing, args.folder, model, args.cell, given, args.every, verdict, zones, base, args.svg)
-    say(said + [f"open {args.folder / 'index.html'}"])
-    return verdict.status or 0
+    base = listing_of(args.minus) if args.minus else None
+    with page_folder(args.folder) as folder:
+        said = look(listing, folder, model, args.cell, given, args.every, verdict, zones, base, args.svg)
+    say(said + [f"open {args.folder / 'index.html'}"], out)
+    return status_of(args.name, verdict)
+
+
+def page_folder(folder: Path) -> ContextManager[Path]:
+    """A folder to draw into, whose files come into `folder` once all of them are there."""
+    from .whole_files import whole_folder
+
+    return whole_folder(folder, "index.html")
+
+
+def status_of(name: Path | None, verdict: Verdict) -> int:
+    """The status of a command after a check: that of the check, and not 0 where it was asked for, by the model's name,
+    and couldn't be made."""
+    return (NOT_CALLED if name else 0) if verdict.status is None else verdict.status
 
 
 def model_for_zones(args: argparse.Namespace) -> None:
@@ -186,70 +248,80 @@ def verdict_of(args: argparse.Namespace, listing: Listing) -> Verdict:
             raise Problem("--to needs the first deck, too: --name M.NAM")
         return not_checked(listing)
     nam = existing(args.name)
-    zones = existing(args.zones) if args.zones else None
+    named = getattr(args, "zones", None)
+    zones = existing(named) if named else None
     return check_listing(nam, listing, zones, second_deck(nam, to), args.wide)
 
 
-def do_compare(args: argparse.Namespace, _: list[str]) -> int:
+def do_compare(args: argparse.Namespace, _: list[str], out: IO[str]) -> int:
+    from .about import about_file, write_about
     from .compare import compare, sentences, write_csv
+    from .fitting import demand_fit, demand_whole
     from .headfile import read_heads
-    from .listing import read_listing
+    from .look import look_at_given
+    from .model import read_model
     from .text import LENGTHS
 
     model_for_zones(args)
-    listing = read_listing(existing(args.listing))
+    listing = listing_of(args.listing)
+    model = read_model(existing(args.name)) if args.name else None
+    demand_fit(listing, model) if model else demand_whole(listing)
+    heads = read_heads(existing(args.heads), model.shape if model else None)
     verdict = verdict_of(args, listing)
-    differences = compare(listing, read_heads(existing(args.heads)))
-    say([verdict.sentence, *sentences(listing, differences, LENGTHS.get(listing.unit, "length units"))])
+    differences = compare(listing, heads)
+    said = [verdict.sentence, *sentences(listing, differences, LENGTHS.get(listing.unit, "length units"))]
     if args.csv:
         write_csv(args.csv, listing, differences)
-        say([f"written: {args.csv}"])
+        write_about(args.csv, verdict)
+        said.append(f"written: {args.csv}; {about_file(args.csv).name} says what it was made of")
     if args.map:
-        from .look import look_at_given
-        from .model import read_model
-
-        look_at_given(
-            listing, args.map, read_model(existing(args.name)) if args.name else None, verdict, existing(args.heads)
-        )
-        say([f"open {args.map / 'index.html'}"])
-    return verdict.status or 0
+        with page_folder(args.map) as folder:
+            look_at_given(listing, folder, model, verdict, existing(args.heads))
+        said.append(f"open {args.map / 'index.html'}")
+    say(said, out)
+    return status_of(args.name, verdict)
 
 
-def do_drawdown(args: argparse.Namespace, _: list[str]) -> int:
+def do_drawdown(args: argparse.Namespace, _: list[str], out: IO[str]) -> int:
     from .drawdown import drawdown
-    from .listing import read_listing
 
     if args.zones and not (args.name or args.base_name):
         raise Problem("--zones needs a model, too: --name PLAN.NAM, --base-name BASE.NAM")
-    plan, base = (read_listing(existing(path)) for path in (args.plan, args.base))
+    plan, base = (listing_of(each) for each in (args.plan, args.base))
     name, base_name, zones = (existing(path) if path else None for path in (args.name, args.base_name, args.zones))
-    said, status = drawdown(plan, base, args.folder, name, base_name, args.cell, zones, args.wide)
-    say(said + [f"open {args.folder / 'index.html'}"])
+    with page_folder(args.folder) as folder:
+        said, status = drawdown(plan, base, folder, name, base_name, args.cell, zones, args.wide)
+    say(said + [f"open {args.folder / 'index.html'}"], out)
     return status
 
 
-def do_plans(args: argparse.Namespace, _: list[str]) -> int:
+def do_plans(args: argparse.Namespace, _: list[str], out: IO[str]) -> int:
     from .plans import compare_plans
 
-    say(compare_plans(existing(args.list), args.folder, args.base, args.cell) + [f"open {args.folder / 'index.html'}"])
+    with page_folder(args.folder) as folder:
+        said = compare_plans(existing(args.list), folder, args.base, args.cell)
+    say(said + [f"open {args.folder / 'index.html'}"], out)
     return 0
 
 
-def do_certify(args: argparse.Namespace, _: list[str]) -> int:
+def do_certify(args: argparse.Namespace, _: list[str], out: IO[str]) -> int:
+    return certify_heads(args, out).status
+
+
+def certify_heads(args: argparse.Namespace, out: IO[str]) -> Ran:
     from .certify import certify
 
     if not 0 <= args.digits <= MOST_DIGITS:
         raise Problem("--digits is from 0 to 18")
     nam = existing(args.nam)
-    out = (args.out or nam.with_suffix(".certified.heads")).resolve()
+    target = (args.out or nam.with_suffix(".certified.heads")).resolve()
     zones = existing(args.zones) if args.zones else None
-    ended = certify(nam, existing(args.heads), args.digits, out, args.theta, zones, args.wide)
-    say(ended.lines)
-    return ended.status
+    ended = certify(nam, existing(args.heads), args.digits, target, args.theta, zones, args.wide)
+    say(ended.lines, out)
+    return Ran(ended.status, ended.last, ended.lines, ended.listing)
 
 
-def do_check(args: argparse.Namespace, _: list[str]) -> int:
-    from .listing import read_listing
+def do_check(args: argparse.Namespace, _: list[str], out: IO[str]) -> int:
     from .spans import second_deck
 
     nam, path = existing(args.nam), existing(args.listing)
@@ -259,8 +331,8 @@ def do_check(args: argparse.Namespace, _: list[str]) -> int:
 
         zones = existing(args.zones) if args.zones else None
         verdict = check_listing(nam, read_listing(path), zones, to, args.wide)
-        say([verdict.sentence])
-        return verdict.status or 0
+        say([verdict.sentence], out)
+        return NOT_CALLED if verdict.status is None else verdict.status
     from .parts import Way, check_parts
 
     if args.parts < 1:
@@ -272,103 +344,125 @@ def do_check(args: argparse.Namespace, _: list[str]) -> int:
         raise Problem("--folder, --write-only and --collect go with --parallel or --slurm")
     way = Way(engine, args.jobs, args.folder, args.write_only, args.collect, args.wide)
     checked = check_parts(nam, path, args.parts, way, existing(args.zones) if args.zones else None)
-    say(checked.lines)
+    say(checked.lines, out)
     return checked.status
 
 
-def do_hds(args: argparse.Namespace, _: list[str]) -> int:
+def do_hds(args: argparse.Namespace, _: list[str], out: IO[str]) -> int:
+    from .about import about_file, write_about
+    from .fitting import demand_fit, demand_whole
     from .headfile import write_heads
-    from .listing import read_listing
+    from .kept_files import demand_free
     from .model import read_model
 
-    listing = read_listing(existing(args.listing))
-    if not listing.steps:
-        raise Problem(f"{args.listing} has no whole step")
+    listing = listing_of(args.listing)
     model = read_model(existing(args.name)) if args.name else None
+    demand_fit(listing, model) if model else demand_whole(listing)
+    demand_free(args.out)
+    verdict = verdict_of(args, listing)
     side = args.side or "middle"
     write_heads(args.out, listing, side, model.shape if model else None, model.times if model else None, args.single)
+    write_about(args.out, verdict)
     how = {"lower": "rounded down", "upper": "rounded up", "middle": "rounded: no bounds"}[side]
     precision = "single" if args.single else "double"
     say(
         [
+            verdict.sentence,
             f"{side} heads of {counted(len(listing.steps), 'step')} in {args.out} ({precision} precision, {how};"
-            " -999.99 where there is no flow)"
-        ]
+            f" -999.99 where there is no flow); {about_file(args.out).name} says what they were made of",
+        ],
+        out,
     )
-    return 0
+    return status_of(args.name, verdict)
 
 
-def do_export(args: argparse.Namespace, _: list[str]) -> int:
+def do_export(args: argparse.Namespace, _: list[str], out: IO[str]) -> int:
     from .drawdown import changes_of
-    from .exports import place_of
     from .files import FORMATS, export
-    from .listing import read_listing
+    from .fitting import demand_fit
     from .model import read_model
+    from .verdict import both, check_listing, not_checked
+    from .whole_files import whole_folder
 
     formats = [f for f in args.formats.split(",") if f]
     if not formats or not set(formats) <= set(FORMATS):
         raise Problem(f"--as is a list of {', '.join(FORMATS)}")
-    listing, model = read_listing(existing(args.listing)), read_model(existing(args.name))
-    listing = fitting(listing, model)
-    if args.minus:
-        listing = changes_of(listing, read_listing(existing(args.minus)))
-    say(export(listing, args.folder, model, place_of(args.at), formats, args.last))
-    return 0
+    listing, model = listing_of(args.listing), read_model(existing(args.name))
+    demand_fit(listing, model)
+    place, told = place_for(args, model)
+    base = listing_of(args.minus) if args.minus else None
+    if base:
+        demand_fit(base, model)
+    verdict = verdict_of(args, listing)
+    status = status_of(args.name, verdict)
+    if base:
+        name = existing(args.base_name) if args.base_name else None
+        seen = check_listing(name, base, has_wide=args.wide) if name else not_checked(base, NO_BASE)
+        status = status or status_of(name, seen)
+        listing, verdict = changes_of(listing, base), both(verdict, seen)
+    with whole_folder(args.folder) as folder:
+        said = export(listing, folder, model, place, formats, args.last, verdict, args.start)
+    say([verdict.sentence, *told, *(line.replace(str(folder), str(args.folder)) for line in said)], out)
+    return status
 
 
-def do_observe(args: argparse.Namespace, _: list[str]) -> int:
-    from .exports import place_of
-    from .listing import read_listing
+def place_for(args: argparse.Namespace, model: Model) -> tuple[Place, list[str]]:
+    """The grid's place on the map: the one that is asked for, else that of the name file's comments; and what there is
+    to say of it."""
+    from .exports import Place, place_of
+    from .places import named_place
+
+    if args.at:
+        return place_of(args.at), []
+    place, where = named_place(model.deck.path)
+    return (place, [f"the grid's place is that of {where}"]) if place else (Place(), [])
+
+
+def do_observe(args: argparse.Namespace, _: list[str], out: IO[str]) -> int:
+    from .about import write_about
+    from .fitting import demand_fit
     from .model import read_model
     from .observe import observe
     from .spans import demand_one
 
-    listing, model = read_listing(existing(args.listing)), read_model(existing(args.name))
+    listing, model = listing_of(args.listing), read_model(existing(args.name))
     demand_one(listing, "observe compares with one model's heads. `heads-tools compare` takes a listing of two")
-    points, place = existing(args.points), place_of(args.at)
-    lines, lacking = observe(fitting(listing, model), model, points, place, args.out, args.between)
+    demand_fit(listing, model)
     verdict = verdict_of(args, listing)
-    print("\n".join([verdict.sentence, *lacking]), file=sys.stderr)
-    say(lines)
-    return verdict.status or 0
+    points, (place, told) = existing(args.points), place_for(args, model)
+    lines, lacking = observe(listing, model, points, place, args.out, args.between)
+    if args.out:
+        write_about(args.out, verdict)
+    print("\n".join([verdict.sentence, *told, *lacking]), file=sys.stderr)
+    say(lines, out)
+    return status_of(args.name, verdict)
 
 
-def fitting(listing: Listing, model: Model) -> Listing:
-    """A listing with a step, whose cells lie in the model's grid."""
-    if not listing.steps:
-        raise Problem(f"{listing.path} has no whole step")
-    if any(a > b for a, b in zip(listing.shape, model.shape)):
-        raise Problem(
-            f"{listing.path} has cells up to {listing.shape}, and the model's grid is {model.shape}: another model"
-        )
-    return listing
-
-
-def do_mf2005(args: argparse.Namespace, options: list[str]) -> int:
+def do_mf2005(args: argparse.Namespace, options: list[str], out: IO[str]) -> int:
     from .mf2005 import mf2005
 
-    return mf2005(args.words + options)
+    return mf2005(args.words + options, out)
 
 
-def do_exhibit(args: argparse.Namespace, options: list[str]) -> int:
+def do_exhibit(args: argparse.Namespace, options: list[str], out: IO[str]) -> int:
     from .exhibit import exhibit
     from .spans import second_deck
 
     nam = existing(args.nam)
-    return exhibit(nam, args.folder, [*options, *second_deck(nam, args.to), *flags_of(args)])
+    return exhibit(nam, args.folder, [*options, *second_deck(nam, args.to), *flags_of(args)], out)
 
 
-def do_batch(args: argparse.Namespace, options: list[str]) -> int:
+def do_batch(args: argparse.Namespace, options: list[str], out: IO[str]) -> int:
     from .batch import batch
 
     way = "slurm" if args.slurm else "parallel" if args.parallel else "here"
-    return batch(existing(args.list), [*options, *flags_of(args)], way, args.jobs, args.write_only)
+    return batch(existing(args.list), [*options, *flags_of(args)], way, args.jobs, args.write_only, out)
 
 
-def do_version(args: argparse.Namespace, _: list[str]) -> int:
+def do_version(args: argparse.Namespace, _: list[str], out: IO[str]) -> int:
     from . import __version__
     from .program import version
 
     known = version()
-    say([f"heads-tools {__version__} (not proved)", *known.lines])
+    say([f"heads-tools {__version__} (not proved)", *known.lines], out)
     return 1 if known.is_recorded is False else 0

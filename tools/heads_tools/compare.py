@@ -8,7 +8,8 @@ import numpy as np
 
 from .headfile import ANY_STEP, Heads
 from .listing import Listing, Step
-from .text import Problem, counted, short_down, short_up, whole_file
+from .text import Problem, counted, short_down, short_up
+from .whole_files import whole_file
 
 
 @dataclass

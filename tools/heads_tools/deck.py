@@ -98,6 +98,10 @@ class Deck:
     lists: dict[str, list[list[Entry] | None]] = field(default_factory=dict)
     areal: dict[str, Areal] = field(default_factory=dict)
 
+    def top_of(self, layer: int) -> Array:
+        """The elevation above a layer, counted from 0: the bottom of the bed above it, where there is one."""
+        return self.bed_bottom.get(layer - 1, self.bottom[layer - 1]) if layer else self.top
+
     @property
     def is_transient(self) -> bool:
         return any(not p.is_steady for p in self.periods)

@@ -3,7 +3,6 @@ plan. They are what `heads run from.nam --to to.nam` and MODFLOW-2005 read."""
 from __future__ import annotations
 
 import os
-import shutil
 from dataclasses import dataclass, field
 from pathlib import Path
 
@@ -13,7 +12,8 @@ from .pairing import pair
 from .plain import package_lines
 from .ranges import Range, Stresses
 from .spelling import quoted_words
-from .text import Problem, on_disk, whole_file
+from .text import Problem, on_disk
+from .whole_files import copy_whole, whole_file, whole_folder
 
 STRESSES = (*COLUMNS, "RCH", "EVT")
 FIRST, SECOND, BOTH = "from", "to", "both"
@@ -28,6 +28,7 @@ DATA = {
     "EVT": "evapotranspiration",
 }
 FREE_UNIT = 20
+NOTES = "between.txt"
 
 
 @dataclass
@@ -58,10 +59,12 @@ def write_between(nam: Path, folder: Path, ranges: Ranges) -> list[str]:
         stresses.change(deck)
     texts = [{kind: package_lines(grown(deck), kind) for kind in kinds_in(deck)} for deck in (first, second)]
     differing = [kind for kind in KINDS if kind in texts[0] and texts[0][kind] != texts[1][kind]]
-    write_packages(folder, texts, differing)
-    taken = copy_passed(first, folder)
-    for deck, word in ((first, FIRST), (second, SECOND)):
-        write_lines(folder / f"{word}.nam", name_lines(deck, word, differing, taken))
+    with whole_folder(folder, is_own=(folder / NOTES).is_file()) as new:
+        write_packages(new, texts, differing)
+        taken = copy_passed(first, new)
+        for deck, word in ((first, FIRST), (second, SECOND)):
+            write_lines(new / f"{word}.nam", name_lines(deck, word, differing, taken))
+        write_lines(new / NOTES, told(folder, differing))
     return told(folder, differing)
 
 
@@ -126,7 +129,7 @@ def file_of(kind: str, word: str, differing: list[str]) -> str:
 
 
 def write_lines(path: Path, lines: list[str]) -> None:
-    with whole_file(path, binary=True) as file:
+    with whole_file(path, binary=True, is_own=True) as file:
         file.write(("\n".join(lines) + "\n").encode("latin-1", "replace"))
 
 
@@ -135,7 +138,7 @@ def copy_passed(deck: Deck, folder: Path) -> set[str]:
     names = {words[2] for words in map(quoted_words, deck.name_lines) if is_passed(words)}
     found = {name for name in names if on_disk(deck.path.parent, name).is_file()}
     for name in found:
-        shutil.copyfile(on_disk(deck.path.parent, name), folder / plain_name(name))
+        copy_whole(on_disk(deck.path.parent, name), folder / plain_name(name))
     return found
 
 

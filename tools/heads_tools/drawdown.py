@@ -4,16 +4,20 @@ numbers, outward, with nothing rounded."""
 from __future__ import annotations
 
 from dataclasses import dataclass, field
+from functools import cached_property
 from pathlib import Path
 
 import numpy as np
 
+from .below_top import BelowTop
 from .cell_lines import write_cells
 from .listing import Listing, Step
 from .model import Model
 from .spans import demand_one
 from .tables import budget_of
-from .text import Problem, counted, decimal_text, down, up, whole_file
+from .text import Problem, counted, decimal_text, down, up
+from .verdict import UNCHECKED_ZONES, Verdict, check_listing, not_checked
+from .whole_files import whole_file
 
 Pair = tuple[int, int]
 Cell = tuple[int, int, int]
@@ -68,7 +72,8 @@ def changes_of(listing: Listing, base: Listing) -> Listing:
     """The changes of heads, listing less base, as a listing, for exports."""
     steps = [Step(c.period, c.step, c.low, c.high) for c in difference(listing, base)]
     end = listing.end if listing.end != "END" else base.end
-    return Listing(listing.path, listing.digits, listing.unit, steps, listing.cells, end, True)
+    digest = f"{listing.sha256} less {base.sha256}"
+    return Listing(listing.path, listing.digits, listing.unit, steps, listing.cells, end, True, sha256=digest)
 
 
 def nets(step: Step, scale: int) -> dict[str, Pair]:
@@ -119,37 +124,67 @@ def place_of(cell: Cell) -> str:
 @dataclass
 class Drawdown:
     """The changes from base to plan, with what is needed to say them: units, times and the plan's grid, where its
-    model is named. `verdicts`: a sentence on each of the two listings."""
+    model is named. `verdicts`: what was checked of the two listings; `tops`: what their heads say of the tops of their
+    cells."""
 
     plan: Listing
     base: Listing
     changes: list[Change]
     unit: str
     model: Model | None = None
-    verdicts: list[str] = field(default_factory=list)
+    verdicts: list[Verdict] = field(default_factory=list)
+    tops: list[str] = field(default_factory=list)
 
     @property
     def rate(self) -> str:
         return f"{self.unit}³ per {self.model.time if self.model else 'time unit'}"
 
     def at(self, change: Change) -> str:
-        return f"period {change.period} step {change.step}"
+        time = self.time(change)
+        end = f", {time:.6g} {self.model.time}" if self.model and time is not None else ""
+        return f"period {change.period} step {change.step}{end}"
 
     def time(self, change: Change) -> float | None:
         times = self.model.times if self.model else {}
         return times.get((change.period, change.step), (0.0, None))[1]
 
-    def deepest(self, change: Change) -> int:
+    def deepest(self, change: Change, among: np.ndarray | None = None) -> int:
         """The place of the cell whose head the plan lowers most, by the least that the bounds show; else changes
-        most."""
-        return int(change.high.argmin() if (change.high < 0).any() else np.maximum(-change.low, change.high).argmax())
+        most. `among`: the places of the cells to choose from, all where left out."""
+        places = np.arange(len(change.low)) if among is None else among
+        low, high = change.low[places], change.high[places]
+        return int(places[high.argmin() if (high < 0).any() else np.maximum(-low, high).argmax()])
+
+    @cached_property
+    def without_wells(self) -> np.ndarray:
+        """The places of the cells without an entry of the plan's WEL; none where its model isn't named, or has no
+        entry."""
+        lists = self.model.deck.lists.get("WEL", []) if self.model else []
+        wells = {entry.cell for entries in lists for entry in entries or []}
+        return np.flatnonzero([tuple(cell) not in wells for cell in self.plan.cells.tolist()] if wells else [])
+
+    @cached_property
+    def worst(self) -> Change:
+        """The step at whose end the bounds show the deepest drawdown; where they show none, the last."""
+        least = [int(change.high.min()) for change in self.changes]
+        return self.changes[least.index(min(least))] if min(least) < 0 else self.changes[-1]
+
+    def greatest(self, change: Change) -> Pair:
+        """Bounds of the greatest drawdown of all cells at the end of a step, in 10^-9: that of the cell where it is
+        deepest is one of them."""
+        return int((-change.high).max()), int((-change.low).max())
 
     def sentences(self, cells: list[Cell]) -> list[str]:
-        """What the plan does at the end of the last step that both runs have."""
-        last = self.changes[-1]
-        at = self.deepest(last)
-        most = told(int(last.low[at]), int(last.high[at]), self.unit, where=place_of(tuple(self.plan.cells[at])))
-        out = [*self.verdicts, f"At the end of {self.at(last)}, {most}, the most of all cells."]
+        """What the plan does at the end of the last step that both runs have, and at that of its deepest drawdown."""
+        last, worst = self.changes[-1], self.worst
+        out = [said_of(seen) for seen in self.verdicts]
+        out.append(f"At the end of {self.at(last)}, {self.most(last)}, the most of all cells.")
+        if worst is not last:
+            deepest = f"at the end of {self.at(worst)}, {self.most(worst)}"
+            out.append(f"The deepest of all {len(self.changes)} steps: {deepest}.")
+        if len(self.without_wells):
+            most = self.most(worst, self.without_wells)
+            out.append(f"Of the cells without a well the most, at the end of {self.at(worst)}: {most}.")
         out += [
             told(int(last.low[n]), int(last.high[n]), self.unit, where=place_of(cell)).replace(
                 "the plan", "The plan", 1
@@ -160,7 +195,14 @@ class Drawdown:
         ]
         shown = int(((last.low > 0) | (last.high < 0)).sum())
         out.append(f"At {counted(shown, 'cell')} of {len(last.low)} the bounds show which of the two heads is higher.")
-        return out
+        return out + self.tops
+
+    def most(self, change: Change, among: np.ndarray | None = None) -> str:
+        """What the plan does at the end of a step to the cell, of all or of some, whose head it changes most."""
+        at = self.deepest(change, among)
+        return told(
+            int(change.low[at]), int(change.high[at]), self.unit, where=place_of(tuple(self.plan.cells[at].tolist()))
+        )
 
     def term_sentences(self) -> list[str]:
         last = self.changes[-1]
@@ -171,9 +213,9 @@ class Drawdown:
         ]
 
 
-def write_changes(it: Drawdown, folder: Path) -> None:
+def write_changes(it: Drawdown, folder: Path) -> list[str]:
     """drawdown.csv (base less plan: above 0 where the plan lowers the head), budget_change.csv and zones_change.csv
-    (plan less base), all bounds with all their digits."""
+    (plan less base), all bounds with all their digits: their names."""
     with whole_file(folder / "drawdown.csv") as file:
         file.write("period,step,time,layer,row,col,drawdown_lower,drawdown_upper\n")
         for change in it.changes:
@@ -188,29 +230,39 @@ def write_changes(it: Drawdown, folder: Path) -> None:
                     f"{change.period},{change.step},{name},"
                     f"{decimal_text(low, change.places)},{decimal_text(high, change.places)}\n"
                 )
-    if any(change.zones for change in it.changes):
-        with whole_file(folder / "zones_change.csv") as file:
-            file.write("period,step,from,to,lower,upper\n")
-            for change in it.changes:
-                for (a, b), (low, high) in change.zones.items():
-                    file.write(
-                        f"{change.period},{change.step},{a},{b},"
-                        f"{decimal_text(low, change.places)},{decimal_text(high, change.places)}\n"
-                    )
+    if not any(change.zones for change in it.changes):
+        return ["drawdown.csv", "budget_change.csv"]
+    with whole_file(folder / "zones_change.csv") as file:
+        file.write("period,step,from,to,lower,upper\n")
+        for change in it.changes:
+            for (a, b), (low, high) in change.zones.items():
+                file.write(
+                    f"{change.period},{change.step},{a},{b},"
+                    f"{decimal_text(low, change.places)},{decimal_text(high, change.places)}\n"
+                )
+    return ["drawdown.csv", "budget_change.csv", "zones_change.csv"]
 
 
 def verdict_of(
     listing: Listing, nam: Path | None, zones: Path | None = None, has_wide: bool = False
-) -> tuple[str, int]:
-    """A sentence on a listing, and the status of its check (0 where it wasn't checked)."""
-    from .verdict import UNCHECKED_ZONES, check_listing, not_checked
+) -> Verdict:
+    return check_listing(nam, listing, zones, has_wide=has_wide) if nam else not_checked(listing)
 
-    seen = check_listing(nam, listing, zones, has_wide=has_wide) if nam else not_checked(listing)
+
+def said_of(seen: Verdict) -> str:
+    """A sentence on a listing."""
     if seen.is_certified:
         rest = f" {UNCHECKED_ZONES}" if seen.has_zones and not seen.is_zoned else ""
-        return f"{seen.name}: heads check says CERTIFIED.{rest}", 0
+        return f"{seen.name}: heads check says CERTIFIED.{rest}"
     why = "it wasn't checked" if seen.status is None else f"heads check says {seen.last}"
-    return f"{seen.name}: {why}; the differences hold only if its pairs are bounds.", seen.status or 0
+    return f"{seen.name}: {why}; the differences hold only if its pairs are bounds."
+
+
+def tops_of(listing: Listing, model: Model | None, seen: Verdict) -> list[str]:
+    """What a listing's heads say of the tops of their cells, each sentence with the listing's name."""
+    if model is None:
+        return []
+    return [f"{listing.path.name}: {line}" for line in BelowTop(model.deck, listing).sentences(seen.is_certified)]
 
 
 def drawdown(
@@ -233,21 +285,20 @@ def drawdown(
     cells = list(cells or [])
     for cell in cells:
         plan.at(cell)
-    model = read_model(nam) if nam else None
-    if base_nam and model and read_model(base_nam).times != model.times:
+    model, base_model = (read_model(name) if name else None for name in (nam, base_nam))
+    if base_model and model and base_model.times != model.times:
         raise Problem(f"{base_nam} has other times at the ends of its steps than {nam}")
-    told_plan, told_base = (
-        verdict_of(listing, name, zones, has_wide) for listing, name in ((plan, nam), (base, base_nam))
-    )
+    seen = [verdict_of(listing, name, zones, has_wide) for listing, name in ((plan, nam), (base, base_nam))]
+    tops = [tops_of(*each) for each in zip((plan, base), (model, base_model), seen)]
     it = Drawdown(
         plan,
         base,
         difference(plan, base),
         model.length if model else LENGTHS.get(plan.unit, "length units"),
         model,
-        [told_plan[0], told_base[0]],
+        seen,
+        [*tops[0], *tops[1]],
     )
     folder.mkdir(parents=True, exist_ok=True)
-    write_changes(it, folder)
-    draw(it, folder, cells)
-    return it.sentences(cells) + it.term_sentences(), told_plan[1] or told_base[1]
+    draw(it, folder, cells, write_changes(it, folder))
+    return it.sentences(cells) + it.term_sentences(), seen[0].status or seen[1].status or 0

@@ -7,13 +7,17 @@ from pathlib import Path
 import numpy as np
 
 from . import curves, maps
-from .drawdown import Cell, Change, Drawdown, place_of
-from .looking import plan_for
+from .drawdown import Cell, Change, Drawdown, Pair, place_of
+from .looking import plan_for, title_of
 from .page import Page, write_page
+from .page_facts import Facts, facts_of, facts_of_making
 from .pictures import Album
 from .text import decimal_text, down, up
+from .verdict import Verdict
 
 MOST_MAPS, MOST_PANELS = 12, 24
+RIVER = "RIVER LEAKAGE"
+ALL_BETWEEN = "Each change from an exact solution of the base to one of the plan lies between its bounds."
 
 
 def fall(it: Drawdown, change: Change) -> np.ndarray:
@@ -22,70 +26,114 @@ def fall(it: Drawdown, change: Change) -> np.ndarray:
     return it.plan.grid(-(change.low / 2 + change.high / 2) / 1e9, shape)
 
 
-def most_of(falls: list[np.ndarray]) -> float:
-    """The greatest change, up or down, of some grids: the end of their common scale."""
-    return max(float(np.nanmax(np.abs(v))) for v in falls) or 1e-9
+def scale_of(falls: list[np.ndarray]) -> maps.Scale:
+    """The common scale of some grids of changes."""
+    ends = [min(float(np.nanmin(v)) for v in falls), max(float(np.nanmax(v)) for v in falls)]
+    return maps.change_scale(*ends, maps.FALL_MAP)
+
+
+def set_verdict(page: Page, seen: list[Verdict]) -> None:
+    """The line under the title: good where each listing is certified."""
+    wrong = [each for each in seen if not each.is_certified]
+    if not wrong:
+        page.verdict, page.is_good = f"heads check: CERTIFIED, all {len(seen)} listings. {ALL_BETWEEN}", True
+        return
+    is_asked = any(each.status is not None for each in wrong)
+    names = ", ".join(f"{each.name} ({each.last})" for each in wrong[:3]) + (", .." if len(wrong) > 3 else "")
+    page.is_good = False if is_asked else None
+    told = "NOT CERTIFIED" if is_asked else "Not checked"
+    page.verdict = f"{told}: {names}. The changes hold only where the pairs are bounds."
+
+
+def title(it: Drawdown) -> str:
+    told = f"{it.plan.path.stem} against {it.base.path.stem}"
+    return f"{title_of(it.model.deck.path)}: {told}" if it.model else f"Drawdown: {told}"
+
+
+def facts(it: Drawdown) -> Facts:
+    made = facts_of_making(any(each.status is not None for each in it.verdicts))
+    return [*facts_of(it.plan, it.unit, it.model, "Plan"), *facts_of(it.base, it.unit, None, "Base"), *made]
 
 
 def draw_maps(it: Drawdown, album: Album, page: Page) -> None:
-    last = it.changes[-1]
-    values = fall(it, last)
-    if min(values.shape[1:]) == 1:
+    """The maps of the last step, and of that of the deepest drawdown where it is another one."""
+    last, worst = it.changes[-1], it.worst
+    falls = {"": fall(it, last), **({"_deepest": fall(it, worst)} if worst is not last else {})}
+    if min(falls[""].shape[1:]) == 1:
         return
-    plan, width = plan_for(it.model, values.shape, it.unit), int((last.high - last.low).max())
-    for k in [k for k in range(len(values)) if np.isfinite(values[k]).any()][:MOST_MAPS]:
-        name, title = f"drawdown_layer{k + 1}", f"Drawdown in layer {k + 1}, {it.at(last)}"
-        label = f"drawdown, {it.unit}"
-        maps.one_map(album, name, plan, values[k], k + 1, title, label, maps.FALL_MAP, most_of([values]))
-        page.picture(
-            "Maps",
-            f"{name}.png",
-            f"Layer {k + 1}: above 0 (red) the plan lowers the head. The middles of the bounds are drawn, which are at"
-            f" most {decimal_text(width, 9)} {it.unit} apart; one scale for all layers",
-        )
+    plan, scale = plan_for(it.model, falls[""].shape, it.unit), scale_of(list(falls.values()))
+    for change, (more, values) in zip((last, worst), falls.items()):
+        width = decimal_text(int((change.high - change.low).max()), 9)
+        for k in [k for k in range(len(values)) if np.isfinite(values[k]).any()][:MOST_MAPS]:
+            name, about = f"drawdown_layer{k + 1}{more}", f"Drawdown in layer {k + 1}, {it.at(change)}"
+            words = k + 1, about, f"drawdown, {it.unit}"
+            maps.layer_map(album, name, plan, values[k], *words, *scale)
+            page.picture(
+                "Maps",
+                f"{name}.png",
+                f"{about}: above 0 (red) the plan lowers the head. The middles of the bounds are drawn, which are at"
+                f" most {width} {it.unit} apart; one scale for all maps, in which 0.01 to 0.02 is as long as 1 to 2",
+                about if more or k else "",
+            )
 
 
 def draw_curves(it: Drawdown, album: Album, page: Page, cells: list[Cell]) -> None:
-    """Bands of the drawdown at cells over time."""
+    """Bands over time: the greatest drawdown of all cells, that at some cells, and the budget's changes."""
     if len(it.changes) < 2:
         return
-    times = [it.time(c) for c in it.changes]
-    has_times = all(t is not None for t in times)
-    x = np.array(times if has_times else range(1, len(times) + 1), dtype=float)
-    lines = []
+    ends = [it.time(c) for c in it.changes]
+    has_times = all(t is not None for t in ends)
+    x = np.array(ends if has_times else range(1, len(ends) + 1), dtype=float)
+    label = f"time, {it.model.time}" if has_times and it.model else "step"
+    greatest = np.array([it.greatest(c) for c in it.changes]).T / 1e9
+    lines = [("greatest of all cells", *greatest)]
     for cell in cells:
         at = it.plan.at(cell)
         low, high = (np.array([-getattr(c, side)[at] for c in it.changes]) / 1e9 for side in ("high", "low"))
         lines.append((place_of(cell)[3:], low, high))
-    label = f"time, {it.model.time}" if has_times and it.model else "step"
     curves.bands(album, "drawdown_curves", x, lines, label, f"drawdown, {it.unit}", "Drawdown over time", True)
     page.picture(
         "Curves", "drawdown_curves.png", "Drawdown over time, bands between its bounds; down is a lower head"
     )
+    names = [name for name in it.changes[-1].nets if any(any(c.nets.get(name, (0, 0))) for c in it.changes)]
+    terms = [(name.lower(), *(rates(it, name, side) for side in (0, 1))) for name in names]
+    if terms:
+        words = label, f"more into the cells, {it.rate}", "Change of the budget over time"
+        curves.bands(album, "budget_curves", np.concatenate([[0.0], x]), terms, *words, is_rate=True)
+        page.picture(
+            "Curves",
+            "budget_curves.png",
+            "Change of each term's net flow into the cells, which is the same from a step's begin to its end. Where "
+            "that of river leakage is above 0, the river loses so much more, or gains so much less",
+        )
 
 
-def draw(it: Drawdown, folder: Path, cells: list[Cell]) -> None:
-    """Writes pictures and the page of one plan against its base."""
+def rates(it: Drawdown, name: str, side: int) -> np.ndarray:
+    return np.array([c.nets.get(name, (0, 0))[side] / 10**c.places for c in it.changes])
+
+
+def draw(it: Drawdown, folder: Path, cells: list[Cell], files: list[str]) -> None:
+    """Writes pictures and the page of one plan against its base. `files`: the tables beside the page."""
     last = it.changes[-1]
-    page = Page(f"What {it.plan.path.name} changes against {it.base.path.name}")
-    for text in it.sentences(cells):
+    page = Page(title(it), facts=facts(it), files=files)
+    set_verdict(page, it.verdicts)
+    for text in it.sentences(cells)[len(it.verdicts) :]:
         page.say(text)
-    chosen = cells or [tuple(it.plan.cells[it.deepest(last)].tolist())]
-    rows = [
-        [place_of(c)[3:], decimal_text(-int(last.high[n]), 9), decimal_text(-int(last.low[n]), 9)]
-        for c in chosen
-        for n in [it.plan.at(c)]
-    ]
-    page.text("Drawdown", f"{it.at(last).capitalize()}, in {it.unit}.")
-    page.table("Drawdown", ["cell", "from", "to"], rows)
+    deepest = [it.deepest(it.worst), it.deepest(last)]
+    deepest += [it.deepest(it.worst, it.without_wells)] if len(it.without_wells) else []
+    chosen = cells or [tuple(it.plan.cells[at].tolist()) for at in dict.fromkeys(deepest)]
+    rows = []
+    for cell in chosen:
+        at = it.plan.at(cell)
+        deep = deepest_at(it, at)
+        for change in [last] + ([deep] if deep is not last else []):
+            rows.append([place_of(cell)[3:], it.at(change), *fall_pair(change, at)])
+    page.text("Drawdown", f"In {it.unit}, at the end of the last step, and of that where it is deepest in the cell.")
+    page.table("Drawdown", ["cell", "at the end of", "from", "to"], rows)
     album = Album(folder)
     draw_maps(it, album, page)
     draw_curves(it, album, page, chosen)
-    terms = [
-        [name, down(low, last.places), up(high, last.places)] for name, (low, high) in last.nets.items() if low or high
-    ]
-    page.text("Budget", f"Change of the net flow into the cells, {it.at(last)}, in {it.rate}.")
-    page.table("Budget", ["term", "from", "to"], terms)
+    add_terms(it, page)
     if last.zones:
         flows = [
             [f"{a} to {b}", down(low, last.places), up(high, last.places)] for (a, b), (low, high) in last.zones.items()
@@ -93,6 +141,35 @@ def draw(it: Drawdown, folder: Path, cells: list[Cell]) -> None:
         page.text("Zones", f"Change of the flow between zones, {it.at(last)}, in {it.rate}.")
         page.table("Zones", ["zones", "from", "to"], flows)
     write_page(page, folder)
+
+
+def deepest_at(it: Drawdown, at: int) -> Change:
+    """The step at whose end the bounds show the deepest drawdown of a cell."""
+    return min(it.changes, key=lambda change: int(change.high[at]))
+
+
+def add_terms(it: Drawdown, page: Page) -> None:
+    """The budget's changes in the last step, and in that where each is greatest."""
+    last = it.changes[-1]
+    terms = [
+        [name, down(low, last.places), up(high, last.places)] for name, (low, high) in last.nets.items() if low or high
+    ]
+    page.text("Budget", f"Change of the net flow into the cells, {it.at(last)}, in {it.rate}.")
+    page.table("Budget", ["term", "from", "to"], terms)
+    if len(it.changes) < 2:
+        return
+    rows = []
+    for name in last.nets:
+        change = max(it.changes, key=lambda c: middle_size(c.nets.get(name, (0, 0)), c.places))
+        low, high = change.nets.get(name, (0, 0))
+        if low or high:
+            rows.append([name, it.at(change), down(low, change.places), up(high, change.places)])
+    page.text("Budget", f"The greatest change of each term of all steps, in {it.rate}.")
+    page.table("Budget", ["term", "in", "from", "to"], rows)
+
+
+def middle_size(pair: Pair, places: int) -> float:
+    return abs(pair[0] + pair[1]) / 10.0**places
 
 
 @dataclass
@@ -104,28 +181,59 @@ class Plan:
     it: Drawdown | None
 
 
-def draw_plans(plans: list[Plan], base: str, folder: Path, cells: list[Cell]) -> None:
-    """One page for all plans of a batch against their base: a table, maps in one scale, and the terms of each."""
-    drawn = [p for p in plans if p.it is not None]
-    page = Page(f"{len(plans)} plans against {base}")
-    for plan in plans:
-        page.say(f"{plan.name}: {plan.ended}")
-    unit, rate = (drawn[0].it.unit, drawn[0].it.rate) if drawn else ("", "")
-    rows, terms = [], []
+def draw_plans(plans: list[Plan], base: Plan, folder: Path, cells: list[Cell]) -> None:
+    """One page for all plans of a batch against their base: a table, maps in one scale, and the terms of each. `base`:
+    the base against itself."""
+    drawn, ground = [p for p in plans if p.it is not None], base.it
+    count = f"{len(plans)} plan{'' if len(plans) == 1 else 's'} against {base.name}"
+    page = Page(f"{title_of(ground.model.deck.path)}: {count}", files=["plans.csv"])
+    page.facts = [*facts_of(ground.plan, ground.unit, ground.model, "Base"), *facts_of_making(True)]
+    set_verdict(page, [ground.verdicts[0], *(p.it.verdicts[0] for p in drawn)])
+    for text in dict.fromkeys(text for p in (base, *drawn) for text in p.it.tops):
+        page.say(text)
+    head, rows = table_of(plans, cells)
+    page.text("Plans", f"Drawdown in {ground.unit}; a click on the head of a column sorts the table.")
+    page.table("Plans", head, rows, is_sorted=True)
+    draw_small_maps(drawn, Album(folder), page)
+    terms = []
     for plan in drawn:
-        last, listing = plan.it.changes[-1], plan.it.plan
-        for n in dict.fromkeys([plan.it.deepest(last), *(listing.at(c) for c in cells)]):
-            bounds = f"{decimal_text(-int(last.high[n]), 9)} to {decimal_text(-int(last.low[n]), 9)}"
-            rows.append([plan.name, " ".join(map(str, listing.cells[n].tolist())), bounds])
+        last = plan.it.changes[-1]
         for name, (low, high) in last.nets.items():
             if low or high:
-                terms.append([plan.name, name, f"{down(low, last.places)} to {up(high, last.places)}"])
-    page.text("Drawdown", f"At the end of the last step, in {unit}; first the cell where it is deepest.")
-    page.table("Drawdown", ["plan", "layer row column", "drawdown, lower to upper"], rows)
-    page.text("Budget", f"Change of the net flow into the cells at the end of the last step, in {rate}.")
-    page.table("Budget", ["plan", "term", "change, lower to upper"], terms)
-    draw_small_maps(drawn, Album(folder), page)
+                terms.append([plan.name, name, down(low, last.places), up(high, last.places)])
+    page.text("Budget", f"Change of the net flow into the cells at the end of the last step, in {ground.rate}.")
+    page.table("Budget", ["plan", "term", "from", "to"], terms, is_sorted=True)
     write_page(page, folder)
+
+
+def table_of(plans: list[Plan], cells: list[Cell]) -> tuple[list[str], list[list[str]]]:
+    """A row for each plan: where and when it lowers the head most, by how much, what it does at some cells and to the
+    river at the end of the last step; of a plan without a listing, why."""
+    drawn = [p for p in plans if p.it is not None]
+    has_river = any(RIVER in p.it.changes[-1].nets for p in drawn)
+    head = ["plan", "greatest drawdown, from", "to", "layer row column", "at the end of"]
+    head += [f"{' '.join(map(str, cell))}, {side}" for cell in cells for side in ("from", "to")]
+    head += ["river into the cells, from", "to"] * has_river + ["heads check"]
+    rows = []
+    for plan in plans:
+        if plan.it is None:
+            rows.append([plan.name, *[""] * (len(head) - 2), plan.ended])
+            continue
+        it, last = plan.it, plan.it.changes[-1]
+        worst = it.worst
+        at = it.deepest(worst)
+        row = [plan.name, *fall_pair(worst, at), " ".join(map(str, it.plan.cells[at].tolist())), it.at(worst)]
+        row += [text for cell in cells for text in fall_pair(last, it.plan.at(cell))]
+        if has_river:
+            low, high = last.nets.get(RIVER, (0, 0))
+            row += [down(low, last.places), up(high, last.places)]
+        rows.append([*row, it.verdicts[0].last])
+    return head, rows
+
+
+def fall_pair(change: Change, at: int) -> tuple[str, str]:
+    """The bounds of a cell's drawdown."""
+    return decimal_text(-int(change.high[at]), 9), decimal_text(-int(change.low[at]), 9)
 
 
 def draw_small_maps(plans: list[Plan], album: Album, page: Page) -> None:
@@ -134,17 +242,18 @@ def draw_small_maps(plans: list[Plan], album: Album, page: Page) -> None:
     if not falls or min(falls[0].shape[1:]) == 1:
         return
     plan = plan_for(plans[0].it.model, falls[0].shape, plans[0].it.unit)
-    norm, label = maps.change_scale(most_of(falls)), f"drawdown, {plans[0].it.unit}"
+    label, scale = f"drawdown, {plans[0].it.unit}", scale_of(falls)
     for first in range(0, len(plans), MOST_PANELS):
         panels = []
         for one, values in list(zip(plans, falls))[first : first + MOST_PANELS]:
             k = next(k for k in range(len(values)) if np.isfinite(values[k]).any())
             panels.append((one.name, values[k]))
         name = f"plans{first // MOST_PANELS + 1}"
-        maps.small_maps(album, name, plan, panels, label, maps.FALL_MAP, norm)
+        maps.small_maps(album, name, plan, panels, label, *scale)
         page.picture(
             "Maps",
             f"{name}.png",
             "Drawdown of each plan in its topmost layer with flow, at the end of the last step, in one scale: above 0"
             " (red) the plan lowers the head",
+            f"Maps of plans {first + 1} to {first + len(panels)}" if first else "",
         )

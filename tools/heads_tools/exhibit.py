@@ -2,18 +2,21 @@
 from __future__ import annotations
 
 import os
+import re
 import shlex
 import shutil
 import subprocess
 import sys
 import tempfile
 import time
-from dataclasses import dataclass, field
+from dataclasses import dataclass, field, replace
 from html import escape
 from pathlib import Path
 from string import Template
+from typing import IO
 
 from . import __version__
+from .below_top import ALL_FULL, BelowTop
 from .deck import KINDS
 from .explain import explain
 from .limits import is_wide, limits_of, wide_words
@@ -21,13 +24,15 @@ from .listing import read_listing
 from .look import look, title_of
 from .model import Model, read_model
 from .packages import read_deck
+from .page import bare, shown
 from .made_by import is_quick, keep_words, kind_of
-from .program import TOP, Ended, Version, beside, digits_of, files_of, version
+from .program import TOP, Ended, Version, beside, digits_of, files_of, program_file, record_of, version
 from .spans import target_of, what_differs
 from .spelling import quoted_words
-from .text import Problem, on_disk, read_text, sha256, whole_file, words
-from .verdict import Verdict, has_zones, program_file
-from .what_is_said import Words, words_of
+from .text import Problem, on_disk, read_text, sha256, words
+from .verdict import Verdict, has_zones
+from .what_is_said import NOT_THE_MOST, Words, words_of
+from .whole_files import copy_whole, whole_file, why
 from .zones import read_zones
 
 ONE_SPELLING = (
@@ -35,19 +40,23 @@ ONE_SPELLING = (
     "puts it. It is proved that its files are read as that model: whoever reads them item by item beside MODFLOW's "
     "input instructions need not believe how `heads` reads the spelling of the deck."
 )
+NO_CERTIFIED = "Nothing may be said of it: there is no certified listing."
 NOTHING = "Nothing may be said of this model's heads from this run."
 MOST_RECHECK_HEADS = 200_000
 
 
 @dataclass
 class Exhibit:
-    """What an exhibit says. `may`: what may be said; `words`: the sentences of its listing; `commands`: what was run
-    and can be run again, each as it stands in the exhibit's own folder; `facts`: name and text."""
+    """What an exhibit says. `may`: what may be said; `words`: the sentences of its listing; `tops`: what its heads say
+    of the tops of their cells, and `maps` the pictures of it; `commands`: what was run and can be run again, each as
+    it stands in the exhibit's own folder; `facts`: name and text."""
 
     title: str
     verdict: str = NOTHING
     may: list[str] = field(default_factory=list)
     words: Words = field(default_factory=Words)
+    tops: list[str] = field(default_factory=lambda: [NO_CERTIFIED])
+    maps: list[str] = field(default_factory=list)
     commands: list[str] = field(default_factory=list)
     facts: list[tuple[str, str]] = field(default_factory=list)
 
@@ -57,34 +66,42 @@ class Exhibit:
         lines += ["What may be said:", *(f"  {line}" for line in self.may or [NOTHING]), ""]
         may_not = [*self.words.may_not, f"({self.words.why_not})"]
         lines += ["What may not be said:", *(f"  {line}" for line in may_not), ""]
+        lines += ["Whether the layers are full:", *(f"  {line}" for line in self.tops), ""]
         lines += ["To test it, in this folder:", *(f"    {line}" for line in self.commands), ""]
-        lines += ["What was run:", *(f"  {name:<10}{text}" for name, text in self.facts)]
+        lines += ["What was run:", *(f"  {name:<13}{text}" for name, text in self.facts)]
         return "\n".join(lines) + "\n"
 
     def page(self) -> str:
         """judge.html."""
         frame = Template(Path(__file__).with_name("judge.html").read_text(encoding="utf-8"))
-        quote = lambda line, kind: f'<blockquote class="{kind}">{escape(line)}</blockquote>'
+        quote = lambda line, kind: f'<blockquote class="{kind}">{shown(line)}</blockquote>'
+        maps = (f'<p><img src="{escape(name)}" alt="cells whose heads lie below their tops"></p>' for name in self.maps)
         return frame.substitute(
-            title=escape(self.title),
-            verdict=escape(self.verdict),
+            title=bare(self.title),
+            verdict=shown(self.verdict),
             may="\n".join(quote(line, "may") for line in self.may or [NOTHING]),
             may_not="\n".join(quote(line, "not") for line in self.words.may_not)
-            + f"\n<p>{escape(self.words.why_not)}</p>",
-            proved=escape(self.words.proved),
-            tests=escape(self.words.tests),
+            + f"\n<p>{shown(self.words.why_not)}</p>",
+            tops="\n".join([*(f"<p>{shown(line)}</p>" for line in self.tops), *maps]),
+            proved=shown(self.words.proved),
+            tests=shown(self.words.tests),
             commands=escape("\n".join(self.commands)),
-            facts="".join(f"<dt>{escape(name)}</dt><dd>{escape(text)}</dd>" for name, text in self.facts),
+            facts="".join(f"<dt>{shown(name)}</dt><dd>{shown(text)}</dd>" for name, text in self.facts),
         )
 
 
-def exhibit(nam: Path, folder: Path, options: list[str]) -> int:
+def exhibit(nam: Path, folder: Path, options: list[str], out: IO[str]) -> int:
     """Makes the exhibit of a model in a folder, whole or not at all; the run's status, or that of the check."""
     if folder.exists() and (not folder.is_dir() or any(folder.iterdir())):
         raise Problem(f"{folder} isn't an empty folder: an exhibit begins with one, or with none")
+    if not shutil.which("sh"):
+        raise Problem("an exhibit's commands are those of a shell (sh), which isn't here: WSL has one, and Git for Windows")
     binary, known = program_file(), version()
-    folder.parent.mkdir(parents=True, exist_ok=True)
-    made = Path(tempfile.mkdtemp(prefix=f".{folder.name}.", dir=folder.parent))
+    try:
+        folder.parent.mkdir(parents=True, exist_ok=True)
+        made = Path(tempfile.mkdtemp(prefix=f".{folder.name}.", dir=folder.parent))
+    except OSError as error:
+        raise why(error, folder) from None
     try:
         copy_deck(nam, made / "deck", options)
         copy_program(binary, made)
@@ -98,12 +115,15 @@ def exhibit(nam: Path, folder: Path, options: list[str]) -> int:
         if folder.exists():
             folder.rmdir()
         os.rename(made, folder)
-    except BaseException:
+    except BaseException as error:
         shutil.rmtree(made, ignore_errors=True)
+        if isinstance(error, Problem):
+            raise Problem(str(error).replace(str(made), str(folder))) from None
         raise
     print(
         told.text()
-        + f"\nwritten: {folder}. Note the sha256 of its SHA256SUMS elsewhere: {sha256(folder / 'SHA256SUMS')}"
+        + f"\nwritten: {folder}. Note the sha256 of its SHA256SUMS elsewhere: {sha256(folder / 'SHA256SUMS')}",
+        file=out,
     )
     return status
 
@@ -114,7 +134,7 @@ def fill(folder: Path, name: str, options: list[str], known: Version) -> tuple[i
     deck = f"cd deck && ../heads run {shlex.join([name, *options])}"
     ended = shell(folder, f"({deck}) > {shlex.quote(listing)}")
     ended.last = last_line(folder / listing)
-    meaning = explain(ended.last, folder / "deck", digits_of(options), is_part(folder / listing))
+    meaning = explain(ended.last, folder / "deck", digits_of(options), is_part(folder / listing), options)
     told = Exhibit(title_of(folder / "deck" / name), f"The run ended with status {ended.status}: {ended.last}")
     told.facts.append(("run", f"({deck}) > {listing}: status {ended.status}, last line {ended.last}"))
     status = ended.status
@@ -153,6 +173,7 @@ def add_verdicts(told: Exhibit, folder: Path, name: str, listing: str, options: 
     told.words = words_of(read, model.length, differing(folder / "deck", name, to), wells_of(model))
     if verdict.is_certified and known.is_recorded is not False:
         told.may = told.words.may
+        add_tops(told, BelowTop(model.deck, read))
         if known.is_recorded is None:
             told.verdict += (
                 " No record of this program's bytes stands beside it: whether it is the proved one has to be shown."
@@ -161,7 +182,15 @@ def add_verdicts(told: Exhibit, folder: Path, name: str, listing: str, options: 
     if named and has_zones(read):
         numbers = read_zones(on_disk(deck, named[0]), deck / name, model.shape)
     look(read, folder / "look", model, verdict=verdict, zones=numbers)
+    told.maps = sorted(str(path.relative_to(folder)) for path in (folder / "look").glob("below_top_layer*.png"))
     return checked.status
+
+
+def add_tops(told: Exhibit, tops: BelowTop) -> None:
+    """Whether each layer is full, as the model takes it; where one isn't, what may not be said then."""
+    told.tops = tops.sentences() or [ALL_FULL]
+    if any(layer.below for layer in tops.layers):
+        told.words = replace(told.words, may_not=[*told.words.may_not, NOT_THE_MOST])
 
 
 def add_written(told: Exhibit, folder: Path, name: str, listing: str, options: list[str]) -> None:
@@ -180,7 +209,8 @@ def add_written(told: Exhibit, folder: Path, name: str, listing: str, options: l
         return
     (folder / "written").mkdir()
     for file, content in files.items():
-        (folder / "written" / file).write_bytes(content)
+        with whole_file(folder / "written" / file, binary=True, is_own=True) as new:
+            new.write(content)
     copy_files(zone_files(folder / "deck", options), folder / "deck", folder / "written")
     run = f"cd written && ../heads run {shlex.join(['p.nam', *options])}"
     told.commands += [f"{write} | cmp - written.txt && echo SAME", *same_bytes(run, listing, options)]
@@ -274,31 +304,40 @@ def copy_files(names: list[str], source: Path, target: Path) -> None:
     for name in names:
         if on_disk(source, name).is_file():
             on_disk(target, name).parent.mkdir(parents=True, exist_ok=True)
-            shutil.copyfile(on_disk(source, name), on_disk(target, name))
+            copy_whole(on_disk(source, name), on_disk(target, name))
 
 
 def copy_program(binary: Path, folder: Path) -> None:
     """The program, the record of its sources, and recheck.py."""
-    shutil.copyfile(binary, folder / "heads")
-    (folder / "heads").chmod(0o755)
-    record = binary.with_name(binary.name + ".txt")
-    if record.is_file():
-        shutil.copyfile(record, folder / "heads.txt")
+    copy = folder / ("heads.exe" if binary.suffix == ".exe" else "heads")
+    copy_whole(binary, copy)
+    copy.chmod(0o755)
+    record = record_of(binary)
+    if record:
+        copy_whole(record, folder / "heads.txt")
     script = beside("recheck.py")
     if script:
-        shutil.copyfile(script, folder / "recheck.py")
+        copy_whole(script, folder / "recheck.py")
 
 
 def program_facts(known: Version) -> list[tuple[str, str]]:
-    facts = [("program", line.strip()) for line in known.lines]
-    return (
-        facts
-        + commit_facts()
-        + [
-            ("tools", f"heads-tools {__version__}, Python {sys.version.split()[0]} (not proved)"),
-            ("made", time.strftime("%Y-%m-%d %H:%M:%S UTC by this machine's clock", time.gmtime())),
-        ]
-    )
+    return [
+        ("program", "the file heads in this folder"),
+        *(fact for line in known.lines if (fact := program_fact(line.strip()))),
+        *commit_facts(),
+        ("tools", f"heads-tools {__version__}, Python {sys.version.split()[0]} (not proved)"),
+        ("made", time.strftime("%Y-%m-%d %H:%M:%S UTC by this machine's clock", time.gmtime())),
+    ]
+
+
+def program_fact(line: str) -> tuple[str, str] | None:
+    """A line on the program under a name of its own, without the folders of the machine; none for where it lay."""
+    word, _, rest = line.partition(" ")
+    if word in ("program", "which"):
+        return None
+    if word in ("sha256", "sources", "kit"):
+        return f"its {word}", rest.strip()
+    return "checkout" if "checkout" in line else "its record", re.sub(r"/\S*/", "", line)
 
 
 def commit_facts() -> list[tuple[str, str]]:
@@ -314,4 +353,4 @@ def write_sums(folder: Path) -> None:
     """SHA256SUMS of all other files, as `sha256sum -c` reads it."""
     files = sorted(path for path in folder.rglob("*") if path.is_file())
     with whole_file(folder / "SHA256SUMS") as file:
-        file.writelines(f"{sha256(path)}  {path.relative_to(folder)}\n" for path in files)
+        file.writelines(f"{sha256(path)}  {path.relative_to(folder).as_posix()}\n" for path in files)

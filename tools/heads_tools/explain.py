@@ -8,10 +8,12 @@ from pathlib import Path
 from .advice import NO_BOUNDS, NOT_ALIKE, ONLY_PRINT, OTHER_PACKAGES, OUT_OF_RANGE, REFUSALS, REMEDIES, UNKNOWN_PACKAGE
 from .deck import COLUMNS
 from .made_by import made_by
+from .option_faults import option_faults
+from .marks import plain
 from .sources import odd_bytes
 from .spans import ALL_BETWEEN
 from .spelling import NUMBER
-from .text import Problem, on_disk, read_text, words
+from .text import Problem, on_disk, read_raw, read_text, words
 
 WHOLE = ("IBOUND", "LAYTYP", "LAYAVG", "LAYVKA", "LAYWET")
 STATUSES = {
@@ -56,7 +58,8 @@ class Meaning:
 
 @dataclass
 class Spot:
-    """A line of a deck: its file, its number, its text, and the package that the file belongs to."""
+    """A line of a deck: its file, its number, its text, the package that the file belongs to, and what is to be said of
+    the file where its text isn't plain."""
 
     file: str
     line: int
@@ -64,6 +67,7 @@ class Spot:
     kind: str
     lines: list[str]
     due: str = ""
+    mark: str = ""
 
     @property
     def first(self) -> str:
@@ -113,8 +117,10 @@ def explain_lines(lines: list[str], folder: Path, digits: int | None) -> Meaning
     return meaning
 
 
-def explain(last: str, folder: Path, digits: int = 12, has_steps: bool = False) -> Meaning:
-    """The meaning of a last line, of a run in a folder."""
+def explain(
+    last: str, folder: Path, digits: int = 12, has_steps: bool = False, options: list[str] | None = None
+) -> Meaning:
+    """The meaning of a last line, of a run in a folder with these options."""
     w = last.split()
     if not w:
         return Meaning(6, False, ["Nothing was written: a write failed (is the disk full?), or the run was stopped."])
@@ -131,7 +137,8 @@ def explain(last: str, folder: Path, digits: int = 12, has_steps: bool = False) 
     if w[0] in STATUSES:
         status, text, remedy = STATUSES[w[0]]
         parts = w[1:4] + [" ".join(w[4:])] if w[0] == "NOT" else w[1:] + ["?", "?"]
-        return Meaning(status, False, [text.format(*parts), f"  -> {remedy}"])
+        wrong = [f"     {fault}." for fault in option_faults(options or [])] if w[0] == "USAGE:" else []
+        return Meaning(status, False, [text.format(*parts), *wrong, f"  -> {remedy}"])
     return Meaning(
         6,
         False,
@@ -183,6 +190,8 @@ def refusal(code: int, word: str, file: str, line: str, cell: list[str], folder:
         out.append(f"     {spot.text.strip()[:110]}")
     spot.due = due_of(folder, file) if code in (8, 9, 13) else ""
     remedy = advice(code, spot, folder)
+    if spot.mark:
+        remedy = f"The file {spot.mark}: save it as ASCII (`heads-tools plain` does)."
     return out + ([f"     This was due there: {spot.due}."] if spot.due else []) + [f"  -> {remedy}"] * bool(remedy)
 
 
@@ -199,9 +208,10 @@ def due_of(folder: Path, file: str) -> str:
 
 def spot_of(folder: Path, file: str, line: int) -> Spot:
     path = on_disk(folder, file)
-    lines = read_text(path).split("\n") if path.is_file() else []
+    content, mark = plain(read_raw(path) if path.is_file() else b"")
+    lines = content.decode("latin-1").split("\n")
     text = lines[line - 1].rstrip("\r") if 0 < line <= len(lines) else ""
-    return Spot(file, line, text, kind_of(folder, file), lines)
+    return Spot(file, line, text, kind_of(folder, file), lines, mark=mark)
 
 
 def name_lines(folder: Path) -> list[tuple[Path, str]]:
@@ -291,10 +301,6 @@ def package(spot: Spot, folder: Path) -> str:
 
 
 def bad_number(spot: Spot, folder: Path) -> str:
-    if spot.text.startswith(("\u00ef\u00bb\u00bf", "\ufeff")):
-        return (
-            "The file begins with a byte order mark of a Windows editor: save it as ASCII (`heads-tools plain` does)."
-        )
     odd = odd_bytes("\n".join(spot.lines)) if spot.line == 1 else odd_bytes(spot.text)
     if odd:
         return odd[0].upper() + odd[1:] + "."

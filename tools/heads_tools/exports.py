@@ -1,12 +1,11 @@
-"""A listing where people work on: xarray, NetCDF, pandas. Lower heads are rounded down to doubles, upper ones up. Each
-format asks for its package only when it is used."""
+"""A listing where people work on: places on the map, tables of pandas. Lower heads are rounded down to doubles, upper
+ones up. Each format asks for its package only when it is used."""
 from __future__ import annotations
 
 import importlib
 import math
 from dataclasses import dataclass
 from fractions import Fraction
-from pathlib import Path
 from typing import TYPE_CHECKING, Any
 
 import numpy as np
@@ -14,11 +13,11 @@ import numpy as np
 from .listing import Listing, Step
 from .model import Model
 from .tables import budget_of
-from .text import LENGTHS, Problem
+from .text import VERSION, Problem
+from .verdict import NO_CHECK, Verdict, not_checked
 
 if TYPE_CHECKING:
     import pandas
-    import xarray
 
 PACKAGES = {
     "xarray": "python3-xarray python3-netcdf4",
@@ -27,22 +26,22 @@ PACKAGES = {
     "rasterio": "python3-rasterio",
     "meshio": "python3-meshio",
 }
-COMMENT = (
-    "every exact solution lies between lower and upper where `heads check` certified the listing; rounded outward to"
-    " doubles"
-)
-CHANGE = (
-    "lower and upper bound of the head of one run less that of another where `heads check` certified both listings;"
-    " rounded outward to doubles"
-)
-SPAN = (
-    "every exact solution of a deck between two lies between lower and upper where `heads check --to` certified the"
-    " listing; rounded outward to doubles"
-)
+METRES = {"m": 1.0, "ft": 0.3048, "cm": 0.01}
+ROUNDED = "Heads are rounded outward to doubles."
 
 
-def comment_of(listing: Listing) -> str:
-    return CHANGE if listing.is_change else SPAN if listing.is_span else COMMENT
+def comment_of(listing: Listing, verdict: Verdict | None) -> str:
+    """What the numbers are, after the check of the listing whose they are."""
+    told = facts_for(listing, verdict)["verdict"]
+    return f"{told} {ROUNDED}"
+
+
+def facts_for(listing: Listing, verdict: Verdict | None) -> dict[str, str]:
+    """What a file says of its numbers. A verdict on another listing is refused."""
+    verdict = verdict or not_checked(listing, NO_CHECK)
+    if verdict.sha256 != listing.sha256:
+        raise Problem(f"the verdict is that on another listing than {listing.path}")
+    return verdict.facts() | {"made_by": f"heads-tools {VERSION}"}
 
 
 @dataclass(frozen=True)
@@ -80,12 +79,44 @@ def place_of(text: str) -> Place:
         ) from None
 
 
+def system_of(epsg: int) -> Any:
+    """The reference system of a code of EPSG; None where rasterio isn't here, which knows them."""
+    try:
+        from rasterio.crs import CRS
+        from rasterio.errors import CRSError
+    except ImportError:
+        return None
+    try:
+        return CRS.from_epsg(epsg)
+    except CRSError:
+        raise Problem(f"EPSG:{epsg} isn't known: a code of EPSG is due, as 28992") from None
+
+
+def demand_unit(model: Model | None, place: Place) -> None:
+    """Refuses a reference system whose lengths have another unit than the model's: the grid isn't converted."""
+    system, metres = system_of(place.epsg) if place.epsg else None, METRES.get(model.length) if model else None
+    if system is None:
+        return
+    if not system.is_projected:
+        raise Problem(f"EPSG:{place.epsg} has degrees, and the grid has lengths: a code of a projection is due")
+    name, factor = system.linear_units_factor
+    if metres and abs(factor - metres) > 1e-5 * metres:
+        raise Problem(
+            f"{model.deck.path.name} has its lengths in {model.length}, and EPSG:{place.epsg} in {name}: the grid isn't"
+            " converted. Take a code with the model's unit, or leave the code out"
+        )
+
+
+class Unwritten(Problem):
+    """A form of files that can't be had here: its package is missing, or it can't hold the grid."""
+
+
 def package(name: str) -> Any:
     """A package that may be missing."""
     try:
         return importlib.import_module(name)
     except ImportError:
-        raise Problem(
+        raise Unwritten(
             f"this needs the Python package {name}: apt-get install {PACKAGES[name]}, or pip install {name}"
         ) from None
 
@@ -104,48 +135,6 @@ def middles(model: Model) -> tuple[np.ndarray, np.ndarray]:
 
 def time_of(model: Model | None, step: Step) -> float:
     return model.times.get((step.period, step.step), (0.0, math.nan))[1] if model else math.nan
-
-
-def to_xarray(listing: Listing, model: Model | None = None, place: Place = Place()) -> xarray.Dataset:
-    """Lower and upper heads by time (step without a model), layer, y and x; a grid that is turned has rows and
-    columns, and the coordinates of their middles."""
-    xarray = package("xarray")
-    shape = model.shape if model else listing.shape
-    rows, cols, axes = np.arange(1, shape[1] + 1), np.arange(1, shape[2] + 1), ("row", "col")
-    coords: dict[str, Any] = {"layer": np.arange(1, shape[0] + 1), "row": rows, "col": cols}
-    if model:
-        x, y = middles(model)
-        if place.angle:
-            wx, wy = place.world(*np.meshgrid(x, y))
-            coords |= {
-                "x": (("row", "col"), wx, {"units": model.length}),
-                "y": (("row", "col"), wy, {"units": model.length}),
-            }
-        else:
-            axes = ("y", "x")
-            coords = {
-                "layer": coords["layer"],
-                "y": ("y", place.y + y, {"units": model.length}),
-                "x": ("x", place.x + x, {"units": model.length}),
-            }
-    first = "time" if model else "step"
-    if model:
-        coords["time"] = (
-            "time",
-            [time_of(model, s) for s in listing.steps],
-            {"long_name": "time since the start", "model_unit": model.time},
-        )
-    coords |= {
-        "period": (first, [s.period for s in listing.steps]),
-        "step_of_period": (first, [s.step for s in listing.steps]),
-    }
-    dims = (first, "layer", *axes)
-    about = {"units": LENGTHS.get(listing.unit, "length units"), "comment": comment_of(listing)}
-    data = {"lower": (dims, listing.lower(shape), about), "upper": (dims, listing.upper(shape), about)}
-    attrs = {
-        "source": f"heads, {listing.path.name}, {listing.digits} digits, ends with {listing.end or 'a part of a step'}"
-    }
-    return xarray.Dataset(data, coords, attrs | ({"crs": f"EPSG:{place.epsg}"} if place.epsg else {}))
 
 
 def heads_frame(listing: Listing, model: Model | None = None, place: Place = Place()) -> pandas.DataFrame:
@@ -193,8 +182,3 @@ def terms_frame(listing: Listing, model: Model | None = None) -> pandas.DataFram
             values = [outward(v, listing.flow_places, 1 if n % 2 else -1) for n, v in enumerate([*flows, *nets[name]])]
             rows.append((step.period, step.step, time_of(model, step), name, *values))
     return pandas.DataFrame(rows, columns=names).set_index(["period", "step", "term"])
-
-
-def to_netcdf(path: Path, listing: Listing, model: Model | None = None, place: Place = Place()) -> None:
-    package("netCDF4")
-    to_xarray(listing, model, place).to_netcdf(path)

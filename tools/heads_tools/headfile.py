@@ -10,7 +10,9 @@ import numpy as np
 
 from .listing import Listing
 from .spans import demand_one
-from .text import Problem, read_text, whole_file
+from .marks import plain, tell
+from .text import Problem, read_raw
+from .whole_files import whole_file
 
 Heads = dict[tuple[int, int], np.ndarray]
 ANY_STEP = (0, 0)
@@ -21,14 +23,15 @@ def read_heads(path: str | Path, shape: tuple[int, int, int] | None = None) -> H
     """Heads by (period, step), each of shape (layers, rows, cols), nan where none stands. From MODFLOW's binary file,
     or from a table of lines `[period,step,]layer,row,col,head`, whose heads without period hold for any step."""
     path = Path(path)
-    read_text(path)
-    raw = path.read_bytes()
+    raw = read_raw(path)
     for marks in (0, 4):
         for real, size in (("f", 4), ("d", 8)):
             if raw[marks + 8 + 2 * size : marks + 24 + 2 * size].strip().upper() == b"HEAD":
                 return _binary(path, raw, marks, real, size, shape)
-    if all(32 <= b < 127 or b in b"\t\n\r" for b in raw[:400]) and raw:
-        return _table(path, raw.decode("latin-1"), shape)
+    text, said = plain(raw)
+    if all(32 <= b < 127 or b in b"\t\n\r" for b in text[:400]) and text:
+        tell(path, said)
+        return _table(path, text.decode("latin-1"), shape)
     raise Problem(f"{path} is neither a head file of MODFLOW nor a table layer,row,col,head")
 
 

@@ -12,6 +12,7 @@ import numpy as np
 from .deck import Deck
 from .equations import Network, given_heads
 from .explain import explain
+from .inside_tops import tops_lines
 from .model import Model, model_of
 from .packages import read_deck
 from .plain import write_deck
@@ -70,7 +71,8 @@ def inside(nam: Path, most: int = 12) -> Verdict:
         out += listed(warnings, most)
     if is_inside and report.wide:
         out += ["give --wide (`heads-tools run` does it by itself):", *listed(report.wide, most)]
-    return Verdict(out + (digits_lines(model) + told.lines if model and is_inside else []), is_inside)
+    more = digits_lines(model) + tops_lines(nam, model) + told.lines if model and is_inside else []
+    return Verdict(out + more, is_inside)
 
 
 def headline(report: Report, told: Told, most: int) -> list[str]:

@@ -2,12 +2,15 @@
 from __future__ import annotations
 
 import functools
+import hashlib
+import re
 from dataclasses import dataclass, field
 from pathlib import Path
 
 import numpy as np
 
-from .text import Problem, counted, decimal_text, read_text
+from .marks import plain_listing, tell
+from .text import Problem, counted, decimal_text, read_raw
 
 TERMS = ["STORAGE", "CONSTANT HEAD", "WELLS", "DRAINS", "RIVER LEAKAGE", "HEAD DEP BOUNDS", "RECHARGE", "ET"]
 UNITS_IN_ONE = 10**9
@@ -39,7 +42,7 @@ class Step:
 class Listing:
     """A listing. `cells`: layer, row and column of each cell with flow, from 1, shape (cells, 3); `end`: its last
     line; `is_change`: its heads are those of one run less those of another (`changes_of` in drawdown.py); `is_span`: it
-    was made of two decks and holds for every deck between them."""
+    was made of two decks and holds for every deck between them; `sha256`: that of the bytes that were read."""
 
     path: Path
     digits: int
@@ -49,6 +52,7 @@ class Listing:
     end: str = ""
     is_change: bool = False
     is_span: bool = False
+    sha256: str = ""
 
     def __repr__(self) -> str:
         size = f"{counted(len(self.steps), 'step')} of {counted(len(self.cells), 'cell')}"
@@ -125,9 +129,18 @@ def head_floor(units: np.ndarray) -> np.ndarray:
     return np.where(units % FIFTHS == 0, units // FIFTHS / 512, np.nextafter(near, -np.inf))
 
 
+def listing_bytes(path: Path) -> bytes:
+    """The bytes of a listing as `heads` writes them; it is said where the file has others."""
+    content, said = plain_listing(read_raw(path))
+    tell(path, said)
+    return content
+
+
 def read_listing(path: str | Path) -> Listing:
-    """Reads a listing. One that ended early is read as far as its steps are whole; `end` is its last line."""
-    lines = read_text(Path(path)).split("\n")
+    """Reads a listing. One that ended early is read as far as its steps are whole; `end` is its last line. One that a
+    shell or a mail program has written in UTF-16 or with CR LF is read as `heads` wrote it; `sha256` is of that."""
+    content = listing_bytes(Path(path))
+    lines = content.decode("latin-1").split("\n")
     first = lines[0].split()
     if not lines[0].strip():
         raise Problem(f"{path} is empty: the write failed, or the run was stopped")
@@ -141,7 +154,8 @@ def read_listing(path: str | Path) -> Listing:
         or not (first[3] + first[5].lstrip("-")).isdigit()
     ):
         raise Problem(f"{path}, line 1: no listing of `heads` begins with {lines[0][:60]!r}")
-    listing = Listing(Path(path), int(first[3]), int(first[5]), is_span=is_span)
+    digest = hashlib.sha256(content).hexdigest()
+    listing = Listing(Path(path), int(first[3]), int(first[5]), is_span=is_span, sha256=digest)
     starts = [n for n, line in enumerate(lines) if line.startswith("STEP ")]
     tail = next((n for n in range(len(lines) - 1, -1, -1) if lines[n].strip()), 0)
     listing.end = lines[tail].strip() if not lines[tail].startswith(("HEAD", "STEP", "IN ", "OUT ", "ZONE")) else ""
@@ -149,10 +163,10 @@ def read_listing(path: str | Path) -> Listing:
         is_last = begin == starts[-1]
         try:
             step, cells = _read_step(lines, begin, end, listing.flow_places)
-        except (ValueError, IndexError) as error:
+        except (ValueError, IndexError):
             if is_last and not listing.end:
                 break
-            raise Problem(f"{path}, line {_bad_line(lines, begin, end)}: not of a listing's form ({error})") from None
+            raise Problem(f"{path}, {_bad_line(lines, begin, end, listing.flow_places)}") from None
         if not listing.steps:
             listing.cells = cells
         elif len(step.low) != len(listing.cells) and is_last and not listing.end:
@@ -192,11 +206,26 @@ def _flow(word: str, places: int) -> int:
     return int(whole + part)
 
 
-def _bad_line(lines: list[str], begin: int, end: int) -> int:
-    """The number, from 1, of the first line of a step that isn't of any form of a listing's lines."""
-    for n in range(begin + 1, end):
-        w = lines[n].split()
-        size = {"HEAD": 6, "ZONE": 5}.get(w[0] if w else "", 0)
-        if not w or (size and len(w) != size) or w[0] not in ("HEAD", "IN", "OUT", "ZONE"):
-            return n + 1
-    return begin + 1
+def _bad_line(lines: list[str], begin: int, end: int, places: int) -> str:
+    """The first line of a step that isn't of any form of a listing's lines, by its number from 1, and what is wrong."""
+    flow = rf"-?\d+\.\d{{{places}}}" if places else r"-?\d+"
+    forms = {
+        "STEP": r"STEP( \d+){2}",
+        "HEAD": r"HEAD( \d+){3}( -?\d+\.\d{9}){2}",
+        "IN": rf"IN( {flow}){{2}} \S.*",
+        "OUT": rf"OUT( {flow}){{2}} \S.*",
+        "ZONE": rf"ZONE( \d+){{2}}( {flow}){{2}}",
+    }
+    for n in range(begin, end):
+        line = lines[n].rstrip()
+        if not line:
+            return f"line {n + 1}: it is empty, and a listing has no empty lines"
+        word = line.split()[0]
+        if word not in forms:
+            return f"line {n + 1}: no line of a step begins with `{word[:40]}`"
+        if not re.fullmatch(forms[word], line):
+            wrong = [w for w in line.split()[1:] if re.fullmatch(r"[+-]?(nan|inf(inity)?)", w.lower())]
+            return f"line {n + 1}: `{line[:80]}` isn't of the form of a line {word}" + (
+                f": `{wrong[0]}` is no number" if wrong else ""
+            )
+    return f"line {begin + 1}: the lines of this step aren't in the order of a listing"

@@ -6,10 +6,12 @@ from pathlib import Path
 import numpy as np
 
 from .listing import Listing
+from .live_map import NAME, write_live_map
 from .look_flows import Flows
 from .look_others import Others
 from .look_sections import Sections
-from .looking import title_of
+from .look_tops import Tops
+from .looking import HEADS, title_of
 from .model import Model
 from .page import write_page
 from .pictures import Cell
@@ -21,7 +23,7 @@ __all__ = ["Look", "look", "look_at_given", "title_of"]
 MOST_STEPS = 400
 
 
-class Look(Sections, Flows, Others):
+class Look(Sections, Tops, Flows, Others):
     """All parts of the page of a listing."""
 
 
@@ -50,7 +52,9 @@ def look(
             "Its pairs are bounds only where a run ends with END."
         )
     last = listing.steps[-1]
+    it.jobs.append(lambda: add_live_map(it))
     it.add_steps(listing.steps if is_every else [last])
+    it.add_below_top()
     it.add_sections(last, *(cells[0][1:] if cells else it.place[1:]))
     it.add_hydrographs(list(cells))
     it.add_budget()
@@ -70,6 +74,12 @@ def look_at_given(listing: Listing, folder: Path, model: Model | None, verdict: 
     finish(it)
 
 
+def add_live_map(it: Look) -> None:
+    """The map to point at, beside the page, with a link to it."""
+    if about := write_live_map(it):
+        it.page.add(HEADS, f'<p><a href="{NAME}">A map to point at</a>: {about}</p>')
+
+
 def make_folder(folder: Path) -> None:
     try:
         folder.mkdir(parents=True, exist_ok=True)
@@ -79,7 +89,7 @@ def make_folder(folder: Path) -> None:
 
 def finish(it: Look) -> list[str]:
     it.draw()
-    write_tables(it.listing, it.folder, it.model.times if it.model else None)
+    it.page.files = write_tables(it.listing, it.folder, it.model.times if it.model else None)
     it.tell_facts()
     write_page(it.page, it.folder)
     told = [it.made_by] if it.made_by else []

@@ -73,7 +73,7 @@ class Flows(OverTime):
 
     def draw_terms(self) -> None:
         """The net flow of each term over time."""
-        x, label = self.times()
+        label = self.times()[1]
         nets = [{n[0]: n[1:3] for n in budget_of(s).nets} for s in self.listing.steps]
         unit = 10.0**-self.listing.flow_places
         lines = [
@@ -82,11 +82,13 @@ class Flows(OverTime):
             if any(any(n.get(name, ())) for n in nets)
         ]
         if lines:
-            curves.bands(
-                self.album, "terms", x, lines, label, f"in less out, {self.rate}", "Terms of the budget over time"
-            )
+            words = label, f"in less out, {self.rate}", "Terms of the budget over time"
+            curves.bands(self.album, "terms", self.step_edges(), lines, *words, is_rate=True)
             self.page.picture(
-                BUDGET, "terms.png", "Net flow of each term: above 0 it brings water, below 0 it takes water"
+                BUDGET,
+                "terms.png",
+                "Net flow of each term, which is the same from a step's begin to its end: above 0 it brings water, "
+                "below 0 it takes water",
             )
 
     def add_zones(self, zones: np.ndarray | None) -> None:

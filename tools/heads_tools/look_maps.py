@@ -100,5 +100,17 @@ class Maps(Looking):
         chosen = layers[:: max(1, len(layers) // 8)]
         lines = [(f"layer {k + 1}", lower[k].ravel(), upper[k].ravel()) for k in chosen]
         name, title = f"profile_p{step.period}_s{step.step}", f"Heads along the model, {self.when(step)}"
-        curves.bands(self.album, name, along, lines, f"distance, {self.plan.axis}", f"head, {self.unit}", title)
+        dots = self.dots_below(step, along, chosen)
+        curves.bands(
+            self.album, name, along, lines, f"distance, {self.plan.axis}", f"head, {self.unit}", title, dots=dots
+        )
         self.page.picture(HEADS, f"{name}.png", f"{title}. {self.widest_of([step])}")
+
+    def dots_below(self, step: Step, along: np.ndarray, layers: list[int]) -> tuple[np.ndarray, np.ndarray] | None:
+        """Where in these layers of a model of one row or column heads lie below the tops of their cells: distances and
+        heads."""
+        if self.below_top is None or not self.below_top.is_below(step).any():
+            return None
+        below, heads = (self.listing.grid(v, self.shape) for v in (self.below_top.is_below(step) * 1.0, step.low / 1e9))
+        k, at = np.nonzero(below.reshape(self.shape[0], -1)[layers] == 1)
+        return along[at], heads.reshape(self.shape[0], -1)[layers][k, at]

@@ -43,7 +43,8 @@ class Others(Looking):
         is_span = self.listing.is_span
         off = "lies outside by at least" if is_span else "is off by at most"
         title = f"Layer {layer}, {when}: {name} {off}"
-        maps.one_map(self.album, f"off_layer{layer}", self.plan, most, layer, title, self.unit, maps.ERROR_MAP)
+        nought = "within the bounds" if is_span else "not off"
+        maps.error_map(self.album, f"off_layer{layer}", self.plan, most, layer, title, self.unit, nought)
         self.page.picture(
             GIVEN,
             f"off_layer{layer}.png",
@@ -73,7 +74,8 @@ class Others(Looking):
 
     def draw_minus(self, base: str, middle: np.ndarray, layer: int, widest: str, when: str) -> None:
         title, scale = f"Layer {layer}, {when}: heads less those of {base}", f"difference, {self.unit}"
-        maps.one_map(self.album, f"minus_layer{layer}", self.plan, middle, layer, title, scale, maps.CHANGE_MAP)
+        colours = maps.change_scale(float(np.nanmin(middle)), float(np.nanmax(middle)), maps.CHANGE_MAP)
+        maps.layer_map(self.album, f"minus_layer{layer}", self.plan, middle, layer, title, scale, *colours)
         self.page.picture(
             MINUS,
             f"minus_layer{layer}.png",

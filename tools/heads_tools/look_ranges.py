@@ -43,5 +43,5 @@ class Ranges(Maps):
         title = f"{side.capitalize()}{'' if side == 'range' else ' heads'} of layer {layer}, {self.when(step)}"
         colours = maps.WIDTH_MAP if side == "range" else maps.HEADS_MAP
         label = f"{'upper less lower' if side == 'range' else side} head, {self.unit}"
-        maps.side_map(self.album, name, self.plan, values, layer, title, label, colours, scale)
+        maps.layer_map(self.album, name, self.plan, values, layer, title, label, colours, scale)
         self.page.picture(HEADS, f"{name}.png", f"{title}: {SIDES[side]}", "" if is_open else title)

@@ -36,6 +36,10 @@ class Sections(Ranges):
                 partial(self.draw_section, step, f"section_column{col}", title, np.s_[:, :, col - 1], 2, col)
             )
 
+    def where_below(self, step: Step) -> np.ndarray:
+        """The cells of the grid whose every exact head lies below the cell's top."""
+        return self.listing.grid(self.below_top.is_below(step) * 1.0, self.shape) == 1
+
     def draw_section(self, step: Step, name: str, title: str, where: tuple, axis: int, number: int) -> None:
         other = 3 - axis
         met = [
@@ -51,6 +55,7 @@ class Sections(Ranges):
             *(v[where] for v in (self.grid(step.low), self.plan.top, self.plan.bottom)),
             met,
             self.grid(step.high)[where] if self.listing.is_span else None,
+            self.where_below(step)[where],
         )
         if self.shape[0] == 1:
             curves.head_section(self.album, name, self.plan, cut)

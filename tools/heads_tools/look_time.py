@@ -37,6 +37,10 @@ class OverTime(Looking):
         x = np.array([times[s.period, s.step][1] if times else n for n, s in enumerate(self.listing.steps, 1)])
         return x, f"time, {self.time}" if times else "step"
 
+    def step_edges(self) -> np.ndarray:
+        """The begin of the first step and the ends of all."""
+        return np.concatenate([[0.0], self.times()[0]])
+
     def add_hydrographs(self, cells: list[Cell]) -> None:
         steps = self.listing.steps
         cells = cells or (self.curve_cells() if self.listing.is_span else [])

@@ -1,24 +1,24 @@
 """What all parts of a listing's page share: listing, model, plan, verdict, and what is still to be drawn."""
 from __future__ import annotations
 
-import time
 from pathlib import Path
 from typing import Callable
 
 import numpy as np
 
-from . import __version__
+from .below_top import ALL_FULL, ALL_LISTED_FULL, NO_TOPS, BelowTop
 from .listing import Listing, Step
 from .made_by import made_by
 from .model import Model, value
 from .page import Page
+from .page_facts import facts_of, facts_of_making
 from .pictures import Album, Cell, Plan, plan_of
 from .progress import bar
 from .text import LENGTHS, Problem, decimal_text, read_text
-from .verdict import Verdict, not_checked, program_name
+from .verdict import Verdict, not_checked
 
-ROOMS = "Heads", "Sections", "Cells over time", "Budget", "Zones", "Given heads", "Difference"
-HEADS, SECTIONS, HYDROGRAPHS, BUDGET, ZONES, GIVEN, MINUS = ROOMS
+ROOMS = "Heads", "Below the tops", "Sections", "Cells over time", "Budget", "Zones", "Given heads", "Difference"
+HEADS, TOPS, SECTIONS, HYDROGRAPHS, BUDGET, ZONES, GIVEN, MINUS = ROOMS
 
 
 def title_of(nam: Path) -> str:
@@ -51,6 +51,7 @@ class Looking:
         self.unit = model.length if model else LENGTHS.get(listing.unit, "length units")
         self.time = model.time if model else "time unit"
         self.elements = elements(model) if model else {}
+        self.below_top = BelowTop(model.deck, listing) if model else None
         self.plan = plan_for(model, self.shape, self.unit)
         self.verdict = verdict or not_checked(listing)
         said = f"{self.verdict.title}. {self.verdict.sentence}" if model else self.verdict.sentence
@@ -62,7 +63,7 @@ class Looking:
         )
         self.page.is_good = True if self.verdict.is_certified else None if self.verdict.status is None else False
         self.page.rooms = {room: [] for room in ROOMS}
-        self.made_by = made_by(listing.path)
+        self.made_by = made_by(listing)
         self.album = Album(folder, has_svg)
         self.jobs: list[Callable[[], None]] = []
 
@@ -97,22 +98,12 @@ class Looking:
         return f"{self.unit}³ per {self.time}"
 
     def tell_facts(self) -> None:
-        listing = self.listing
-        name = f"{listing.path.name}, --digits {listing.digits}"
-        facts = [("Listing", f"{name}: {listing.summary()} in\u00a0{self.unit}")]
-        if self.made_by:
-            facts.append(("Pairs", self.made_by))
-        if self.model:
-            facts.append(
-                (
-                    "Model",
-                    f"{self.model.deck.path.name}: {' x '.join(map(str, self.shape))} cells (layers, rows, columns)",
-                )
-            )
-        if self.verdict.status is not None:
-            facts.append(("Checked by", program_name()))
-        facts.append(("Made by", f"heads-tools {__version__}, {time.strftime('%Y-%m-%d %H:%M UTC', time.gmtime())}"))
-        self.page.facts = facts
+        facts = facts_of(self.listing, self.unit, self.model)
+        if self.below_top is None:
+            facts.append(("Tops of cells", NO_TOPS))
+        elif not self.below_top.layers:
+            facts.append(("Tops of cells", ALL_FULL if self.verdict.is_certified else ALL_LISTED_FULL))
+        self.page.facts = facts + facts_of_making(self.verdict.status is not None)
 
 
 def elements(model: Model) -> dict[str, list[tuple[Cell, list[float]]]]:

@@ -4,8 +4,12 @@ from __future__ import annotations
 import math
 
 import numpy as np
+from matplotlib import colormaps
 from matplotlib.axes import Axes
-from matplotlib.colors import ListedColormap, Normalize, TwoSlopeNorm
+from matplotlib.collections import QuadMesh
+from matplotlib.colorbar import Colorbar
+from matplotlib.colors import Colormap, LinearSegmentedColormap, ListedColormap, Normalize
+from matplotlib.contour import ContourSet
 from matplotlib.figure import Figure
 from matplotlib.lines import Line2D
 from matplotlib.patches import Rectangle
@@ -21,7 +25,6 @@ from .pictures import (
     Album,
     Plan,
     box,
-    head_scale,
     legend_below,
     mark,
     patch,
@@ -34,7 +37,7 @@ MOST_LINES, MOST_LABELS = 60, 14
 HALO = [withStroke(linewidth=2.2, foreground="white")]
 
 
-def draw(axes: Axes, plan: Plan, values: np.ndarray, cmap: str | ListedColormap, norm: Normalize):
+def draw(axes: Axes, plan: Plan, values: np.ndarray, cmap: str | Colormap, norm: Normalize):
     """Values of a layer as coloured cells, grey where there are none."""
     axes.set_facecolor(NO_FLOW)
     mesh = axes.pcolormesh(
@@ -53,9 +56,13 @@ def contours(axes: Axes, plan: Plan, values: np.ndarray, norm: Normalize) -> Non
     low, high = float(np.nanmin(values)), float(np.nanmax(values))
     if high - low <= 1e-9 * max(abs(high), 1):
         return
-    levels = [v for v in MaxNLocator(10).tick_values(norm.vmin, norm.vmax) if low < v < high]
+    is_round = isinstance(norm, RoundNorm)
+    numbers = norm.bounds.tolist() if is_round else MaxNLocator(10).tick_values(norm.vmin, norm.vmax)
+    levels = [v for v in numbers if low < v < high]
     if len(levels) < 4:
         levels = [v for v in MaxNLocator(8).tick_values(low, high) if low < v < high]
+    if not levels:
+        return
     lines = axes.contour(*plan.middles, np.ma.masked_invalid(values), levels=levels, colors="k", linewidths=0.5)
     least = 0.12 * max(plan.x[-1], plan.y[0])
     long = [
@@ -65,7 +72,12 @@ def contours(axes: Axes, plan: Plan, values: np.ndarray, norm: Normalize) -> Non
     ]
     if long and sum(map(len, lines.allsegs)) <= MOST_LINES:
         every = -(-sum(len(parts) for level, parts in zip(lines.levels, lines.allsegs) if level in long) // MOST_LABELS)
-        apart(axes, axes.clabel(lines, long[::every], fontsize=8, fmt="%g", zorder=5))
+        label(axes, lines, long[::every])
+
+
+def label(axes: Axes, lines: ContourSet, levels: list[float]) -> None:
+    """Writes the numbers of contours over their lines, which stay whole: a white edge parts the two."""
+    apart(axes, axes.clabel(lines, levels, fontsize=8, fmt="%g", zorder=5, inline=False))
 
 
 def apart(axes: Axes, labels: list[Text]) -> None:
@@ -98,7 +110,7 @@ def marks(axes: Axes, plan: Plan, layer: int, inches: float) -> list[Line2D]:
                 color=colour,
                 ms=max(size, least),
                 mec="white",
-                mew=0.4,
+                mew=0.4 if max(size, least) > 3 else 0,
                 ls="",
                 zorder=3,
             )
@@ -149,14 +161,20 @@ def thumbnail(
     axes.set(xticks=[], yticks=[])
     draw(axes, plan, np.where(width > 0, width, np.nan), WIDTH_MAP, norm)
     if (width == 0).any():
-        draw(axes, plan, np.where(width == 0, 0.0, np.nan), ListedColormap([KNOWN]), Normalize(0, 1))
+        overlay(axes, plan, width == 0)
     words = ["upper less lower head", f"darker: wider, up to {norm.vmax:.2g} {plan.unit}"]
     words += ["white: known head"] if (width == 0).any() else []
     axes.text(1.06, 1, "\n".join(words), transform=axes.transAxes, va="top", fontsize=9)
 
 
 def small_maps(
-    album: Album, name: str, plan: Plan, panels: list[tuple[str, np.ndarray]], label: str, cmap: str, norm: Normalize
+    album: Album,
+    name: str,
+    plan: Plan,
+    panels: list[tuple[str, np.ndarray]],
+    label: str,
+    colours: str | Colormap,
+    norm: Normalize,
 ) -> None:
     """Many layers or steps in one figure and one scale, all in one pair of axes, whose unit is an inch."""
     across = min(len(panels), 4 if plan.ratio < 1.4 else 6)
@@ -173,16 +191,75 @@ def small_maps(
             left, bottom = 0.05 + j * (wide + 0.1), room + 0.2 - (i + 1) * (tall + 0.27)
             x, y = left + plan.x / plan.x[-1] * wide, bottom + plan.y / plan.y[0] * tall
             axes.add_patch(Rectangle((left, bottom), wide, tall, facecolor=NO_FLOW, edgecolor="k", linewidth=0.6))
-            mesh = axes.pcolormesh(x, y, np.ma.masked_invalid(values), cmap=cmap, norm=norm, rasterized=True)
+            mesh = axes.pcolormesh(x, y, np.ma.masked_invalid(values), cmap=colours, norm=norm, rasterized=True)
             axes.text(left, bottom + tall + 0.04, title, fontsize=9)
         long = min(room - 0.27, 3.0)
         place = across * (wide + 0.1) + 0.1, room + 0.2 - long - 0.27
-        bar = figure.colorbar(mesh, cax=box(figure, *place, 0.12, long))
+        bar = add_bar(figure, mesh, box(figure, *place, 0.12, long))
         bar.set_label(label, fontsize=9)
         bar.ax.tick_params(labelsize=8)
 
 
-def side_map(
+# Kinds of cells of a map of tops, and how they are drawn and named: the last two names where there are several steps.
+FULL, PERHAPS, BELOW_ONCE, BELOW = range(4)
+TOP_COLOURS = "#dbe7f0", "#f0c75e", "#e8927c", "#b3261e"
+TOP_NAMES = "head at or above the top", "may be below", "below at the end of another step", "head below the top"
+
+
+def below_top_map(
+    album: Album, name: str, plan: Plan, kinds: np.ndarray, layer: int, title: str, has_steps: bool
+) -> None:
+    """A map of the cells whose heads lie below their tops. `kinds`: one of the kinds above, nan where no flow is."""
+    tall = MAP_WIDTH * plan.ratio
+    with album.figure(name, WIDTH, tall + 1.5) as figure:
+        axes = box(figure, LEFT, 1.1, MAP_WIDTH, tall)
+        draw(axes, plan, kinds, ListedColormap(TOP_COLOURS), Normalize(-0.5, 3.5))
+        names = [*TOP_NAMES[:3], TOP_NAMES[3] + ", last step" * has_steps]
+        here = [kind for kind in range(4) if (kinds == kind).any()]
+        handles = marks(axes, plan, layer, MAP_WIDTH) + [patch(TOP_COLOURS[kind], names[kind]) for kind in here]
+        axes.set(xlabel=plan.axis, ylabel=plan.axis, title=title)
+        legend_below(axes, handles + ([patch(NO_FLOW, "no flow")] if np.isnan(kinds).any() else []), 0.5, 2)
+
+
+class RoundNorm(Normalize):
+    """A scale in which the steps between round numbers are alike, whatever their sizes are."""
+
+    def __init__(self, bounds: list[float]):
+        super().__init__(bounds[0], bounds[-1])
+        self.bounds, self.places = np.array(bounds), np.linspace(0, 1, len(bounds))
+
+    def __call__(self, value, clip=None):
+        return np.ma.masked_invalid(np.interp(np.ma.filled(value, np.nan), self.bounds, self.places))
+
+    def inverse(self, value):
+        return np.interp(value, self.places, self.bounds)
+
+
+Scale = tuple[LinearSegmentedColormap, RoundNorm]
+MOST_NUMBERS = 8
+
+
+def round_numbers(most: float) -> list[float]:
+    """1, 2 or 5 times a power of ten: the least that isn't below `most`, and those before it, the least one first."""
+    power = math.floor(math.log10(most))
+    series = [float(f"{digit}e{power + n}") for n in range(-3, 2) for digit in (1, 2, 5)]
+    last = next(n for n, number in enumerate(series) if number >= most)
+    return series[last + 1 - MOST_NUMBERS : last + 1]
+
+
+def change_scale(least: float, most: float, colours: str) -> Scale:
+    """The scale of changes from `least` to `most`, whose numbers are round ones of all sizes, so that a change of a
+    hundredth of the greatest one is seen beside it: white about 0; a side without a change is left out."""
+    numbers, palette = round_numbers(max(-least, most, 1e-9)), colormaps[colours]
+    sides = [numbers if side * end > numbers[0] else numbers[:1] for side, end in ((-1, least), (1, most))]
+    bounds = [*(-v for v in reversed(sides[0])), *sides[1]]
+    shade = lambda v: palette(0.5 + math.copysign(numbers.index(abs(v)) / (len(numbers) - 1) / 2, v))
+    painted = [KNOWN if abs(v) == numbers[0] else shade(v) for v in bounds]
+    norm = RoundNorm(bounds)
+    return LinearSegmentedColormap.from_list(colours, list(zip(norm.places, painted))), norm
+
+
+def layer_map(
     album: Album,
     name: str,
     plan: Plan,
@@ -190,48 +267,42 @@ def side_map(
     layer: int,
     title: str,
     label: str,
-    colours: str,
+    colours: str | Colormap,
     norm: Normalize,
+    nought: str = "",
 ) -> None:
-    """A map of one side of the bounds of a layer, or of how far they lie apart, in a scale that other maps share."""
+    """A map of values of a layer, with contours and a bar. `nought`: what a value of 0 means, where such cells are left
+    white and no contours are drawn."""
     tall = MAP_WIDTH * plan.ratio
     with album.figure(name, WIDTH, tall + 1.3) as figure:
         axes = box(figure, LEFT, 0.9, MAP_WIDTH, tall)
-        mesh = draw(axes, plan, values, colours, norm)
-        contours(axes, plan, values, norm)
-        handles = marks(axes, plan, layer, MAP_WIDTH) + ([patch(NO_FLOW, "none")] if np.isnan(values).any() else [])
+        mesh = draw(axes, plan, np.where(values > 0, values, np.nan) if nought else values, colours, norm)
+        handles = marks(axes, plan, layer, MAP_WIDTH)
+        if not nought:
+            contours(axes, plan, values, norm)
+        elif (values <= 0).any():
+            overlay(axes, plan, values <= 0)
+            handles.append(patch(KNOWN, nought))
+        handles += [patch(NO_FLOW, "no flow")] if np.isnan(values).any() else []
         axes.set(xlabel=plan.axis, ylabel=plan.axis, title=title)
         legend_below(axes, handles, 0.5, 4)
-        figure.colorbar(mesh, cax=box(figure, LEFT + MAP_WIDTH + 0.1, 0.9, 0.13, tall)).set_label(label)
+        add_bar(figure, mesh, box(figure, LEFT + MAP_WIDTH + 0.1, 0.9, 0.13, tall)).set_label(label)
 
 
-def change_scale(most: float) -> Normalize:
-    """The scale of changes from -most to most, whose middle is white."""
-    return TwoSlopeNorm(0.0, -most, most)
+def overlay(axes: Axes, plan: Plan, where: np.ndarray) -> None:
+    """Paints cells white."""
+    draw(axes, plan, np.where(where, 0.0, np.nan), ListedColormap([KNOWN]), Normalize(0, 1))
 
 
-def one_map(
-    album: Album,
-    name: str,
-    plan: Plan,
-    values: np.ndarray,
-    layer: int,
-    title: str,
-    label: str,
-    colours: str,
-    most: float | None = None,
+def add_bar(figure: Figure, mesh: QuadMesh, axes: Axes) -> Colorbar:
+    """The bar of a map's colours."""
+    if isinstance(mesh.norm, RoundNorm):
+        return figure.colorbar(mesh, cax=axes, ticks=mesh.norm.bounds, format="%g")
+    return figure.colorbar(mesh, cax=axes)
+
+
+def error_map(
+    album: Album, name: str, plan: Plan, values: np.ndarray, layer: int, title: str, unit: str, nought: str
 ) -> None:
-    """A map of how far given heads are off, or of a change, whose colours are white where it is 0. `most`: the end of
-    the scale of changes, the greatest one where left out."""
-    tall = MAP_WIDTH * plan.ratio
-    with album.figure(name, WIDTH, tall + 1.3) as figure:
-        axes = box(figure, LEFT, 0.9, MAP_WIDTH, tall)
-        if colours == ERROR_MAP:
-            mesh = draw(axes, plan, np.where(values > 0, values, np.nan), colours, width_scale(values, 1e-9))
-        else:
-            mesh = draw(axes, plan, values, colours, change_scale(most or float(np.nanmax(np.abs(values))) or 1.0))
-            contours(axes, plan, values, head_scale(values))
-        handles = marks(axes, plan, layer, MAP_WIDTH) + ([patch(NO_FLOW, "none")] if np.isnan(values).any() else [])
-        axes.set(xlabel=plan.axis, ylabel=plan.axis, title=title)
-        legend_below(axes, handles, 0.5, 4)
-        figure.colorbar(mesh, cax=box(figure, LEFT + MAP_WIDTH + 0.1, 0.9, 0.13, tall)).set_label(label)
+    """A map of how far given heads are off."""
+    layer_map(album, name, plan, values, layer, title, unit, ERROR_MAP, width_scale(values, 1e-9), nought)

@@ -1,37 +1,51 @@
 """mf2005: runs `heads` as MODFLOW-2005 is called, for FloPy, ModelMuse and scripts: the name file as the one word,
 head file at the unit of the name file, a list file with the budget, and the words 'Normal termination of simulation'.
 Written from the documented call and files; the heads are the middles of the pairs, which lie beside the head file in
-NAME.heads."""
+NAME.heads. As MODFLOW-2005 opens its outputs anew, those of the run before go first: nobody reads them for this run's."""
 from __future__ import annotations
 
 import re
 import sys
 import tempfile
-from dataclasses import dataclass, field
+from contextlib import suppress
+from dataclasses import dataclass, field, replace
+from itertools import count
 from pathlib import Path
+from typing import IO
 
+from .about import about_file, write_about
 from .cli import main as run_command
 from .explain import explain
 from .headfile import write_heads
-from .listing import TERMS, Listing, Step, read_listing
+from .kept_files import OUTPUTS, is_ours, kinds_of
+from .listing import TERMS, Listing, Step
 from .model import Model, read_model
 from .plain import plain
 from .program import DEFAULT_DIGITS, Ended, run, with_wide
 from .spelling import quoted_words
-from .text import Problem, on_disk, read_text, whole_file
+from .text import Problem, on_disk, read_text
+from .verdict import not_checked
+from .whole_files import whole_file
 
 SECONDS = {1: 1.0, 2: 60.0, 3: 3600.0, 4: 86400.0, 5: 31557600.0}
 NORMAL = "Normal termination of simulation"
+BEGIN = "                                  heads\n      BOUNDS OF THE EQUATIONS OF MODFLOW-2005"
+NOT_HERE = "mf2005 writes the middles of the pairs, without bounds"
 
 
 @dataclass
 class Output:
-    """What the name file and the output control ask for: the list file, the head file, the steps whose heads are
-    saved."""
+    """What the name file and the output control ask for: the list file, the head file, and what else MODFLOW-2005 would
+    write anew; the lines of the output control."""
 
     list_file: Path | None = None
     head_file: Path | None = None
-    saved: set[tuple[int, int]] = field(default_factory=set)
+    others: list[Path] = field(default_factory=list)
+    control: list[str] = field(default_factory=list)
+
+    @property
+    def files(self) -> list[Path]:
+        return list(dict.fromkeys(path for path in (self.list_file, self.head_file, *self.others) if path))
 
 
 def name_file(words: list[str]) -> Path:
@@ -45,7 +59,7 @@ def name_file(words: list[str]) -> Path:
     return found.resolve()
 
 
-def output_of(nam: Path, model: Model) -> Output:
+def output_of(nam: Path) -> Output:
     out, units, control = Output(), {}, None
     for line in read_text(nam).splitlines():
         w = quoted_words(line)
@@ -56,32 +70,44 @@ def output_of(nam: Path, model: Model) -> Output:
             out.list_file = units[w[1]]
         if w[0].upper() == "OC":
             control = units[w[1]]
+        if w[0].upper() in OUTPUTS and "REPLACE" in (word.upper() for word in w[3:]):
+            out.others.append(units[w[1]])
     if control is not None and control.is_file():
-        unit, out.saved = saved_heads(read_text(control).splitlines(), model)
-        out.head_file = units.get(unit)
+        out.control = [line for line in read_text(control).splitlines() if line.strip() and not line.startswith("#")]
+    out.head_file = units.get(head_unit(out.control))
     return out
 
 
-def saved_heads(lines: list[str], model: Model) -> tuple[str, set[tuple[int, int]]]:
-    """The unit of saved heads and the steps that an output control saves, by words or by numbers."""
-    lines = [line for line in lines if not line.startswith("#") and line.strip()]
-    first = quoted_words(lines[0]) if lines else []
-    if first and re.fullmatch(r"[+-]?\d+", first[0]):
-        return saved_by_numbers(lines, model)
-    unit, saved, at = "", set(), None
-    for line in lines:
+def is_by_numbers(control: list[str]) -> bool:
+    """Whether an output control is one by numbers, and not by words."""
+    first = quoted_words(control[0]) if control else []
+    return len(first) > 2 and all(re.fullmatch(r"[+-]?\d+", word) for word in first[:3])
+
+
+def head_unit(control: list[str]) -> str:
+    """The unit of saved heads."""
+    if is_by_numbers(control):
+        return quoted_words(control[0])[2]
+    saved = [w for w in map(quoted_words, control) if [x.upper() for x in w[:3]] == ["HEAD", "SAVE", "UNIT"]]
+    return saved[-1][3] if saved and len(saved[-1]) > 3 else ""
+
+
+def saved_steps(control: list[str], model: Model) -> set[tuple[int, int]]:
+    """The steps whose heads an output control saves, by words or by numbers."""
+    if is_by_numbers(control):
+        return saved_by_numbers(control, model)
+    saved, at = set(), None
+    for line in control:
         w = [x.upper() for x in quoted_words(line)]
-        if w[:3] == ["HEAD", "SAVE", "UNIT"] and len(w) > 3:
-            unit = w[3]
-        elif w[0] == "PERIOD" and len(w) > 3:
+        if w[0] == "PERIOD" and len(w) > 3:
             at = (int(w[1]), int(w[3]))
         elif w[:2] == ["SAVE", "HEAD"] and at:
             saved.add(at)
-    return unit, saved
+    return saved
 
 
-def saved_by_numbers(lines: list[str], model: Model) -> tuple[str, set[tuple[int, int]]]:
-    unit, saved, rows = quoted_words(lines[0])[2], set(), iter(lines[1:])
+def saved_by_numbers(lines: list[str], model: Model) -> set[tuple[int, int]]:
+    saved, rows = set(), iter(lines[1:])
     is_saved = False
     for key in model.times:
         w = quoted_words(next(rows, "-1 0 0 0"))
@@ -91,56 +117,92 @@ def saved_by_numbers(lines: list[str], model: Model) -> tuple[str, set[tuple[int
             is_saved = any(int(f[2]) for f in flags if len(f) > 2)
         if is_saved:
             saved.add(key)
-    return unit, saved
+    return saved
 
 
-def simulate(nam: Path, options: list[str]) -> tuple[Ended, Path, Model]:
-    """Runs the deck, or the plain one where the program refuses the deck as it stands; how it ended, the listing, the
-    model."""
+def make_room(files: list[Path], nam: Path, out: IO[str]) -> None:
+    """Removes the outputs of the run before. One that another program wrote is lost to nobody: it gets the name
+    NAME.before."""
+    for path in files:
+        if kinds_of(nam).get(path.resolve()) not in OUTPUTS:
+            raise Problem(f"{path} would be written over: {nam.name} names it as a file of the deck, too")
+        if not path.is_file():
+            continue
+        if is_ours(path):
+            path.unlink()
+            about_file(path).unlink(missing_ok=True)
+            continue
+        names = (path.with_name(f"{path.name}.before{n or ''}") for n in count())
+        place = next(each for each in names if not each.exists())
+        path.rename(place)
+        print(f" {path.name} of another program was there: it is {place.name} now", file=out)
+
+
+def simulate(nam: Path, options: list[str]) -> tuple[Ended, Model | None]:
+    """Runs the deck, or the plain one where the program refuses the deck as it stands; how it ended, and the model of a
+    run that ended well."""
     target = nam.with_suffix(".heads")
     ended = run(nam, options, target, is_told=False)
     if more := with_wide(ended, options, nam.parent):
         ended = run(nam, options := more, target, is_told=False)
     if ended.status != 2:
-        return ended, target, read_model(nam) if ended.status == 0 else None
+        return ended, read_model(nam) if ended.status == 0 else None
     with tempfile.TemporaryDirectory() as folder:
         try:
             written = plain(nam, Path(folder))
             if written.refused:
-                return ended, target, None
+                return ended, None
         except Problem:
-            return ended, target, None
+            return ended, None
         again = run(written.path, options, target, is_told=False)
-        return again, target, read_model(written.path) if again.status == 0 else None
+        return again, read_model(written.path) if again.status == 0 else None
 
 
-def mf2005(words: list[str]) -> int:
+def mf2005(words: list[str], out: IO[str]) -> int:
     """The call; its status, 0 with the words of a normal end."""
     nam = name_file([w for w in words if not w.startswith("/")])
     options = [w for w in words[1:] if not w.startswith("/")]
-    print(f"\n heads as MODFLOW-2005 is called\n Using NAME file: {nam.name}\n", flush=True)
-    ended, target, model = simulate(nam, options)
+    print(f"\n heads as MODFLOW-2005 is called\n Using NAME file: {nam.name}\n", file=out, flush=True)
+    output = output_of(nam)
+    make_room(output.files, nam, out)
+    try:
+        return simulated(nam, options, output, out)
+    except BaseException as error:
+        write_failure(output, nam, [str(error) or "The run was stopped."])
+        raise
+
+
+def simulated(nam: Path, options: list[str], output: Output, out: IO[str]) -> int:
+    """Runs the model and writes its outputs; the status."""
+    ended, model = simulate(nam, options)
     if ended.status != 0 or model is None:
-        print("\n".join(explain(ended.last, nam.parent, DEFAULT_DIGITS, ended.steps > 0).lines))
-        print(" The run didn't end well: no head file was written")
+        lines = explain(ended.last, nam.parent, DEFAULT_DIGITS, ended.steps > 0, options).lines
+        write_failure(output, nam, [ended.last, *lines])
+        print("\n".join(lines), file=out)
+        print(" The run didn't end well: no head file was written", file=out)
         return ended.status or 6
-    listing, out = read_listing(target), output_of(nam, model)
-    if out.head_file is not None and out.saved:
-        chosen = Listing(
-            listing.path,
-            listing.digits,
-            listing.unit,
-            [s for s in listing.steps if (s.period, s.step) in out.saved],
-            listing.cells,
-            listing.end,
-        )
-        write_heads(out.head_file, chosen, "middle", model.shape, model.times, is_single=True, no_flow=no_flow(nam))
-    if out.list_file is not None:
-        write_list(out.list_file, nam, listing, model)
+    listing = ended.listing()
+    saved = saved_steps(output.control, model)
+    if output.head_file is not None and saved:
+        chosen = replace(listing, steps=[s for s in listing.steps if (s.period, s.step) in saved])
+        write_heads(output.head_file, chosen, "middle", model.shape, model.times, is_single=True, no_flow=no_flow(nam))
+        write_about(output.head_file, not_checked(listing, NOT_HERE))
+    if output.list_file is not None:
+        write_list(output.list_file, nam, listing, model)
     for step in listing.steps:
-        print(f" Solving:  Stress period: {step.period:5d}    Time step: {step.step:5d}    Ground-Water Flow Eqn.")
-    print(f"\n  {NORMAL}")
+        solving = f"Stress period: {step.period:5d}    Time step: {step.step:5d}    Ground-Water Flow Eqn."
+        print(f" Solving:  {solving}", file=out)
+    print(f"\n  {NORMAL}", file=out)
     return 0
+
+
+def write_failure(output: Output, nam: Path, lines: list[str]) -> None:
+    """The list file of a run that failed."""
+    if output.list_file is None:
+        return
+    with suppress(Problem), whole_file(output.list_file) as file:
+        told = "\n".join(f" {line}" for text in lines for line in text.split("\n"))
+        file.write(f"{BEGIN}; NAME FILE {nam.name}\n\n THE RUN DID NOT END WELL, AND THERE ARE NO HEADS OF IT:\n{told}\n")
 
 
 def main() -> int:
@@ -163,9 +225,8 @@ def write_list(path: Path, nam: Path, listing: Listing, model: Model) -> None:
     volumes = {name: [0.0, 0.0] for name in TERMS}
     with whole_file(path) as file:
         file.write(
-            "                                  heads\n      BOUNDS OF THE EQUATIONS OF MODFLOW-2005; LISTING"
-            f" {listing.path.name}, NAME FILE {nam.name}\n HEADS AND FLOWS HERE ARE THE MIDDLES OF THE LISTED PAIRS,"
-            " WITHOUT BOUNDS\n\n"
+            f"{BEGIN}; LISTING {listing.path.name}, NAME FILE {nam.name}\n"
+            " HEADS AND FLOWS HERE ARE THE MIDDLES OF THE LISTED PAIRS, WITHOUT BOUNDS\n\n"
         )
         begin = 0.0
         for step in listing.steps:

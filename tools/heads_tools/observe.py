@@ -18,7 +18,8 @@ from .exports import Place
 from .listing import UNITS_IN_ONE, Listing, Step
 from .model import Model, exact_ends
 from .points import Point, Points
-from .text import Problem, decimal_text, whole_file
+from .text import Problem, counted, decimal_text, down, up
+from .whole_files import whole_file
 
 HEADER = "name layer row col time lower upper measured measured_less_upper measured_less_lower cells".split()
 NEARLY = Fraction(1, 10**9)
@@ -95,7 +96,8 @@ class Observer:
                 units = point.measured * UNITS_IN_ONE
                 measured[1:] = decimal_text(math.floor(units - high), 9), decimal_text(math.ceil(units - low), 9)
         count = str(len(point.weights)) if point.weights else "0"
-        return [point.name, *map(str, point.cell), f"{float(time):.12g}", *head, *measured, count]
+        cell = map(str, point.cell) if point.cell else ["", "", ""]
+        return [point.name, *cell, f"{float(time):.12g}", *head, *measured, count]
 
 
 def observe(
@@ -107,15 +109,40 @@ def observe(
     is_between: bool = False,
 ) -> tuple[list[str], list[str]]:
     """The table of the points of a file, written where `out` names a file: its lines, and a sentence on each point
-    that has no head."""
+    that has no head, and on what was measured in all."""
     points = Points(path, listing, model, place, is_between).read()
     observer = Observer(listing, model)
     table = io.StringIO()
     rows = [HEADER, *(row for point in points for row in observer.rows(point))]
     csv.writer(table, lineterminator="\n").writerows(rows)
-    lacking = list(dict.fromkeys(f"{p.name} has no head: {p.why}" for p in points if p.why))
+    lacking = list(dict.fromkeys(f"{p.name} has no head: {p.why}" for p in points if p.why)) + residuals(rows[1:])
     if not out:
         return table.getvalue().rstrip("\n").split("\n"), lacking
     with whole_file(out) as file:
         file.write(table.getvalue())
     return [f"written: {out} ({len(rows) - 1} lines)"], lacking
+
+
+def residuals(rows: list[list[str]]) -> list[str]:
+    """What was measured less the heads, in all: between which numbers the mean and the root of the mean square of every
+    exact solution lie, and how many heads no exact solution has."""
+    low_at, high_at = HEADER.index("measured_less_upper"), HEADER.index("measured_less_lower")
+    pairs = [(units_of(row[low_at]), units_of(row[high_at])) for row in rows if row[low_at]]
+    if not pairs:
+        return []
+    count = len(pairs)
+    sums = [sum(side) for side in zip(*pairs)]
+    mean = math.floor(Fraction(sums[0], count)), math.ceil(Fraction(sums[1], count))
+    least = sum(max(low, -high, 0) ** 2 for low, high in pairs)
+    most = sum(max(abs(low), abs(high)) ** 2 for low, high in pairs)
+    root = math.isqrt(least // count), math.isqrt(-(-most // count)) + 1
+    outside = sum(low > 0 or high < 0 for low, high in pairs)
+    return [
+        f"Measured less head, {counted(count, 'value')}: mean {down(mean[0], 9)} to {up(mean[1], 9)}, root of the mean "
+        f"square {down(root[0], 9)} to {up(root[1], 9)}; {outside} of {count} measured heads are of no exact solution"
+    ]
+
+
+def units_of(text: str) -> int:
+    """A decimal of nine places as a whole number of 10^-9."""
+    return int(Fraction(text) * UNITS_IN_ONE)

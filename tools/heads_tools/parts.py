@@ -29,9 +29,10 @@ from .pieces import SIDES, Part, Piece, Slabs, parts_of
 from .plain import package_lines
 from .program import call, direct_program
 from .spans import demand_one
-from .text import Problem, counted, read_text, whole_file
+from .text import Problem, counted, read_text
 from .verdict import UNCHECKED_ZONES, has_zones
 from .whole import WholeModel
+from .whole_files import whole_file
 from .whole_step import WholeStep
 from .zone_bounds import zone_faults, zone_flows
 
@@ -94,7 +95,7 @@ def check_model(model: Model, path: Path, count: int, way: Way | None = None, zo
             pieces += [(piece, "") for piece in write_pieces(slabs, here, folder, len(pieces))]
     if way.engine == "here":
         return ended(listing, pieces, failed, zones is not None)
-    with whole_file(folder / "whole") as file:
+    with whole_file(folder / "whole", is_own=True) as file:
         file.write("".join(line + "\n" for line in failed))
     write_index(folder, digest, [piece for piece, _ in pieces])
     run_elsewhere(folder, len(pieces), options_of(listing, way), way)
@@ -201,7 +202,7 @@ def write_pieces(slabs: Slabs, pieces: list[Piece], folder: Path, begin: int) ->
 
 
 def write_index(folder: Path, digest: str, pieces: list[Piece]) -> None:
-    with whole_file(folder / "index") as file:
+    with whole_file(folder / "index", is_own=True) as file:
         file.write(digest + "\n")
         for piece in pieces:
             part = piece.part
@@ -240,7 +241,7 @@ def run_elsewhere(folder: Path, count: int, options: list[str], way: Way) -> Non
     script = folder / ("parts.slurm" if way.engine == "slurm" else "parts.sh")
     tasks = min(count, MOST_TASKS)
     limit = (f"%{way.jobs}" if way.engine == "slurm" else f"--jobs {way.jobs} ") if way.jobs else ""
-    with whole_file(script) as file:
+    with whole_file(script, is_own=True) as file:
         if way.engine == "slurm":
             file.write(
                 f"#!/bin/bash\n#SBATCH --job-name=heads-check\n#SBATCH --array=1-{tasks}{limit}\n"

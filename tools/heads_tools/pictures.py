@@ -1,10 +1,12 @@
 """What all pictures share: the plan of the grid, boxes in inches, scales of colour, and how a figure is saved."""
 from __future__ import annotations
 
+import io
+import threading
 from contextlib import contextmanager
 from dataclasses import dataclass, field
 from pathlib import Path
-from typing import Iterator
+from typing import Any, Iterator
 
 import matplotlib.style
 import numpy as np
@@ -15,8 +17,12 @@ from matplotlib.figure import Figure
 from matplotlib.lines import Line2D
 from matplotlib.patches import Patch
 
+from .whole_files import write_whole
+
 Cell = tuple[int, int, int]
 
+# The style is one of the whole process: figures are drawn one at a time.
+ALONE = threading.Lock()
 STYLE = Path(__file__).with_name("heads.mplstyle")
 WIDTH = 6.2
 # The least room at the left of a picture, as a part of its width.
@@ -92,15 +98,19 @@ class Album:
     @contextmanager
     def figure(self, name: str, width: float, height: float) -> Iterator[Figure]:
         """A figure of this size in inches in the style of heads-tools, which is saved at the end: as NAME.png."""
-        with matplotlib.style.context(STYLE):
+        with ALONE, matplotlib.style.context(STYLE):
             made = Figure(figsize=(width, height))
             yield made
             make_room(made)
-            made.savefig(
-                self.folder / f"{name}.png", metadata={"Software": "heads-tools"}, pil_kwargs={"compress_level": 4}
-            )
+            self.save(made, f"{name}.png", metadata={"Software": "heads-tools"}, pil_kwargs={"compress_level": 4})
             if self.has_svg:
-                made.savefig(self.folder / f"{name}.svg", metadata={"Date": None})
+                self.save(made, f"{name}.svg", metadata={"Date": None, "Creator": "heads-tools"})
+
+    def save(self, figure: Figure, name: str, **options: Any) -> None:
+        """Saves a figure under a name, whose ending says the form."""
+        content = io.BytesIO()
+        figure.savefig(content, format=name.rsplit(".", 1)[1], **options)
+        write_whole(self.folder / name, content.getvalue())
 
 
 def make_room(figure: Figure) -> None:

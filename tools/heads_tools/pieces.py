@@ -23,8 +23,9 @@ from .listing import Listing
 from .model import Model
 from .plain import write_deck
 from .sources import Array
-from .text import Problem, decimal_text, whole_file
+from .text import Problem, decimal_text
 from .whole import step_length
+from .whole_files import whole_file
 from .whole_step import WholeStep
 
 MOST_DIGITS = 18
@@ -181,7 +182,7 @@ class Slabs:
         pairs = [np.where(held, self.now[piece.side][:, rows], now[:, rows]) for now in self.now]
         cells = np.argwhere(self.model.ibound[:, rows] != 0)
         units = [side[tuple(cells.T)] for side in pairs]
-        with whole_file(path) as file:
+        with whole_file(path, is_own=True) as file:
             file.write(f"HEADS 2 DIGITS {listing.digits} UNIT {listing.unit}\nSTEP 1 1\n")
             write_cells(file, "HEAD ", " ", cells + 1, *units)
             file.writelines(f"{word} {zero} {wide} {name}\n" for word in ("IN", "OUT") for name in names)

@@ -10,9 +10,10 @@ from .explain import explain
 from .packages import EVT_ARRAYS, plain_name, read_deck
 from .program import one_spelling, read_alone
 from .sources import Report
-from .text import Problem, whole_file
+from .text import Problem
+from .whole_files import whole_file, whole_folder
 
-
+NOTES = "plain.txt"
 NOT_CHANGED = "nothing but layout was changed"
 AS_READ = (
     "nothing had to be changed: these are the files of `heads write`, the model that the program reads from the deck,"
@@ -52,15 +53,17 @@ def plain(nam: Path, folder: Path) -> Written:
     if folder.resolve() == nam.resolve().parent:
         raise Problem("the plain deck goes into another folder than the deck's own")
     files = {} if report.needed else one_spelling(nam.resolve(), bool(report.wide))
-    for name, content in files.items():
-        with whole_file(folder / name, binary=True) as file:
-            file.write(content)
-    if not files:
-        write_deck(deck, folder)
-    path = folder / ("p.nam" if files else deck.path.name)
-    written = Written(path, AS_READ if files else NOT_CHANGED, report, refused(path, bool(report.wide)))
-    with whole_file(folder / "plain.txt") as file:
-        file.write("\n".join(written.notes()) + "\n")
+    name = "p.nam" if files else deck.path.name
+    with whole_folder(folder, is_own=(folder / NOTES).is_file()) as new:
+        for each, content in files.items():
+            with whole_file(new / each, binary=True, is_own=True) as file:
+                file.write(content)
+        if not files:
+            write_deck(deck, new)
+        told = AS_READ if files else NOT_CHANGED
+        written = Written(folder / name, told, report, refused(new / name, bool(report.wide)))
+        with whole_file(new / NOTES, is_own=True) as file:
+            file.write("\n".join(written.notes()) + "\n")
     return written
 
 
@@ -77,7 +80,7 @@ def write_deck(deck: Deck, folder: Path) -> None:
     texts = {plain_name(deck.files[kind]): package_lines(deck, kind) for kind in KINDS if kind in deck.files}
     texts[deck.path.name] = [line.rstrip() for line in deck.name_lines]
     for name, lines in texts.items():
-        with whole_file(folder / name, binary=True) as file:
+        with whole_file(folder / name, binary=True, is_own=True) as file:
             file.write(("\n".join(lines) + "\n").encode("latin-1", "replace"))
 
 

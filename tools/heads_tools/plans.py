@@ -4,12 +4,14 @@ from __future__ import annotations
 from pathlib import Path
 
 from .batch import Job, read_jobs
-from .drawdown import Cell, Drawdown, difference, verdict_of
-from .drawdown_page import Plan, draw_plans
+from .drawdown import Cell, Drawdown, difference, said_of, tops_of, verdict_of
+from .drawdown_page import Plan, draw_plans, fall_pair
 from .explain import explain_output
 from .listing import Listing, read_listing
 from .model import read_model
-from .text import Problem, counted, decimal_text, whole_file
+from .text import Problem, counted
+from .verdict import Verdict
+from .whole_files import whole_file
 
 
 def compare_plans(path: Path, folder: Path, base_name: str | None, cells: list[Cell]) -> list[str]:
@@ -21,42 +23,46 @@ def compare_plans(path: Path, folder: Path, base_name: str | None, cells: list[C
     if not base.listing.is_file():
         raise Problem(f"{base.name} has no listing {base.listing.name}: run the batch first (`heads-tools batch`)")
     ground = read_listing(base.listing)
-    told = verdict_of(ground, base.nam)[0]
+    seen = verdict_of(ground, base.nam)
     for cell in cells:
         ground.at(cell)
-    plans = [plan_of(job, ground, told) for job in jobs if job is not base]
+    plans = [plan_of(job, ground, seen) for job in jobs if job is not base]
     folder.mkdir(parents=True, exist_ok=True)
     write_table(plans, folder)
-    draw_plans(plans, base.name, folder, cells)
+    draw_plans(plans, against(base, ground, ground, seen, seen), folder, cells)
+    told = said_of(seen)
     return [told] + [f"{p.name}: {p.ended}" for p in plans] + [f"{counted(len(plans), 'plan')} against {base.name}"]
 
 
-def plan_of(job: Job, ground: Listing, told: str) -> Plan:
-    """A model of the list against the base: how it ended, and where it ended well its changes."""
+def plan_of(job: Job, ground: Listing, seen: Verdict) -> Plan:
+    """A model of the list against the base, of which `seen` says what was checked: how it ended, and where it ended
+    well its changes."""
     if not job.listing.is_file():
         return Plan(job.name, f"it has no listing {job.listing.name}", None)
     meaning = explain_output(job.listing, job.nam.parent)
     if not meaning.is_good:
         return Plan(job.name, meaning.lines[0], None)
-    model, listing = read_model(job.nam), read_listing(job.listing)
+    listing = read_listing(job.listing)
     try:
-        it = Drawdown(
-            listing, ground, difference(listing, ground), model.length, model, [told, verdict_of(listing, job.nam)[0]]
-        )
+        return against(job, listing, ground, verdict_of(listing, job.nam), seen)
     except Problem as error:
         return Plan(job.name, str(error), None)
-    return Plan(job.name, " ".join(it.sentences([])[1:3]), it)
+
+
+def against(job: Job, listing: Listing, ground: Listing, seen: Verdict, base_seen: Verdict) -> Plan:
+    """The changes from the base to a model of the list."""
+    model = read_model(job.nam)
+    changes, tops = difference(listing, ground), tops_of(listing, model, seen)
+    it = Drawdown(listing, ground, changes, model.length, model, [seen, base_seen], tops)
+    return Plan(job.name, " ".join([said_of(seen), *it.sentences([])[2 : 3 + (it.worst is not changes[-1])]]), it)
 
 
 def write_table(plans: list[Plan], folder: Path) -> None:
-    """plans.csv: for each plan the cell of its greatest drawdown at the end of the last step, with its bounds."""
+    """plans.csv: for each plan the step and the cell of its greatest drawdown, with its bounds."""
     with whole_file(folder / "plans.csv") as file:
         file.write("plan,period,step,layer,row,col,drawdown_lower,drawdown_upper\n")
-        for plan in plans:
-            if plan.it is None:
-                continue
-            last = plan.it.changes[-1]
-            at = plan.it.deepest(last)
-            k, i, j = plan.it.plan.cells[at].tolist()
-            low, high = decimal_text(-int(last.high[at]), 9), decimal_text(-int(last.low[at]), 9)
-            file.write(f"{plan.name},{last.period},{last.step},{k},{i},{j},{low},{high}\n")
+        for plan in (plan for plan in plans if plan.it is not None):
+            worst = plan.it.worst
+            at = plan.it.deepest(worst)
+            cell = ",".join(map(str, plan.it.plan.cells[at].tolist()))
+            file.write(f"{plan.name},{worst.period},{worst.step},{cell},{','.join(fall_pair(worst, at))}\n")

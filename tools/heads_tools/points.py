@@ -21,11 +21,12 @@ MOST_OFF_ONE = Fraction(2, 100)
 
 @dataclass
 class Point:
-    """An observation: the cell that it is told of, the time since the start (None: every step), what was measured
-    (None: nothing), the weights of the cells that its head is made of (none: `why` it has no head)."""
+    """An observation: the cell that it is told of (None: outside the grid), the time since the start (None: every
+    step), what was measured (None: nothing), the weights of the cells that its head is made of (none: `why` it has no
+    head)."""
 
     name: str
-    cell: Cell
+    cell: Cell | None
     time: Fraction | None
     measured: Fraction | None
     weights: Weights = field(default_factory=dict)
@@ -48,33 +49,41 @@ class Points:
         file."""
         lines = [
             (n, line)
-            for n, line in enumerate(read_text(self.path).splitlines(), 1)
+            for n, line in enumerate(text_of(self.path).splitlines(), 1)
             if line.strip() and not line.startswith("#")
         ]
         if not lines:
             raise Problem(f"{self.path} has no line")
-        header = [w.strip().lower() for w in lines[0][1].split(",")]
+        comma = ";" if ";" in lines[0][1] else ","
+        header = [w.strip().strip('"').lower() for w in lines[0][1].split(comma)]
         if {"x", "y"} <= set(header) or {"row", "col"} <= set(header):
-            rows = csv.DictReader([",".join(header), *(line for _, line in lines[1:])])
-            return [self.of_table(n, row) for (n, _), row in zip(lines[1:], rows)]
+            rows = csv.DictReader([comma.join(header), *(line for _, line in lines[1:])], delimiter=comma)
+            points = [self.of_table(n, row, comma) for (n, _), row in zip(lines[1:], rows)]
+            if points and all(point.cell is None for point in points):
+                raise Problem(f"{self.path}, line {lines[1][0]}: {points[0].why}; so do all points")
+            return points
         return Hob(self, lines).read()
 
-    def of_table(self, n: int, row: dict) -> Point:
-        number = lambda name: exact_value(row[name]) if (row.get(name) or "").strip() else None
+    def of_table(self, n: int, row: dict, comma: str = ",") -> Point:
+        """The point of a table's row. Where semicolons part its columns, a number may have a decimal comma."""
+        text = lambda name: (row.get(name) or "").strip().replace("," if comma == ";" else ".", ".")
+        number = lambda name: exact_value(text(name)) if text(name) else None
         try:
             layer = int(number("layer") or 1)
-            if row.get("x"):
-                spot = spot_at(self.model, self.place, layer, float(row["x"]), float(row["y"]))
-            else:
-                spot = Spot((layer, int(row["row"]), int(row["col"])))
+            x, y = (float(text(name)) for name in "xy") if text("x") else (None, None)
+            cell = None if text("x") else (layer, int(text("row")), int(text("col")))
             name, time, measured = (row.get("name") or f"point {n - 1}").strip(), number("time"), number("measured")
         except (ValueError, TypeError, KeyError):
             raise Problem(
                 f"{self.path}, line {n}: a line is name,x,y or name,row,col, with layer, time and measured where they"
                 " are known"
             ) from None
+        if cell:
+            return self.made(name, [(Spot(cell), ONE)], time, measured)
+        try:
+            spot = spot_at(self.model, self.place, layer, x, y)
         except Problem as error:
-            raise Problem(f"{self.path}, line {n}: {error}") from None
+            return Point(name, None, time, measured, why=str(error))
         return self.made(name, [(spot if self.is_between else Spot(spot.cell), ONE)], time, measured)
 
     def made(
@@ -87,6 +96,15 @@ class Points:
         except Problem as error:
             point.why = str(error)
         return point
+
+
+def text_of(path: Path) -> str:
+    """The text of a table: in UTF-8, with or without its mark, else in the letters of Windows."""
+    text = read_text(path).encode("latin-1")
+    try:
+        return text.decode("utf-8-sig")
+    except UnicodeDecodeError:
+        return text.decode("cp1252", "replace")
 
 
 def spot_at(model: Model, place: Place, layer: int, x: float, y: float) -> Spot:

@@ -2,6 +2,7 @@
 from __future__ import annotations
 
 import functools
+import hashlib
 import os
 import re
 import shutil
@@ -12,13 +13,18 @@ import time
 from contextlib import nullcontext
 from dataclasses import dataclass
 from pathlib import Path
+from typing import IO
 
 from .follow import Progress
 from .limits import PLAIN, WIDE_WORD, asks_for_wide, is_wide, limits_of, wide_words
-from .listing import read_listing
+from .kept_files import demand_free
+from .listing import Listing, read_listing
 from .made_by import drop_words, is_quick, keep_words
-from .text import Problem, sha256, whole_file
+from .text import Problem, sha256
+from .whole_files import draft_of
 
+IS_WINDOWS = sys.platform == "win32"
+NAME = "heads.exe" if IS_WINDOWS else "heads"
 TOP = Path(__file__).resolve().parents[2]
 BIN = Path(__file__).resolve().parent / "bin"
 DEFAULT_DIGITS = 12
@@ -31,35 +37,89 @@ def beside(name: str) -> Path | None:
 
 def main() -> None:
     """The command `heads` of a wheel: the program that it carries."""
-    path = str(program())
-    os.execv(path, [path, *sys.argv[1:]])
+    words = [str(program()), *sys.argv[1:]]
+    if IS_WINDOWS:
+        # There a program that takes the place of another one leaves the shell with no status.
+        sys.exit(subprocess.call(words))
+    os.execv(words[0], words)
 
 
 def program() -> Path:
     """The program: the environment's HEADS, else the script of this checkout, else that of the wheel, else `heads` on
-    the path."""
+    the path. Windows can't start the script: there it is the checkout's port, if that is of the kept program."""
     if os.environ.get("HEADS"):
         path = Path(os.environ["HEADS"]).resolve()
         if not os.access(path, os.X_OK) or path.is_dir():
             raise Problem(f"HEADS names {path}, which is no program")
         return path
-    for path in (TOP / "heads", BIN / "heads", Path(shutil.which("heads") or "")):
-        if path.is_file() and os.access(path, os.X_OK):
+    here = windows_port(TOP / "dist" / "heads.exe") if IS_WINDOWS else TOP / "heads"
+    for path in (here, BIN / NAME, Path(shutil.which(NAME) or "")):
+        if path and path.is_file() and os.access(path, os.X_OK):
             return path.resolve()
     raise Problem("where is `heads`? Set HEADS=/path/to/heads, or put it on the PATH")
+
+
+def noted_in(record: Path) -> dict[str, str]:
+    """What dist/heads.txt, or a copy of it, says of the program: its sources, kit and sha256."""
+    return dict(line.split(" ", 1) for line in record.read_text().splitlines() if not line.startswith("port "))
+
+
+def port_in(record: Path, digest: str) -> str:
+    """The sha256 of the program that a port with this one is of; nothing where the record has no such port."""
+    found = re.search(rf"^port \S+ {digest} of (\w+) ", record.read_text(), re.M)
+    return found[1] if found else ""
+
+
+def record_of(binary: Path) -> Path | None:
+    """The record that stands beside a program: heads.txt of heads, of heads.exe and of the other ports in dist/."""
+    names = [f"{binary.name}.txt", *(["heads.txt"] if binary.name.startswith(("heads.exe", "heads-linux-")) else [])]
+    return next((path for path in map(binary.with_name, names) if path.is_file()), None)
+
+
+def windows_port(path: Path) -> Path | None:
+    """The port for Windows, if it has the bytes that are recorded, and is of the program that is."""
+    record = record_of(path)
+    if not path.is_file() or not record:
+        return None
+    return path if port_in(record, sha256(path)) == noted_in(record).get("program") else None
 
 
 @functools.lru_cache
 def direct(found: Path) -> Path:
     kept, check = TOP / "dist" / "heads", TOP / "scripts" / "check_dist"
     is_script = found == TOP / "heads" and kept.is_file() and check.is_file()
-    return kept if is_script and subprocess.run([check], capture_output=True).returncode == 0 else found
+    return kept if is_script and subprocess.run([check, "--kept"], capture_output=True).returncode == 0 else found
+
+
+def look_again() -> None:
+    """Called as a command begins: the sources may have changed since the last one."""
+    direct.cache_clear()
 
 
 def direct_program() -> Path:
-    """The program for many calls: the kept one where the checkout's script would run it, as one call of
-    scripts/check_dist says; the script itself hashes its sources at each call."""
+    """The program itself: the kept one where the checkout's script would run it, which is looked up once a command."""
     return direct(program())
+
+
+def program_file() -> Path:
+    """The program that is called: not a script that starts it, but what that starts."""
+    found, built = direct_program(), TOP / "crates" / "heads" / "out" / "heads"
+    path = built if found == TOP / "heads" and is_built(built) else found
+    if path.is_file() and path.read_bytes()[:2] != b"#!":
+        return path
+    raise Problem(f"{found} is a script and no built program lies beside it: set HEADS to the program itself")
+
+
+def is_built(path: Path) -> bool:
+    """Whether a program was built by scripts/build_program from the checkout's sources as they are."""
+    stamp = path.with_name(path.name + ".sources")
+    return path.is_file() and stamp.is_file() and stamp.read_text().strip() == sources_now()
+
+
+def sources_now() -> str:
+    """The hash of the checkout's sources; empty where this is no checkout."""
+    script = TOP / "scripts" / "program_sources"
+    return subprocess.run([script], capture_output=True, text=True).stdout.strip() if script.is_file() else ""
 
 
 @dataclass
@@ -72,21 +132,24 @@ class Version:
 
 def version() -> Version:
     found = program()
-    binary = TOP / "dist" / "heads" if found == TOP / "heads" and (TOP / "dist" / "heads").is_file() else found
-    lines = [f"program {found}"] + (
-        [f"        which runs {binary} where that was built from the checkout's sources"] if binary != found else []
-    )
+    try:
+        binary = program_file()
+    except Problem:
+        binary = found
+    lines = [f"program {found}"] + ([f"        which runs {binary}"] if binary != found else [])
     lines.append(f"sha256  {sha256(binary)}")
-    record = binary.with_name(binary.name + ".txt")
-    if not record.is_file():
+    record = record_of(binary)
+    if not record:
         return Version(lines + ["no record of its sources stands beside it"], None)
-    noted = dict(line.split(" ", 1) for line in record.read_text().splitlines() if " " in line)
-    is_same = noted.get("program") == sha256(binary)
+    noted, port = noted_in(record), port_in(record, sha256(binary))
+    if port and port != noted.get("program"):
+        return Version(lines + [f"A PORT OF AN OLDER PROGRAM than the one that {record} names: {port}"], False)
+    if port:
+        lines.append(f"port    of the program {port}")
+    is_same = bool(port) or noted.get("program") == sha256(binary)
     lines += [f"sources {noted.get('sources', 'not recorded')}", f"kit     {noted.get('kit', 'not recorded')}"]
     lines.append("its bytes are those recorded" if is_same else f"ITS BYTES ARE NOT THOSE RECORDED in {record}")
-    script = TOP / "scripts" / "program_sources"
-    if binary == TOP / "dist" / "heads" and script.is_file():
-        now = subprocess.run([script], capture_output=True, text=True).stdout.strip()
+    if binary == TOP / "dist" / "heads" and (now := sources_now()):
         is_current = now == noted.get("sources")
         lines.append(
             "the checkout's sources are those it was built from"
@@ -99,13 +162,21 @@ def version() -> Version:
 @dataclass
 class Ended:
     """How a run ended: its status, its last line, seconds by the clock, the steps that it wrote, the file that it
-    wrote."""
+    wrote, and the sha256 of what it wrote."""
 
     status: int
     last: str
     seconds: float
     steps: int = 0
     output: Path | None = None
+    sha256: str = ""
+
+    def listing(self) -> Listing:
+        """The listing that the run wrote, if it is still there."""
+        found = read_listing(self.output)
+        if found.sha256 != self.sha256:
+            raise Problem(f"{self.output} was written over since this run: two runs at once need two files (--out)")
+        return found
 
 
 def call(words: list[str], folder: Path, seconds: float | None = None) -> Ended:
@@ -113,7 +184,7 @@ def call(words: list[str], folder: Path, seconds: float | None = None) -> Ended:
     began = time.monotonic()
     try:
         done = subprocess.run(
-            [program(), *words], cwd=folder, capture_output=True, text=True, errors="replace", timeout=seconds
+            [direct_program(), *words], cwd=folder, capture_output=True, text=True, errors="replace", timeout=seconds
         )
     except subprocess.TimeoutExpired:
         return Ended(-1, "", time.monotonic() - began)
@@ -142,7 +213,7 @@ def one_spelling(nam: Path, has_wide: bool = False) -> dict[str, bytes]:
     or refuses the deck."""
     words = ["write", nam.name, *wide_words(has_wide)]
     try:
-        done = subprocess.run([program(), *words], cwd=nam.parent, stdout=subprocess.PIPE)
+        done = subprocess.run([direct_program(), *words], cwd=nam.parent, stdout=subprocess.PIPE)
     except Problem:
         return {}
     return files_of(done.stdout, limits_of(has_wide).bytes)
@@ -183,44 +254,54 @@ def run(
     """Runs `heads run` in the model's folder into a file, which gets its name once the run ended (settle_output); the
     words that made a whole listing are kept beside it. What --watch writes goes into a file beside it; a run that
     `is_followed` is watched for what to say of a slow step, where the words allow it."""
+    demand_free(target)
     progress = Progress(nam.name, steps, is_quick(options))
-    began, last, count = time.monotonic(), b"", 0
+    began = time.monotonic()
     is_watched = any(o.startswith("--watch") for o in options)
-    new = target.with_name(f".{target.name}.new")
-    with (
-        whole_file(new, binary=True) as file,
-        open(target.with_suffix(".watch"), "wb") if is_watched else nullcontext() as side,
-    ):
-        is_followed = is_followed and is_told and not is_watched and not is_quick(options)
-        words = [program(), "run", nam.name, *options, *(["--watch", "1"] if is_followed else [])]
+    is_followed = is_followed and is_told and not is_watched and not is_quick(options)
+    words = [direct_program(), "run", nam.name, *options, *(["--watch", "1"] if is_followed else [])]
+    with draft_of(target) as new, open(new, "wb") as file, watch_file(target) if is_watched else nullcontext() as side:
         process = subprocess.Popen(
             words, cwd=nam.parent, stdout=subprocess.PIPE, stderr=subprocess.PIPE if is_followed else side
         )
         if is_told:
             progress.follow(process.stderr)
         try:
-            is_open = False
-            for line in process.stdout:
-                file.write(line)
-                if line.startswith(b"HEAD "):
-                    progress.head(line)
-                elif line.startswith((b"STEP ", b"END")) and is_told:
-                    if is_open:
-                        progress.step()
-                    is_open = line.startswith(b"STEP ")
-                count += line.startswith(b"STEP ")
-                last = line
+            last, count, digest = copy_output(process.stdout, file, progress if is_told else None)
+            file.close()
         except BaseException:
             process.kill()
             process.wait()
             raise
+        finally:
+            progress.end()
         status = process.wait()
-    if is_told:
-        progress.end()
-    output = settle_output(new, target)
+        output = settle_output(new, target)
     if status == 0:
-        keep_words(output, nam.name, options)
-    return Ended(status, last.decode("latin-1").strip(), time.monotonic() - began, count, output)
+        keep_words(output, nam.name, options, digest)
+    return Ended(status, last.decode("latin-1").strip(), time.monotonic() - began, count, output, digest)
+
+
+def copy_output(stream: IO[bytes], file: IO[bytes], progress: Progress | None) -> tuple[bytes, int, str]:
+    """Copies what a run writes, line by line: the last line, the count of steps, the sha256 of all."""
+    last, count, digest = b"", 0, hashlib.sha256()
+    for line in stream:
+        file.write(line)
+        digest.update(line)
+        if progress and line.startswith(b"HEAD "):
+            progress.head(line)
+        elif progress and line.startswith((b"STEP ", b"END")) and count:
+            progress.step()
+        count += line.startswith(b"STEP ")
+        last = line
+    return last, count, digest.hexdigest()
+
+
+def watch_file(target: Path) -> IO[bytes]:
+    """The file beside a listing for what --watch writes, as it is written."""
+    path = target.with_suffix(".watch")
+    demand_free(path)
+    return open(path, "wb")
 
 
 def takes_wide() -> bool:
@@ -249,7 +330,3 @@ def digits_of(options: list[str]) -> int:
         if text:
             return int(text) if text.isdigit() and int(text) <= 18 else DEFAULT_DIGITS
     return DEFAULT_DIGITS
-
-
-def summary(path: Path) -> str:
-    return read_listing(path).summary()

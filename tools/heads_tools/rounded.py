@@ -104,8 +104,7 @@ class Conductances:
     def elevations(self, cell: int) -> tuple[Fraction, Fraction]:
         """The elevations above and below a cell."""
         layer = self.model.cell(cell)[0] - 1
-        above = self.deck.bed_bottom.get(layer - 1, self.deck.bottom[layer - 1]) if layer else self.deck.top
-        return self.exact(above, cell), self.exact(self.deck.bottom[layer], cell)
+        return self.exact(self.deck.top_of(layer), cell), self.exact(self.deck.bottom[layer], cell)
 
     def thickness(self, above: Fraction, below: Fraction) -> Rounded:
         """What lies between two elevations, which are rounded to 18 places."""

@@ -10,7 +10,8 @@ from typing import cast
 import numpy as np
 
 from .spelling import exact, fortran, number, quoted_words
-from .text import Problem, on_disk, read_text
+from .marks import plain
+from .text import Problem, on_disk, read_raw
 
 
 KEPT = "MODFLOW-2005 keeps there what it had. Write the values"
@@ -92,8 +93,6 @@ class Array:
 
 def odd_bytes(text: str) -> str:
     """What is wrong with a text that isn't plain ASCII, or nothing."""
-    if text.startswith(("\u00ff\u00fe", "\u00fe\u00ff")):
-        return "the file is in UTF-16, as Windows' editors can save: save it as ASCII"
     if "\0" in text:
         return "it has a byte 0, which is no letter: save the file as ASCII"
     if "\u00e2\u0088\u0092" in text or "\u00e2\u0080\u0093" in text:
@@ -134,12 +133,12 @@ class Source:
     `known`: words of which there is nothing to remark, and their numbers."""
 
     def __init__(self, path: Path, name: str, report: Report):
-        text = read_text(path)
+        content, said = plain(read_raw(path))
+        text = content.decode("latin-1")
         self.name, self.report, self.at, self.due, self.has_tab = name, report, 0, "", False
         self.known: dict[str, str] = {}
-        if text.startswith("\u00ef\u00bb\u00bf"):
-            text = text[3:]
-            report.add("needed", name, 1, "byte order mark dropped")
+        if said:
+            report.add("needed", name, 1, f"the file {said}: written as plain text")
         if "\r" in text and "\n" not in text:
             report.add("refusals", name, 1, "its lines end with CR alone, as on old Macintoshes: save it with LF")
         if odd_bytes(text) == odd_bytes("\u00a0"):

@@ -6,7 +6,8 @@ from pathlib import Path
 
 from .cell_lines import write_cells
 from .listing import Listing, Step
-from .text import decimal_text, whole_file
+from .text import decimal_text
+from .whole_files import whole_file
 
 
 @dataclass
@@ -46,8 +47,11 @@ def budget_of(step: Step) -> Budget:
     return Budget(rows + [("TOTAL", *total)], nets, discrepancy)
 
 
-def write_tables(listing: Listing, folder: Path, times: dict[tuple[int, int], tuple[float, float]] | None) -> None:
-    """heads.csv, budget.csv and, where there are zones, zones.csv. Every bound stands there with all its digits."""
+def write_tables(
+    listing: Listing, folder: Path, times: dict[tuple[int, int], tuple[float, float]] | None
+) -> list[str]:
+    """heads.csv, budget.csv and, where there are zones, zones.csv: their names. Every bound stands there with all its
+    digits."""
     places = listing.flow_places
     with whole_file(folder / "heads.csv") as file:
         file.write("period,step,time,layer,row,col,lower,upper\n")
@@ -69,11 +73,13 @@ def write_tables(listing: Listing, folder: Path, times: dict[tuple[int, int], tu
                     + ",".join(decimal_text(v, places) for v in (*flows, *net))
                     + "\n"
                 )
-    if any(s.zones for s in listing.steps):
-        with whole_file(folder / "zones.csv") as file:
-            file.write("period,step,from,to,lower,upper\n")
-            for step in listing.steps:
-                for a, b, low, high in step.zones:
-                    file.write(
-                        f"{step.period},{step.step},{a},{b},{decimal_text(low, places)},{decimal_text(high, places)}\n"
-                    )
+    if not any(s.zones for s in listing.steps):
+        return ["heads.csv", "budget.csv"]
+    with whole_file(folder / "zones.csv") as file:
+        file.write("period,step,from,to,lower,upper\n")
+        for step in listing.steps:
+            for a, b, low, high in step.zones:
+                file.write(
+                    f"{step.period},{step.step},{a},{b},{decimal_text(low, places)},{decimal_text(high, places)}\n"
+                )
+    return ["heads.csv", "budget.csv", "zones.csv"]

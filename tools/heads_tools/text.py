@@ -1,15 +1,14 @@
-"""Texts of files: words of lines, numbers of people, and files that are written whole or not at all."""
+"""Texts of files: words of lines, and numbers of people."""
 from __future__ import annotations
 
 import hashlib
-import os
 import re
-import tempfile
-from contextlib import contextmanager
 from decimal import Decimal
 from pathlib import Path
-from typing import IO, Iterator
 
+from .marks import plain, tell
+
+VERSION = "0.1.0"
 LENGTHS = {0: "length units", 1: "ft", 2: "m", 3: "cm"}
 TIMES = {0: "time units", 1: "s", 2: "min", 3: "h", 4: "d", 5: "a"}
 
@@ -34,9 +33,17 @@ def on_disk(folder: Path, name: str) -> Path:
 
 
 def read_text(path: Path) -> str:
-    """The text of a file, one character for each byte."""
+    """The text of a file, one character for each byte. A byte-order mark is left out, UTF-16 is read as UTF-8, and
+    this is said."""
+    content, said = plain(read_raw(path))
+    tell(Path(path), said)
+    return content.decode("latin-1")
+
+
+def read_raw(path: Path) -> bytes:
+    """The bytes of a file."""
     try:
-        return Path(path).read_bytes().decode("latin-1")
+        return Path(path).read_bytes()
     except IsADirectoryError:
         raise Problem(f"{path} is a folder; a file is due here") from None
     except FileNotFoundError:
@@ -47,28 +54,6 @@ def read_text(path: Path) -> str:
 
 def sha256(path: Path) -> str:
     return hashlib.sha256(Path(path).read_bytes()).hexdigest()
-
-
-@contextmanager
-def whole_file(path: Path | str, binary: bool = False) -> Iterator[IO]:
-    """A file to write, which gets its name once all was written. After an exception nothing of it is left."""
-    path = Path(path)
-    try:
-        path.parent.mkdir(parents=True, exist_ok=True)
-        handle, name = tempfile.mkstemp(prefix=f".{path.name}.", dir=path.parent)
-    except OSError as error:
-        raise Problem(f"{path} can't be written: {error.strerror}") from None
-    try:
-        with os.fdopen(handle, "wb" if binary else "w", **({} if binary else {"encoding": "utf-8"})) as file:
-            yield file
-        os.chmod(name, 0o644)
-        os.replace(name, path)
-    except BaseException as error:
-        if os.path.exists(name):
-            os.unlink(name)
-        if isinstance(error, OSError):
-            raise Problem(f"{path} can't be written: {error.strerror}") from None
-        raise
 
 
 def decimal_text(units: int, places: int) -> str:

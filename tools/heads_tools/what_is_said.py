@@ -20,6 +20,7 @@ ONE_HEAD = (
 )
 ZONE_FLOWS = "Each flow between two zones lies between its two listed numbers, too."
 NOT_THE_GROUND = "The head in the aquifer lies between these numbers."
+NOT_THE_MOST = "No plan draws the aquifer down by more than this model's bounds say."
 WHY_NOT = (
     "The listing speaks of the equations of these files. "
     "It says nothing of the ground, nor of the heads that MODFLOW prints."

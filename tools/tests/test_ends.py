@@ -127,7 +127,11 @@ def test_a_run_says_where_modflow_reads_otherwise(change, part, tmp_path, tool):
 
 @pytest.mark.program
 def test_a_plain_deck_runs_without_a_warning(tmp_path, tool):
-    status, out, err = tool("run", spelled.write(tmp_path, "as it is"))
+    nam = spelled.write(tmp_path, "as it is")
+    dis = nam.with_name("m.dis")
+    full = dis.read_text().replace("CONSTANT 30\nCONSTANT 15\nCONSTANT 0", "CONSTANT 10\nCONSTANT -5\nCONSTANT -20")
+    dis.write_text(full)
+    status, out, err = tool("run", nam)
     assert status == 0 and "CAREFUL" not in err
 
 
@@ -182,3 +186,80 @@ def test_a_full_disk_gets_a_sentence(tmp_path):
     with open("/dev/full", "w") as full:
         done = subprocess.run(words, stdout=full, stderr=subprocess.PIPE, text=True, env={"PYTHONPATH": str(TOOLS)})
     assert done.returncode == 2 and done.stderr == "heads-tools: standard output: No space left on device\n"
+
+
+@pytest.mark.program
+@pytest.mark.parametrize(
+    "words, part",
+    [
+        (["--foo"], "`--foo` isn't known"),
+        (["--digits", "99"], "`--digits 99`: a whole number from 0 to 18 is due"),
+        (["--digits", "09"], "`--digits 09`"),
+        (["--rounds"], "`--rounds` lacks its value"),
+        (["--watch", "3", "--quick"], "`--watch` and `--quick` don't go together"),
+        (["--digits", "5", "--digits=5"], "`--digits` stands twice"),
+    ],
+)
+def test_the_word_that_is_not_taken_is_named(words, part, tmp_path, tool):
+    status, out, err = tool("run", deck(tmp_path / "deck", "m.wel", "-50", "-50"), *words)
+    assert status == 1 and part in out, out + err
+
+
+def test_words_that_are_taken_have_no_fault():
+    from heads_tools.option_faults import option_faults
+
+    words = "--digits 9 --workers 4 --rounds 4000000000 --zones m.zon --watch 1000 --to b.nam --wide".split()
+    assert option_faults(words) == [] and option_faults(["--quick", "--digits=0"]) == []
+
+
+BROKEN = {
+    "CRLF": (lambda text: text.replace("\n", "\r\n"), "its lines end with CR LF"),
+    "nan": (lambda text: text.replace("HEAD 1 2 3 ", "HEAD 1 2 3 nan ", 1), "`nan` is no number"),
+    "an empty line": (lambda text: text.replace("\nIN", "\n\nIN", 1), "it is empty, and a listing has no empty lines"),
+    "a word too many": (lambda text: text.replace("HEAD 1 2 3 ", "HEAD 1 2 3 3 ", 1), "isn't of the form of a line HEAD"),
+    "another word": (lambda text: text.replace("OUT ", "AUS ", 1), "no line of a step begins with `AUS`"),
+}
+
+
+@pytest.mark.program
+@pytest.mark.parametrize("name", BROKEN)
+def test_what_is_wrong_in_a_listing_is_named_with_its_line(name, tmp_path, tool):
+    nam = deck(tmp_path / "deck", "m.wel", "-50", "-50")
+    change, part = BROKEN[name]
+    text = end_of(nam).stdout
+    (tmp_path / "m.heads").write_bytes(change(text).encode())
+    status, out, err = tool("look", tmp_path / "m.heads", tmp_path / "look", "--name", nam)
+    assert status == 2 and part in err and not (tmp_path / "look").exists(), err
+    if name != "CRLF":
+        lines = zip(change(text).split("\n"), text.split("\n"))
+        first = next(n for n, (now, was) in enumerate(lines, 1) if now != was)
+        assert f"m.heads, line {first}: " in err
+
+
+def test_a_name_with_a_blank_in_a_batchs_list_is_told(tmp_path, tool):
+    (tmp_path / "plan one.nam").write_text("\n")
+    (tmp_path / "list.txt").write_text("plan one.nam\n")
+    status, out, err = tool("batch", tmp_path / "list.txt")
+    assert status == 2 and "line 1: there is no file plan. There is `plan one.nam`, but a blank ends a name" in err
+
+
+@pytest.mark.program
+def test_a_home_that_cannot_be_written_is_not_told(tmp_path):
+    import os
+    import subprocess
+    import sys
+
+    from conftest import TOOLS
+
+    nam = deck(tmp_path / "deck", "m.wel", "-50", "-50")
+    (tmp_path / "m.heads").write_text(end_of(nam).stdout)
+    (tmp_path / "home").write_text("no folder")
+    env = {k: v for k, v in os.environ.items() if k not in ("MPLCONFIGDIR", "XDG_CONFIG_HOME", "XDG_CACHE_HOME")}
+    done = subprocess.run(
+        [sys.executable, "-m", "heads_tools", "look", "m.heads", "look"],
+        cwd=tmp_path,
+        env=env | {"PYTHONPATH": str(TOOLS), "HOME": str(tmp_path / "home")},
+        capture_output=True,
+        text=True,
+    )
+    assert done.returncode == 0 and done.stderr == "", done.stderr

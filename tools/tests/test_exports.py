@@ -1,6 +1,9 @@
 """Listings in other programs' forms, calls in Python, heads at points, and the call of MODFLOW-2005."""
 import csv
+import hashlib
 import importlib.util
+import platform
+import re
 import subprocess
 import sys
 import zipfile
@@ -158,11 +161,15 @@ def test_the_change_of_two_runs_is_exported_with_bounds(example, tool, tmp_path)
     plan, base = (heads_tools.run(nam.parent / name).listing for name in ("two_wells.nam", "no_well.nam"))
     words = "export", plan.path, tmp_path, "--name", nam.parent / "two_wells.nam", "--minus", base.path
     status, out, err = tool(*words)
-    assert status == 0 and out.count("written: ") == 4, out + err
+    assert status == 0 and out.count("written: ") == 4 and "--base-name" in out, out + err
+    with xarray.open_dataset(tmp_path / "change.nc") as data:
+        assert data.lower.attrs["comment"].startswith("Not checked")
+    status, out, err = tool(*words, "--base-name", nam.parent / "no_well.nam")
+    assert status == 0 and out.startswith("heads check: CERTIFIED, both listings."), out + err
     k, i, j = (plan.cells - 1).T
     with xarray.open_dataset(tmp_path / "change.nc") as data:
         lower, upper = (data[name].values[0, k, i, j] for name in ("lower", "upper"))
-        assert "less that of another" in data.lower.attrs["comment"]
+        assert "The change of each exact head lies between" in data.lower.attrs["comment"]
     for n in range(len(plan.cells)):
         low = Fraction(int(plan.steps[0].low[n] - base.steps[0].high[n]), 10**9)
         high = Fraction(int(plan.steps[0].high[n] - base.steps[0].low[n]), 10**9)
@@ -213,7 +220,7 @@ def test_hob_files_are_read(tide, tool, tmp_path):
     )
 
 
-def test_the_wheel_carries_the_program(tmp_path):
+def test_the_wheels_carry_the_program(tmp_path):
     if (
         subprocess.run([sys.executable, "-c", "import setuptools, wheel"], capture_output=True).returncode
         or not (TOP / "dist" / "heads").is_file()
@@ -226,11 +233,39 @@ def test_the_wheel_carries_the_program(tmp_path):
         env={"PATH": "/usr/bin:/bin", "PYTHON": sys.executable},
     )
     assert done.returncode == 0, done.stderr
-    wheel = next(tmp_path.glob("*.whl"))
-    with zipfile.ZipFile(wheel) as file:
-        assert file.read("heads_tools/bin/heads") == (TOP / "dist" / "heads").read_bytes()
-        assert file.getinfo("heads_tools/bin/heads").external_attr >> 16 & 0o111
-        assert "heads_tools/bin/recheck.py" in file.namelist()
-        assert set(p.name for p in (TOOLS / "heads_tools").iterdir() if p.is_file()) <= {
-            n.split("/")[-1] for n in file.namelist()
-        }
+    modules = set(p.name for p in (TOOLS / "heads_tools").iterdir() if p.is_file())
+    record = (TOP / "dist" / "heads.txt").read_text()
+    for wheel in tmp_path.glob("*.whl"):
+        with zipfile.ZipFile(wheel) as file:
+            names = file.namelist()
+            assert "heads_tools/bin/recheck.py" in names and modules <= {n.split("/")[-1] for n in names}
+            program = next((n for n in names if re.fullmatch("heads_tools/bin/heads(.exe)?", n)), None)
+            commands = file.read(next(n for n in names if n.endswith("/entry_points.txt"))).decode()
+            has_command, is_pure = "heads = heads_tools.program:main" in commands, "none-any" in wheel.name
+            assert has_command == (program is not None) == (not is_pure)
+            if program:
+                assert hashlib.sha256(file.read(program)).hexdigest() in record
+                assert file.read("heads_tools/bin/heads.txt").decode() == record
+                assert file.getinfo(program).external_attr >> 16 & 0o111
+    assert len(list(tmp_path.glob("*x86_64.whl"))) == 1
+
+
+def test_an_installed_wheel_runs_the_program(tmp_path):
+    """The wheel for this platform in an environment of its own, that has what it needs from the system."""
+    if (TOP / "dist" / "heads").is_file() is False or platform.machine() != "x86_64" or sys.platform != "linux":
+        pytest.skip("without dist/heads, or on another platform")
+    needed = "import setuptools, wheel, venv, ensurepip"
+    if subprocess.run([sys.executable, "-c", needed], capture_output=True).returncode:
+        pytest.skip("without setuptools, wheel and venv")
+    subprocess.run([TOOLS / "wheel", tmp_path], check=True, env={"PATH": "/usr/bin:/bin", "PYTHON": sys.executable})
+    made = tmp_path / "env"
+    subprocess.run([sys.executable, "-m", "venv", "--system-site-packages", made], check=True)
+    wheel = next(tmp_path.glob("*x86_64.whl"))
+    subprocess.run([made / "bin" / "pip", "install", "-q", "--no-deps", "--no-index", wheel], check=True)
+    model = TOP / "examples" / "three_cells"
+    nam = next(model.glob("*.nam")).name
+    done = subprocess.run([made / "bin" / "heads", "run", nam], cwd=model, capture_output=True)
+    due = subprocess.run([TOP / "dist" / "heads", "run", nam], cwd=model, capture_output=True)
+    assert (done.returncode, done.stdout) == (due.returncode, due.stdout)
+    said = subprocess.run([made / "bin" / "heads-tools", "version"], capture_output=True, text=True)
+    assert said.returncode == 0 and "its bytes are those recorded" in said.stdout, said.stdout + said.stderr

@@ -132,3 +132,57 @@ def test_called_as_modflow_it_reads_other_spellings_and_ends_badly_where_it_must
         and "normal termination" not in done.stdout.lower()
         and "Nothing holds the heads" in done.stdout
     )
+
+
+def outputs(model):
+    return {name: (model.parent / name).read_bytes() for name in ("m.hds", "m.list") if (model.parent / name).exists()}
+
+
+@pytest.fixture
+def listed(model):
+    model.write_text(model.read_text() + "LIST 2 m.list\n")
+    assert run_model(str(TOOLS / "mf2005"), model.name, str(model.parent))[0]
+    assert len(outputs(model)) == 2
+    return model
+
+
+def test_a_run_without_an_answer_leaves_no_outputs_of_the_run_before(listed):
+    (listed.parent / "m.wel").write_text("1 53\n1 0\n2 2 9 -50\n-1 0\n")
+    success, lines = run_model(str(TOOLS / "mf2005"), listed.name, str(listed.parent))
+    said = (listed.parent / "m.list").read_text()
+    assert not success and not (listed.parent / "m.hds").exists()
+    assert "THE RUN DID NOT END WELL" in said and "REFUSED" in said and "outside the grid" in said
+    assert "VOLUMETRIC BUDGET" not in said and "Run end" not in said and "Normal termination" not in said
+
+
+def test_a_run_that_cannot_be_written_leaves_no_outputs_of_the_run_before(listed):
+    """A folder has the listing's name."""
+    (listed.parent / "m.heads").unlink()
+    (listed.parent / "m.heads").mkdir()
+    success, lines = run_model(str(TOOLS / "mf2005"), listed.name, str(listed.parent))
+    assert not success and not (listed.parent / "m.hds").exists(), lines
+    assert "m.heads is a folder; a file is due here" in (listed.parent / "m.list").read_text()
+
+
+def test_outputs_of_modflow_itself_are_kept_under_another_name(listed):
+    for name, text in (("m.hds", b"heads of MODFLOW"), ("m.list", b"list of MODFLOW"), ("m.cbc", b"flows of MODFLOW")):
+        (listed.parent / name).write_bytes(text)
+    listed.write_text(listed.read_text() + "DATA(BINARY) 53 m.cbc REPLACE\n")
+    for _ in range(2):
+        success, lines = run_model(str(TOOLS / "mf2005"), listed.name, str(listed.parent))
+        assert success, lines
+    kept = {f.name: f.read_bytes() for f in listed.parent.glob("*.before*")}
+    assert kept == {
+        "m.hds.before": b"heads of MODFLOW",
+        "m.list.before": b"list of MODFLOW",
+        "m.cbc.before": b"flows of MODFLOW",
+    }
+    assert not (listed.parent / "m.cbc").exists(), "no flows of another run are read for this one's"
+
+
+def test_an_output_that_is_a_file_of_the_deck_too_is_refused(model):
+    before = (model.parent / "m.wel").read_bytes()
+    model.write_text(model.read_text().replace("m.hds REPLACE", "m.wel REPLACE"))
+    success, lines = run_model(str(TOOLS / "mf2005"), model.name, str(model.parent))
+    assert not success and any("names it as a file of the deck, too" in line for line in lines), lines
+    assert (model.parent / "m.wel").read_bytes() == before

@@ -2,6 +2,7 @@
 import csv
 import itertools
 import random
+import re
 from fractions import Fraction
 from types import SimpleNamespace
 
@@ -198,3 +199,39 @@ def test_a_listing_that_was_changed_is_not_passed_over(example, tool, tmp_path):
     listing.path.write_text(text.replace("HEAD 1 8 17 7.138", "HEAD 1 8 17 7.139", 1))
     status, rows, err = observed(tool, deck, "name,row,col\nwell,8,17\n", tmp_path)
     assert status == 8 and "NOT CERTIFIED" in err and rows[0]["lower"] == "7.139119734"
+
+
+@pytest.mark.program
+def test_a_table_of_a_european_spreadsheet_is_read(example, tool, tmp_path):
+    """Semicolons, decimal commas, CR LF, the mark of UTF-8, and letters that aren't ASCII."""
+    deck = run(example("river_valley"))
+    text = "\ufeffName;X;Y;measured\r\nBr\u00fccke;1650,5;1250,5;7,2\r\n"
+    (tmp_path / "points").write_bytes(text.encode())
+    words = tmp_path / "points", "--name", deck[0], "--out", tmp_path / "out.csv"
+    assert tool("observe", deck[2].path, *words)[0] == 0
+    (row,) = csv.DictReader((tmp_path / "out.csv").read_text().splitlines())
+    assert (row["name"], row["row"], row["col"], row["measured"]) == ("Br\u00fccke", "8", "17", "7.2")
+    assert row["lower"] == "7.138119734"
+
+
+@pytest.mark.program
+def test_a_point_outside_the_grid_leaves_the_others(example, tool, tmp_path):
+    deck = run(example("river_valley"))
+    text = "name,x,y\nfar,99999,10\nwell,1650,1250\n"
+    status, rows, err = observed(tool, deck, text, tmp_path)
+    assert status == 0 and "far has no head: x 99999, y 10 lies outside the grid" in err
+    assert [(r["name"], r["row"], r["lower"]) for r in rows] == [("far", "", ""), ("well", "8", "7.138119734")]
+    assert observed(tool, deck, "name,x,y\nfar,99999,10\n", tmp_path)[0] == 2
+
+
+@pytest.mark.program
+def test_what_was_measured_is_said_in_all_with_bounds(example, tool, tmp_path):
+    """One value 0.3 above the upper head and one 0.4 below the lower one: mean -0.05, mean square 0.125."""
+    deck = run(example("river_valley"))
+    above, below = 7.138119992 + 0.3, 7.138119734 - 0.4
+    text = f"name,row,col,measured\na,8,17,{above:.9f}\nb,8,17,{below:.9f}\nc,8,18,\n"
+    err = observed(tool, deck, text, tmp_path)[2]
+    found = re.search(r"2 values: mean (\S+) to (\S+), root of the mean square (\S+) to (\S+); (\d) of (\d)", err)
+    low, high, least, most = map(float, found.groups()[:4])
+    assert low <= -0.05 <= high <= low + 2e-6 and least <= 0.125**0.5 <= most <= least + 3e-6
+    assert found.groups()[4:] == ("2", "2")

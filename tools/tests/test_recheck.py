@@ -176,7 +176,7 @@ def test_it_takes_the_worse_conductance_at_each_head(tmp_path):
 )
 def test_decks_that_are_not_alike_can_not_be_read_together(file, old, new, between):
     nam, listing = between
-    (nam.parent / "other.dis").write_text((nam.parent / "both.dis").read_text().replace("CONSTANT 0", "CONSTANT 1"))
+    (nam.parent / "other.dis").write_text((nam.parent / "both.dis").read_text().replace("CONSTANT -15", "CONSTANT -14"))
     (nam.parent / file).write_text((nam.parent / file).read_text().replace(old, new))
     status, said = recheck(nam, listing, "--to", "to.nam")
     assert status == 2 and "aren't alike" in said

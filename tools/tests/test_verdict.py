@@ -59,7 +59,7 @@ def test_a_spoilt_listing_is_not_called_certified(change, status, last, listed, 
     assert "Certified heads of" not in page and "certified when this page was made" not in page
     (tmp_path / "given.csv").write_text("layer,row,col,head\n1,1,2,15\n")
     got, out, err = tool("compare", path, tmp_path / "given.csv", "--name", nam)
-    assert got == status and "no certified bounds" in out
+    assert got == status and ("no certified bounds" in out or "isn't whole: it ends with" in err)
 
 
 @pytest.fixture

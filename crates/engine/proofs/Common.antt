@@ -5,11 +5,13 @@ pub use Rattle.std.proofs.Common.{◌<◌, ◌∙◌, ◌∷◌, ◌≡◌, ◌�
 pub use Rattle.std.proofs.lemmas.List.{append-nil, append_assoc, length-map, map-append, take_more}
 pub use Rattle.std.proofs.lemmas.List.Elements.{All-append, All-cons, All-head, All-nil, All-push, All-tail, All-weaker}
 pub use Rattle.std.proofs.lemmas.Result.{IfOk-at_ok, IfOk-weaker, err_from_is_err_and}
+pub use Rattle.std.specs.Io.KnownBytes.{Appends}
 pub use Rattle.std.specs.List.{AllZip, concat, filter}
 pub use Rattle.std.specs.Prelude.{All, IfErr, false, is_some, option_to_list, slice_get}
 pub use Rattle.std.specs.declared.alloc.Global.{Global}
 pub use Rattle.std.specs.declared.vec.Vec.{Vec}
-pub use Rattle.check_run.specs.{IsReadable, IsVerdict, ListingEncloses, RunIsCertified, RunIsReadAgain, VerdictIsOne, as_listed}
+pub use Rattle.check_run.proofs.FlowPairs.{flows_have_pairs, run_encloses}
+pub use Rattle.check_run.specs.{IsReadable, IsVerdict, ListingEncloses, RunIsCertified, RunIsReadAgain, VerdictIsOne, as_listed, checked_task}
 pub use Rattle.check_run.specs.declared.verdict.ListingVerdict.{ListingVerdict}
 pub use Rattle.check_run.specs.declared.verdict.ListingVerdict.TheVariants.{Certified, Fails}
 pub use Rattle.command_line.specs.{AskedBatch, AskedCheck, Batch, Check, ListingOrder, Make, Run, Wanted, Write, asked_of, batch_of, check_of, order_of_words}
@@ -19,14 +21,15 @@ pub use Rattle.command_line.specs.declared.order.WordsFault.{WordsFault}
 pub use Rattle.deck_problems.proofs.OneProblem.{one_valid}
 pub use Rattle.deck_problems.specs.{AreDecks, IsSecond, one_deck}
 pub use Rattle.deck_problems.specs.declared.decks.Decks.{Decks}
-pub use Rattle.deck_span.specs.{AreAlike, DifferenceIsOne}
+pub use Rattle.deck_span.specs.{AreAlike, DifferenceIsOne, SolvesBetweenFrom}
 pub use Rattle.deck_span.specs.declared.difference.Difference.{Difference}
 pub use Rattle.engine.specs.{Answers, AnswersBeside, AreDecksAs, AreDecksOf, AreItsSteps, ArePairOf, ArePutInTurn, AreTasks, AreViews, AreWatched, Case}
-pub use Rattle.engine.specs.{Checking, ChecksWritten, Comparing, CutOf, Defines, Due, EndIsDefined, EndsOk, GoesThrough, GoesWell, HasEnded, HasNoList}
-pub use Rattle.engine.specs.{HeadlineOf, IsCheck, IsDeck, IsDecksRefusal, IsDue, IsJobEnd, IsJobListing, IsListed, IsListingOf, IsMade, IsNamedFault}
-pub use Rattle.engine.specs.{IsNoSecond, IsOrder, IsPlain, IsPlainJob, IsReadingEnd, IsRunOf, IsRunResult, IsRunText, IsStopNumber, IsStopped, IsUnlikeFault}
-pub use Rattle.engine.specs.{IsValid, IsValidJob, IsView, IsWatched, JobDefines, Jobs, Listing, Making, MayRead, NoWords, OneDeck, OneOf, OneSpan, OneSummary}
-pub use Rattle.engine.specs.{OneVerdict, ReadsFolder, ReadsNothing, Refuses, Second, Shows, SidePuts, SpanVerdict, StorageHolds, ViewPutsOf, Writing}
+pub use Rattle.engine.specs.{Checking, ChecksWritten, Comparing, CutOf, DeckAndListingAreStated, DeckHasSameListing, DecksAndListingAreStated, Defines, Due}
+pub use Rattle.engine.specs.{EndIsDefined, EndsOk, GoesThrough, GoesWell, HasEnded, HasNoList, HeadlineOf, IsCheck, IsDeck, IsDecksRefusal, IsDue, IsJobEnd}
+pub use Rattle.engine.specs.{IsJobListing, IsListed, IsListingOf, IsMade, IsNamedFault, IsNoSecond, IsOrder, IsPlain, IsPlainJob, IsReadingEnd, IsRunOf}
+pub use Rattle.engine.specs.{IsRunResult, IsRunText, IsStopNumber, IsStopped, IsUnlikeFault, IsValid, IsValidJob, IsView, IsWatched, JobDefines, Jobs, Listing}
+pub use Rattle.engine.specs.{ListsPairs, Making, MayRead, NoWords, OneDeck, OneOf, OneSpan, OneSummary, OneVerdict, ReadsFolder, ReadsNothing, Refuses}
+pub use Rattle.engine.specs.{SameDeckHasSameModel, SameModelHasSameListing, Second, Shows, SidePuts, SpanVerdict, StorageHolds, ViewPutsOf, Writing}
 pub use Rattle.engine.specs.{WrittenIsCertified, broken_off, but_batch, case_decks, case_named, case_of, case_read, certified_line, decks_task, defined}
 pub use Rattle.engine.specs.{files_if, files_of, job_of, job_task, jobs_read, lines_of, listing_read, made_fault, made_model, made_task, model_line, names_read}
 pub use Rattle.engine.specs.{not_alike, of_both, of_first, of_second, read_by_name, second_by, span_task_of, steps_read, summed_text, task_of, unread}
@@ -42,9 +45,9 @@ pub use Rattle.listing_io.specs.declared.listing.ListedStep.{ListedStep}
 pub use Rattle.listing_run.proofs.Lines.{ends_by}
 pub use Rattle.listing_run.proofs.Pieces.{alone, beside, beside_by, line_not_ok, wanting_not_ok}
 pub use Rattle.listing_run.proofs.Settled.{IsWhole, is_whole, whole_listing}
-pub use Rattle.listing_run.specs.{AllSteps, HasLargeFlow, IsCutListing, IsListing, IsListingBeside, IsSettledBy, IsStep, IsTask, ListingExcludesRefusal}
-pub use Rattle.listing_run.specs.{ListingIsOne, PairEncloses, Reaches, ReachesFirst, RefusalIsOne, RestsOrSettles, begun, faces_of, last_line, left, listed}
-pub use Rattle.listing_run.specs.{listing, no_budget, no_heads, no_zones, rests, settled, status_of}
+pub use Rattle.listing_run.specs.{AllSteps, BoundAll, BoundBetween, Bounds, HasLargeFlow, IsCutListing, IsListing, IsListingBeside, IsSettledBy, IsStep, IsTask}
+pub use Rattle.listing_run.specs.{ListingExcludesRefusal, ListingIsOne, PairEncloses, Reaches, ReachesFirst, RefusalIsOne, RestsOrSettles, Steps, begun}
+pub use Rattle.listing_run.specs.{deck_task, faces_of, last_line, left, listed, listing, no_budget, no_heads, no_zones, rests, settled, status_of}
 pub use Rattle.listing_run.specs.declared.solving.Step.{Step}
 pub use Rattle.listing_run.specs.declared.steps.Task.{Task}
 pub use Rattle.listing_run.specs.declared.text.ListingEnd.{ListingEnd}
@@ -53,13 +56,13 @@ pub use Rattle.model_maker.specs.{made_files, made_name}
 pub use Rattle.model_reader.specs.{model_of, names_in}
 unfoldable pub use Rattle.model_reader.specs.{reads}
 pub use Rattle.model_text.proofs.ModelForms.{deck_reads, unit_is_short}
-pub use Rattle.model_text.specs.{deck_text}
-pub use Rattle.model_types.specs.{IsModel, cell_count, most_bytes, place, times}
+pub use Rattle.model_text.specs.{deck_files, deck_name, deck_text}
+pub use Rattle.model_types.specs.{IsModel, cell_count, most_bytes, place, start_head, times}
 pub use Rattle.model_types.specs.declared.limits.Limits.{Limits}
 pub use Rattle.model_types.specs.declared.limits.Limits.TheVariants.{Plain, Wide}
 pub use Rattle.model_types.specs.declared.model.FlowModel.{FlowModel}
 pub use Rattle.model_types.specs.declared.time_steps.TimeStep.{TimeStep}
-pub use Rattle.outside.specs.{FileSet, FolderState, InputCounts, IsGoodName, IsReading, Put, PutsMake, ReadsOn, Rose, Seen, WordsMay, failed_put, file_at}
+pub use Rattle.outside.specs.{File, FileSet, FolderState, InputCounts, IsGoodName, IsReading, Put, PutsMake, ReadsOn, Rose, Seen, WordsMay, failed_put, file_at}
 pub use Rattle.outside.specs.{file_refusal, folder_name, input_fault, is_good_name, whole_put, with_limit}
 pub use Rattle.outside.specs.declared.inputs.InputFault.{InputFault}
 pub use Rattle.outside.specs.declared.inputs.Refusal.{Refusal}
@@ -79,5 +82,6 @@ pub use Rattle.step_problem.specs.Entries.{Entries}
 pub use Rattle.step_problem.specs.declared.heads.Bound.{Bound}
 pub use Rattle.step_problem.specs.declared.place.NoBound.{NoBound}
 pub use Rattle.view_puts.specs.{AreAllShown, IsStopPut, LeadOn, ViewPuts, no_lead, no_view}
-pub use Rattle.zone_pairs.specs.{AreNumbers, AreZonesOf, pairs_below, pairs_in}
+pub use Rattle.zone_pairs.specs.{AreNumbers, AreZonesOf, pairs_below, pairs_in, zones_of_flow}
+pub use Rattle.zone_pairs.specs.declared.pair.ZonePair.{ZonePair}
 pub use denote.Ref.{Bor}

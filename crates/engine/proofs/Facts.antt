@@ -9,6 +9,7 @@ use Rattle.engine.proofs.Outcomes.{complete, decided, put_rose, read_rose}
 use Rattle.engine.proofs.Certifying.{not_stopped}
 use Rattle.engine.proofs.OkRuns.{Laws, headline_of, one_of, valid_of}
 use Rattle.engine.proofs.Dues.{Delivers, delivers}
+use Rattle.engine.proofs.Labels.{job_pairs, listing_times}
 use Rattle.run_puts.specs.declared.puts.Status.TheVariants as status
 
 -- The headline of a batch whose jobs ran.
@@ -27,6 +28,8 @@ module _ (laws : Laws) (b : AskedBatch) (files : FileSet) where
         steps = w.steps;
         only = λ plain others steps. laws.one (job_task b m) w.values others valid plain w.steps steps;
         is = h.text ∙ ap (λ (p : List Text). model_line name ++ concat p) w.are;
+        at = listing_times (job_task b m) w.values w.steps;
+        pairs = job_pairs b m w.values valid.first w.steps;
         encloses = w.encloses;
         solvable = history_exists b.limits m b.digits None b.rounds b.quick w.values valid.first w.steps;
         one = history_is_one b.limits m b.digits None b.rounds b.quick w.values valid.first w.steps;

@@ -4,11 +4,13 @@ pub mod Dues
 pub mod Ends
 pub mod DeckEnds
 pub mod Certifying
+pub mod Labels
 pub mod Spans
 pub mod OkRuns
 pub mod Outcomes
 pub mod StoredSteps
 pub mod Written
+pub mod Stating
 pub mod Numbers
 pub mod Beside
 pub mod Viewed

@@ -6,10 +6,10 @@ use Rattle.engine.proofs.Common.{VerdictIsOne, ListingOrder, Case, Run, Make, Ch
 use Rattle.engine.proofs.Common.{read_by_name, task_of, zones_read, OneDeck, Defines, made_task, summed_text, OneSummary, IfOk, IsStopped, IsValid, Plain}
 use Rattle.engine.proofs.Common.{Limits, ListingIsOne, ListingExcludesRefusal, RefusalIsOne, Comparing, two, true, Second, not_alike, most_bytes, with_limit}
 use Rattle.engine.proofs.Common.{case_decks, span_task_of, IsDeck, deck_text, deck_reads, summary_of, summary_text, HeadlineOf, OneOf, Wanted, AskedBatch}
-use Rattle.engine.proofs.Common.{Batch, second_in, reads, Decks, decks_task, Batched, case_read, OneListing, false, DifferenceIsOne}
-use Rattle.std.specs.Io.KnownBytes.{Appends}
+use Rattle.engine.proofs.Common.{Batch, second_in, reads, Decks, decks_task, Batched, case_read, OneListing, false, DifferenceIsOne, Appends}
 use Rattle.engine.proofs.Certifying.{certified_and_one}
 use Rattle.engine.proofs.Dues.{Delivers}
+use Rattle.engine.proofs.Labels.{listing_pairs, listing_times}
 use Rattle.engine.proofs.Readings.{named_read}
 use Rattle.engine.proofs.Spans.{span_checked, span_listed}
 use Rattle.engine.proofs.DeckEnds.{to_check, to_list, to_write}
@@ -72,6 +72,8 @@ module _ (laws : Laws) (old new : Seen) (puts : List Put) (pieces : List Text) (
         zoned = zoned;
         values = v.values;
         written = all_written (listing (task_of asked m zones) v.values end_line) old new puts (written ∙ ap (map whole_put) v.are) makes;
+        at = listing_times (task_of asked m zones) v.values v.steps;
+        pairs = listing_pairs (task_of asked m zones) valid v.values v.steps;
         encloses = v.encloses;
         solvable = history_exists asked.limits m asked.digits zones asked.rounds asked.quick v.values valid.first v.steps;
         one = history_is_one asked.limits m asked.digits zones asked.rounds asked.quick v.values valid.first v.steps;

@@ -4,6 +4,7 @@ use Rattle.engine.proofs.Common.{Text, end_line, all_written, AreDecks, read_by_
 use Rattle.engine.proofs.Common.{listing_read, span_task_of, IsCheck, verdict_line, ArePairOf, OneSpan, SpanVerdict, Second, second_in, listing, ListingIsOne}
 use Rattle.engine.proofs.Common.{have_one, IsWhole, Limits, two, ListingVerdict, IsVerdict, reads}
 use Rattle.engine.proofs.Certifying.{is_certified}
+use Rattle.engine.proofs.Labels.{listing_pairs, listing_times}
 use Rattle.engine.proofs.Readings.{named_read, second_parts, zoned_parts}
 use Rattle.run_puts.specs.declared.puts.Status.TheVariants as status
 use Rattle.listing_run.specs.declared.text.ListingEnd.TheVariants as ends
@@ -33,6 +34,8 @@ module _ (one : ListingIsOne) (files : FileSet) (old new : Seen) (puts : List Pu
           zoned = zoned;
           values = v.values;
           written = all_written (listing k v.values end_line) old new puts (written ∙ ap (map whole_put) v.are) makes;
+          at = listing_times k v.values v.steps;
+          pairs = listing_pairs k valid v.values v.steps;
           encloses = v.encloses;
           choices = have_one k v.values valid v.steps;
         };

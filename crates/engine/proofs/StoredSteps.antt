@@ -1,7 +1,7 @@
 -- A step whose cells have storage has a floor and a ceiling.
 use Rattle.engine.proofs.Common.{◌≡◌, ◌≢◌, ℕ, Bool, true, cond, List, [], ◌∷◌, Result, Ok, Err, Option, Some, None, inl, inr, sym, ap, subst, arith, ℤ}
 use Rattle.engine.proofs.Common.{if◌then◌else◌, Plain, Limits, Decks, TimeStep, one_deck, Bound, NoBound, Entries, lower_at, upper_at, no_heads, no_budget}
-use Rattle.engine.proofs.Common.{no_zones, Wide, LeavesRange, HasLargeFlow, StorageHolds, faces_of, filter, pairs_below}
+use Rattle.engine.proofs.Common.{no_zones, Wide, LeavesRange, HasLargeFlow, StorageHolds, faces_of, filter, pairs_below, ZonePair}
 use Rattle.std.proofs.Common.{false}
 use Rattle.step_chain.specs.declared.solved.Solved.{Solved}
 use Rattle.step_problem.specs.declared.place.Dir.{Dir}
@@ -16,7 +16,6 @@ use Rattle.budget_bounds.specs.{◌>>=◌, all_terms, budget_of, is_small, term_
 use Rattle.problem_builder.specs.{fault_of}
 use Rattle.problem_builder.proofs.Steps.{a_refusal}
 use Rattle.zone_flows.specs.{each_or_first, flow_or_large, share, zone_flows, Face}
-use Rattle.zone_pairs.specs.declared.pair.ZonePair.{ZonePair}
 
 -- what a refusal is not
 abbrev IsOther : ℕ → Type 0

@@ -5,8 +5,8 @@ use Rattle.engine.proofs.Common.{or_bad_listing, one_valid, Text, end_line, IsLi
 use Rattle.engine.proofs.Common.{listing_read, steps_read, task_of, zones_read, IsCheck, certified_line, Defines, Limits, unit_is_short, IsReadable}
 use Rattle.engine.proofs.Common.{RunIsCertified, RunIsReadAgain, as_listed, Step, ChecksWritten, WrittenIsCertified, Task, reads, AreDecks, is_some, listing_in}
 use Rattle.engine.proofs.Common.{◌>>=◌, case_read, option_map, ListingOrder, Decks, read_by_name, OneSpan, span_task_of, have_one, AreItsSteps, OneListing}
+use Rattle.engine.proofs.Common.{run_encloses}
 use Rattle.zone_file.specs.{zones_of}
-use Rattle.check_run.proofs.FlowPairs.{run_encloses}
 use Rattle.command_line.proofs.DigitLemmas.{check_digits}
 use Rattle.zone_file.proofs.ZoneLemmas.{numbers_small}
 use Rattle.check_run.specs.declared.verdict.ListingVerdict.TheVariants.{Certified as Holds}
@@ -15,7 +15,7 @@ use Rattle.engine.proofs.DeckEnds.{case_within, to_check, within_defines}
 use Rattle.run_puts.specs.declared.puts.Status.TheVariants as status
 use Rattle.listing_run.specs.declared.text.ListingEnd.TheVariants as ends
 
-some_ok : (x y : Option (List ℕ)) → Path (Result (Option (List ℕ)) Refusal) (Ok x) (Ok y) → x ≡ y
+pub some_ok : (x y : Option (List ℕ)) → Path (Result (Option (List ℕ)) Refusal) (Ok x) (Ok y) → x ≡ y
 some_ok x y h = cc
 
 some_mapped : {A B : Type 0} (f : A → B) (x : Option A) → is_some (option_map f x) ≡ is_some x

@@ -1,11 +1,11 @@
 -- The headline of a batch: of each listing among its texts.
-use Rattle.std.specs.Prelude.{◌≡◌, ℕ, ℤ, List, false, [], ◌∷◌, ◌++◌, Ok, Err, Option}
+use Rattle.std.specs.Prelude.{◌≡◌, ℕ, ℤ, All, List, map, false, [], ◌∷◌, ◌++◌, Ok, Err, Option}
 use Rattle.std.specs.List.{AllZip, concat}
 use Rattle.std.specs.Io.KnownBytes.{Appends}
 use Rattle.outside.specs.{FileSet}
 use Rattle.outside.specs.declared.inputs.Refusal.{Refusal}
 use Rattle.model_types.specs.declared.model.FlowModel.{FlowModel}
-use Rattle.model_types.specs.{start_head, IsModel}
+use Rattle.model_types.specs.{start_head, times, IsModel}
 use Rattle.model_reader.specs.{reads}
 use Rattle.flow_equations.specs.{Solves}
 use Rattle.run_puts.specs.{Text, end_line, first_not_ok, texts}
@@ -34,6 +34,9 @@ pub record IsJobListing (b : AskedBatch) (files : FileSet) (name text : Text) : 
   pub only : b.quick ≡ false → (others : List Step) → AllSteps (job_task b model) others Whole → others ≡ values
   -- The text is the name and their listing.
   pub is : text ≡ model_line name ++ concat (listing (job_task b model) values end_line)
+  -- The block of each time step stands under its own line STEP; no zone file is named, and no flow between zones is listed.
+  pub at : map (λ v. v.at) values ≡ times model
+  pub pairs : All (λ v. v.zones ≡ []) values
   -- Every history over any denominator d that solves the model's exact equations lies between them.
   pub encloses : (d : ℕ) (history : List (ℕ → ℤ)) → Solves model d history → BoundAll (job_task b model) model d (start_head model) values history
   -- And there is one: a history solves them, and any two are the same heads at all active cells, step by step.

@@ -14,6 +14,7 @@ pub mod Runs
 pub mod Storage
 pub mod Parts
 pub mod Written
+pub mod Stated
 pub mod Serving
 pub mod Batched
 pub mod BatchReads
@@ -26,6 +27,7 @@ pub use Rattle.engine.specs.Checked.{IsCheck, certified_line, verdict_line, verd
 pub use Rattle.engine.specs.Commands.{MayRead}
 pub use Rattle.engine.specs.Decks.{IsDeck, OneDeck}
 pub use Rattle.engine.specs.Defined.{CutOf, Defines, Due, IsDue, IsJobEnd, IsRunText, JobDefines, ReadsFolder, broken_off, defined, model_line, unread}
+pub use Rattle.engine.specs.Headline.{ListsPairs}
 pub use Rattle.engine.specs.Made.{IsMade, made_task, summed_text}
 pub use Rattle.engine.specs.OneListing.{AreItsSteps, OneSummary, OneVerdict}
 pub use Rattle.engine.specs.Parts.{Answers, AnswersBeside, AreDecksAs, AreDecksOf, IsListed, IsNamedFault, IsNoSecond, IsReadingEnd, IsStopped, IsUnlikeFault}
@@ -33,6 +35,7 @@ pub use Rattle.engine.specs.Parts.{IsValid, IsValidJob, made_fault, second_by}
 pub use Rattle.engine.specs.Runs.{EndIsDefined, EndsOk, GoesThrough, GoesWell, IsPlain, IsPlainJob, IsRunOf}
 pub use Rattle.engine.specs.Serving.{HeadlineOf, IsProgramEnd, IsRunResult, IsStopNumber, OneOf, bytes_asked, files_if, files_named, files_of, limits_asked}
 pub use Rattle.engine.specs.SpanHeadline.{ArePairOf, OneSpan, SpanVerdict}
+pub use Rattle.engine.specs.Stated.{DeckAndListingAreStated, DeckHasSameListing, DecksAndListingAreStated, SameDeckHasSameModel, SameModelHasSameListing}
 pub use Rattle.engine.specs.Storage.{StorageHolds}
 pub use Rattle.engine.specs.TwoDecks.{IsDecksRefusal, Second, not_alike, of_both, of_first, of_second}
 unfoldable pub use Rattle.engine.specs.TwoDecks.{second_in}

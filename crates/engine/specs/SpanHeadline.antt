@@ -1,5 +1,5 @@
 -- The headline of a run of all models between two decks, and of the check of such a listing.
-use Rattle.std.specs.Prelude.{◌≡◌, ℕ, ℤ, true, List, Ok, Option}
+use Rattle.std.specs.Prelude.{◌≡◌, ℕ, ℤ, true, All, List, map, Ok, Option}
 use Rattle.std.specs.List.{concat}
 use Rattle.std.specs.Io.KnownBytes.{Appends}
 use Rattle.command_line.specs.{ListingOrder, AskedCheck}
@@ -19,6 +19,7 @@ use Rattle.check_run.specs.declared.verdict.ListingVerdict.TheVariants.{Certifie
 use Rattle.check_run.specs.{IsVerdict, checked_task, steps_of}
 use Rattle.engine.specs.Cases.{span_task_of, steps_read, zones_read}
 use Rattle.engine.specs.Checked.{certified_line}
+use Rattle.engine.specs.Headline.{ListsPairs}
 use Rattle.engine.specs.OneListing.{AreItsSteps}
 
 -- The files of two names read by limits as valid models that are alike: they differ only in numbers of their stresses and in STRT.
@@ -44,6 +45,9 @@ pub record SpanHeadline (asked : ListingOrder) (to : Text) (files : FileSet) (ol
   -- The listing of some values, which are the heads, the budget and the flows between zones of each step, was appended, and nothing else.
   pub values : List Step
   pub written : Appends old new (concat (listing (span_task_of asked decks.first decks.second zones) values end_line))
+  -- The block of each time step, which the two decks share, stands under its own line STEP, and lists the flow between each two zones that share a face.
+  pub at : map (λ v. v.at) values ≡ times decks.first
+  pub pairs : All (ListsPairs decks.first zones) values
   -- Every history between the two decks over any denominator d lies between them.
   pub encloses : (d : ℕ) (history : List (ℕ → ℤ)) (h : SolvesBetween decks.first decks.second d history) →
       BoundBetween (span_task_of asked decks.first decks.second zones) decks.first decks.second d (start_head h.first)

@@ -1,5 +1,6 @@
 // Laws of what is defined. Each is the contract of an empty function, but for the laws below that it calls.
-ghost use Rattle.engine.specs.{OneListingIsCertified, OneSpanIsCertified, WrittenIsCertified, StorageHolds, WorkersChangeNoCase};
+ghost use Rattle.engine.specs.{OneListingIsCertified, OneSpanIsCertified, WrittenIsCertified, StorageHolds, WorkersChangeNoCase, DeckAndListingAreStated};
+ghost use Rattle.engine.specs.{DecksAndListingAreStated, SameModelHasSameListing, DeckHasSameListing, SameDeckHasSameModel};
 
 use check_run::laws::{run_is_certified, run_is_read_again};
 
@@ -29,3 +30,21 @@ pub fn one_listing_is_certified()
 {
     written_is_certified();
 }
+
+/// What `write` and then `run` put of the same files is the text of a deck and then a listing, and every history of this deck's
+/// model lies within the listing: of one deck, and of two.
+pub fn deck_and_listing_are_stated()
+    ensures one { DeckAndListingAreStated }
+    ensures two { DecksAndListingAreStated }
+{}
+
+/// Files that read as one model have one listing: so a deck that `write` put has the listing of the files that it was written from.
+pub fn same_model_has_same_listing()
+    ensures model { SameModelHasSameListing }
+    ensures deck { DeckHasSameListing }
+{}
+
+/// Two models that are read, and whose decks have the same files, are one model.
+pub fn same_deck_has_same_model()
+    ensures { SameDeckHasSameModel }
+{}

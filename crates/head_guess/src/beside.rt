@@ -98,7 +98,7 @@ pub fn guess_in_two_threads<'a, R: Threads>(
     ensures { IfOk result (λ g. AreWords p.now (Guess.bounds g).items) }
 {
     let links = Links::of(alloc, p)?;
-    let pattern = kept.eliminable.pattern(alloc, &links)?;
+    let pattern = kept.eliminable.pattern(alloc, &links, false)?;
     let step = Step {
         alloc,
         problem: p,

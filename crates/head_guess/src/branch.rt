@@ -15,6 +15,9 @@ pub struct Known {
     pub head: i64,
 }
 
+// Bounds are far apart if they differ by more than 2^-10 of the conductance, as they may between two models.
+const APART: u32 = 10;
+
 /// The product of two numbers.
 pub fn product(a: i64, b: i64) -> i128 {
     a as i128 * b as i128
@@ -38,6 +41,31 @@ impl Branch {
             lo: to_signed(lo),
             hi: to_signed(hi),
         }
+    }
+
+    // Whether a side's balances bend where its flow turns round, against the way in which drains bend. The lower side bends one way.
+    fn bends(&self, side: Side) -> bool {
+        match side {
+            Side::Low => false,
+            Side::High => self.hi.saturating_sub(self.lo) > self.lo >> APART,
+        }
+    }
+
+    /// The branch as it is where the other end is higher by `rise`, for flows of either sign, if it bends.
+    pub fn line(&self, side: Side, rise: i64) -> Branch {
+        if !self.bends(side) {
+            return *self;
+        }
+        let conductance = if rise >= 0 { self.lo } else { self.hi };
+        Branch {
+            lo: conductance,
+            hi: conductance,
+        }
+    }
+
+    /// Whether it bends between these two rises.
+    pub fn bends_between(&self, side: Side, one: i64, other: i64) -> bool {
+        (one >= 0) != (other >= 0) && self.bends(side)
     }
 
     /// The flow into a cell from a head that is higher by `rise`.

@@ -9,11 +9,15 @@ use std::alloc::{AllocError, Global};
 // cycles that stay unsolved.
 const MOST_OPERATIONS: u64 = 12_000;
 
+// And with at most this number where nothing else solves a system.
+const MOST_OF_DEAR: u64 = 100_000;
+
 /// What is known of the elimination of a problem's links. It is kept from one step to the next, since links stay.
 #[derive(Drop)]
 pub enum Eliminable {
     Unknown,
-    No,
+    /// A pattern has more than this number of operations for each cell.
+    No(u64),
     Yes(Pattern),
 }
 
@@ -29,33 +33,40 @@ fn couple_cells(matrix: &mut Matrix, links: &Links) -> Result<(), AllocError> {
 }
 
 impl Eliminable {
-    // That of these links.
-    fn of(alloc: Global, links: &Links) -> Result<Eliminable, AllocError> {
+    // That of these links, with at most this number of operations for each cell.
+    fn of(alloc: Global, links: &Links, most: u64) -> Result<Eliminable, AllocError> {
         let mut matrix = Matrix::new(alloc);
         let coupled = couple_cells(&mut matrix, links);
         let matrix = filled_value(matrix, coupled)?;
-        let most = MOST_OPERATIONS.saturating_mul(links.len() as u64);
-        let pattern = Pattern::new(alloc, &matrix, most);
+        let operations = most.saturating_mul(links.len() as u64);
+        let pattern = Pattern::new(alloc, &matrix, operations);
         drop(matrix);
         Ok(match pattern? {
             Some(pattern) => Eliminable::Yes(pattern),
-            None => Eliminable::No,
+            None => Eliminable::No(most),
         })
     }
 
-    /// The pattern of these links, if elimination pays. It is found once: another number of cells has another pattern.
+    /// The pattern of these links, if elimination pays, or is the last way and may be dear. It is found once: another number of cells has another
+    /// pattern.
     pub fn pattern(
         &mut self,
         alloc: Global,
         links: &Links,
+        may_be_dear: bool,
     ) -> Result<Option<&Pattern>, AllocError> {
+        let most = if may_be_dear {
+            MOST_OF_DEAR
+        } else {
+            MOST_OPERATIONS
+        };
         let is_known = match self {
             Eliminable::Unknown => false,
-            Eliminable::No => true,
+            Eliminable::No(tried) => most <= *tried,
             Eliminable::Yes(pattern) => pattern.len() == links.len(),
         };
         if !is_known {
-            *self = Eliminable::of(alloc, links)?;
+            *self = Eliminable::of(alloc, links, most)?;
         }
         Ok(match self {
             Eliminable::Yes(pattern) => Some(pattern),

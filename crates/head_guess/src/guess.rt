@@ -90,7 +90,7 @@ pub fn guess_heads<'a>(
     ensures { IfOk result (λ g. AreWords p.now (Guess.bounds g).items) }
 {
     let links = Links::of(alloc, p)?;
-    let pattern = kept.eliminable.pattern(alloc, &links)?;
+    let pattern = kept.eliminable.pattern(alloc, &links, false)?;
     let step = Step {
         alloc,
         problem: p,

@@ -32,5 +32,5 @@ mod work;
 
 pub use beside::guess_in_two_threads;
 pub use guess::{Guess, guess_heads};
-pub use pair::guess_pair;
+pub use pair::{Failed, guess_pair};
 pub use steps::Kept;

@@ -1,5 +1,6 @@
 // The linear system of a round of Newton's method, with a method to solve it: conjugate gradients or elimination. It is kept while its slopes
 // hardly change, from one side to the other too.
+use crate::links::Links;
 use crate::system::{matrix_of, scale_of, slack_of, visits_of_factor, visits_of_solution};
 use crate::work::Work;
 use multigrid::Levels;
@@ -11,21 +12,29 @@ use std::mem;
 // Making the levels takes about this many visits at each cell.
 const VISITS_OF_LEVELS: u64 = 20;
 
-// Rounds of conjugate gradients, and those for the room.
+// Rounds of conjugate gradients, those for the room, and those where no elimination would follow: then a room to a few parts in a hundred will do.
 const ROUNDS: u32 = 30;
 
 const ROUNDS_OF_ROOM: u32 = 60;
+
+const FEW_ROUNDS_OF_ROOM: u32 = 9;
 
 // The bits to which residuals are solved, at least and at most.
 const LEAST_BITS: u32 = 4;
 
 const MOST_BITS: u32 = 18;
 
+// Those where the slopes change after the round.
+const BITS_OF_BENT: u32 = 13;
+
 // The room is found to 2^-10 of itself.
 const BITS_OF_ROOM: u32 = 10;
 
-// Elimination always pays with at most this number of operations for each cell, as in a layer of 256 x 256.
+// Elimination always pays with at most this number of operations for each cell, as in a layer of 256 x 256, where slopes stay as they are.
 const FEW_OPERATIONS: u64 = 1_500;
+
+// With at most this number of cells it pays where slopes change from round to round, too.
+const FEW_CELLS: usize = 4_096;
 
 /// A system with what its method needs: conjugate gradients with multigrid cycles, or elimination.
 enum Method {
@@ -76,11 +85,15 @@ pub struct Linear {
     pub is_hard: bool,
 }
 
-// Whether elimination pays: it takes few operations, or cycles have taken as many visits as a factor does, or have left a system unsolved.
-fn pays(pattern: &Pattern, visits: u64, is_hard: bool) -> bool {
-    is_hard
-        || pattern.operations <= FEW_OPERATIONS.saturating_mul(pattern.len() as u64)
-        || visits >= visits_of_factor(pattern)
+// Whether a factor takes few operations, and serves more than a round of Newton's method or has few cells.
+fn is_cheap(pattern: &Pattern, links: &Links) -> bool {
+    pattern.operations <= FEW_OPERATIONS.saturating_mul(pattern.len() as u64)
+        && (pattern.len() <= FEW_CELLS || links.are_nearly_straight())
+}
+
+// Whether elimination pays: it is cheap, or cycles have taken as many visits as a factor does, or have left a system unsolved.
+fn pays(pattern: &Pattern, links: &Links, visits: u64, is_hard: bool) -> bool {
+    is_hard || visits >= visits_of_factor(pattern) || is_cheap(pattern, links)
 }
 
 // The factor of a system, if the system fits the pattern.
@@ -144,7 +157,7 @@ impl Linear {
             None => (0, false),
         };
         let pattern = match work.side.pattern {
-            Some(pattern) if pays(pattern, visits, is_hard) => Some(pattern),
+            Some(pattern) if pays(pattern, work.side.links, visits, is_hard) => Some(pattern),
             _ => None,
         };
         if let Some(last) = last {
@@ -196,6 +209,16 @@ impl Linear {
         self.unknowns(work, ROUNDS, bits)
     }
 
+    /// How small a residual has to be, in bits, for unknowns of 2^-places in a round of Newton's method after which the slopes change: a factor
+    /// leaves nothing anyway.
+    pub fn bits_of_bent(&self, bits: u32) -> u32 {
+        if self.method.is_by_cycles() {
+            bits.max(BITS_OF_BENT)
+        } else {
+            bits
+        }
+    }
+
     /// How small a residual has to be, in bits, for unknowns of 2^-places: where the room is known, so small that what is left moves no head by half a unit.
     pub fn bits(&self, places: i64) -> u32 {
         let Some(room) = &self.room else {
@@ -222,13 +245,13 @@ impl Linear {
     }
 
     // Solves for the room. Its visits say nothing of those for other solutions.
-    fn solve_room(&mut self, work: &mut Work) -> Result<(), AllocError> {
+    fn solve_room(&mut self, work: &mut Work, rounds: u32) -> Result<(), AllocError> {
         let (scale, visits) = (self.scale, self.visits);
         let rights = self.method.right_side().iter_mut();
         for (right, slope) in rights.zip(self.slopes.as_slice()) {
             *right = shift(*slope as i128, 20).wrapping_shr(scale);
         }
-        let unknowns = self.unknowns(work, ROUNDS_OF_ROOM, BITS_OF_ROOM).iter();
+        let unknowns = self.unknowns(work, rounds, BITS_OF_ROOM).iter();
         let room = unknowns
             .map(|unknown| (*unknown >> 10).max(0))
             .collect(work.side.alloc)?;
@@ -240,13 +263,16 @@ impl Linear {
     // Finds the room, by elimination where cycles do not solve it.
     fn find_room(&mut self, work: &mut Work) -> Result<(), AllocError> {
         let pattern = work.side.pattern;
-        self.solve_room(work)?;
-        if !self.method.is_by_cycles() || self.is_solved(BITS_OF_ROOM) || pattern.is_none() {
+        if pattern.is_none() {
+            return self.solve_room(work, FEW_ROUNDS_OF_ROOM);
+        }
+        self.solve_room(work, ROUNDS_OF_ROOM)?;
+        if !self.method.is_by_cycles() || self.is_solved(BITS_OF_ROOM) {
             return Ok(());
         }
         let linear = Linear::new(work, self.slopes.clone()?, pattern, true)?;
         drop(mem::replace(self, linear));
-        self.solve_room(work)
+        self.solve_room(work, ROUNDS_OF_ROOM)
     }
 
     /// The room at each cell, in units of 2^-10: how far all heads move together when each cell's balance changes by its slope. It is not

@@ -13,12 +13,15 @@ const MOST_ROUNDS: u32 = 60;
 
 // A round of Newton's method may be the last one if it began with shorter moves than these, by each balance alone and in all: a solved system
 // leaves few units of them.
-const SHORT: i64 = 1 << 12;
+const SHORT: i64 = 1 << 15;
 
-const LONG: i128 = 1 << 20;
+const LONG: i128 = 1 << 24;
 
 // A round is the last one if it moves no head by more than these units: few cells pass a bend.
 const NEAR: i128 = 256;
+
+// After a round that began with longer moves another one follows in any case where balances bend.
+const FAR_FROM_LAST: i64 = 1 << 14;
 
 // The longest move leaves at most this part of it, if its system was solved.
 const BITS_OF_SLACK: u32 = 12;
@@ -70,7 +73,7 @@ impl Newton {
                 foot: at(heads, cell).saturating_add(slack),
                 top: at(self.tops.as_slice(), cell),
             };
-            let (balance, slope) = side.piece(cell, heads, bends);
+            let (balance, slope) = side.held(cell, at(heads, cell), side.piece(cell, heads, bends));
             put(self.balances.as_mut_slice(), cell, balance);
             put(self.slopes.as_mut_slice(), cell, slope);
         }
@@ -81,7 +84,7 @@ impl Newton {
         let mut has_changed = false;
         for (cell, head) in self.heads.iter().enumerate() {
             let top = at(self.tops.as_slice(), cell);
-            has_changed = has_changed || side.is_top_between(cell, top, *head);
+            has_changed = has_changed || side.changes_between(cell, top, *head);
             put(self.tops.as_mut_slice(), cell, *head);
         }
         has_changed
@@ -136,16 +139,16 @@ impl Newton {
         longest
     }
 
-    // Moves the heads by unknowns of 2^-places, and returns the longest move.
+    // Moves the heads by unknowns of 2^-places, none below its floor, and returns the longest move that was made.
     fn advance(&mut self, side: &OneSide, unknowns: &[i64], places: i64) -> i128 {
         let mut longest = 0_i128;
         let half = shift(1, places.saturating_sub(1));
         for cell in 0..self.heads.len() {
             let unknown = (at(unknowns, cell) as i128).wrapping_add(half);
             let way = shift(unknown, 0_i64.saturating_sub(places));
-            longest = longest.max(way.saturating_abs());
             let head = at(self.heads.as_slice(), cell);
             let moved = side.above_floor(cell, (head as i128).saturating_add(way));
+            longest = longest.max(moved.abs_diff(head) as i128);
             put(self.heads.as_mut_slice(), cell, moved);
         }
         longest
@@ -161,7 +164,10 @@ impl Newton {
         linear: &mut Linear,
     ) -> (i128, bool) {
         let places = 20_i64.saturating_sub(width(alone as i128) as i64);
-        let bits = linear.bits(places);
+        let mut bits = linear.bits(places);
+        if alone > FAR_FROM_LAST && !work.side.links.are_nearly_straight() {
+            bits = linear.bits_of_bent(bits);
+        }
         let unknowns = linear.solve(work, self.balances.as_slice(), places, bits);
         let longest = self.advance(work.side, unknowns, places);
         let is_solved = linear.is_solved(bits);
@@ -187,12 +193,15 @@ impl Newton {
             if until == Until::Near && alone < SHORT {
                 break;
             }
+            let slack = self.slack;
             let (longest, is_last) = self.step(work, until, alone, linear);
             if work.budget.is_spent() {
                 break;
             }
             self.linearize(work.side);
-            if longest <= NEAR || is_last && linear.is_near(self.slopes.as_slice()) {
+            // A ramp whose foot is near counts by the slack before the move, and may not by the one after it.
+            let is_still = longest <= NEAR && slack <= NEAR as i64;
+            if is_still || is_last && linear.is_near(self.slopes.as_slice()) {
                 if !self.set_tops(work.side) {
                     break;
                 }

@@ -155,6 +155,15 @@ impl OneSide<'_> {
         head <= self.floor(cell)
     }
 
+    /// A balance and its slope, or nothing for a cell that would fall below its floor: it is fixed there.
+    pub fn held(&self, cell: usize, head: i64, piece: (i128, i64)) -> (i128, i64) {
+        if head == self.floor(cell) && piece.0 < 0 {
+            (0, 0)
+        } else {
+            piece
+        }
+    }
+
     /// The nearest head that is in range and not below the floor.
     pub fn above_floor(&self, cell: usize, head: i128) -> i64 {
         let head = head.clamp(-LIMIT, LIMIT) as i64;

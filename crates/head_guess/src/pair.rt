@@ -23,6 +23,13 @@ const FEW_VISITS: u64 = 1_000;
 // With more cells than these a factor takes many operations, so a pattern is looked for only where cycles leave a system unsolved.
 const MANY: usize = 1 << 17;
 
+/// A pair that has failed, which may be any, and how many have failed up to this one.
+#[derive(Clone, Copy)]
+pub struct Failed<'a> {
+    pub pair: &'a [Bound],
+    pub tries: u32,
+}
+
 // One side of a pair: heads near balanced ones, and the heads below them, all turned.
 #[derive(Drop)]
 struct HalfPair {
@@ -92,43 +99,52 @@ fn high_half(
     half_pair(work, start, kept)
 }
 
-// From the heads of a side of a pair.
-fn wider_half(
+// The first tries after a failed pair only correct it, with the slopes there; later ones widen it.
+const TRIES_AS_NARROW: u32 = 2;
+
+// From the heads of a side of a failed pair.
+fn next_half(
     work: &mut Work,
-    pair: &[Bound],
+    failed: Failed,
     kept: &mut Option<Linear>,
 ) -> Result<HalfPair, AllocError> {
     let side = work.side;
-    let heads = pair
+    let heads = failed
+        .pair
         .iter()
         .map(|bound| head_on(side.side, bound.low, bound.high));
-    half_from(work, heads.collect(side.alloc)?, 2, kept)
+    let times = if failed.tries <= TRIES_AS_NARROW {
+        1
+    } else {
+        2
+    };
+    half_from(work, heads.collect(side.alloc)?, times, kept)
 }
 
-// One side of a pair: from balanced heads, the upper one from those of the lower side; or wider than a failed pair.
+// One side of a pair: from balanced heads, the upper one from those of the lower side; or from a failed pair.
 fn half_of(
     step: &Step,
     low: Option<&HalfPair>,
-    failed: Option<&[Bound]>,
+    failed: Option<Failed>,
     visits: u64,
     kept: &mut Option<Linear>,
 ) -> Result<HalfPair, AllocError> {
     let side = if low.is_some() { Side::High } else { Side::Low };
     on_side(step, side, visits, |work| match (failed, low) {
-        (Some(pair), _) => wider_half(work, pair, kept),
+        (Some(failed), _) => next_half(work, failed, kept),
         (None, Some(low)) => high_half(step, work, low, kept),
         (None, None) => half_pair(work, low_start(step, &None)?, kept),
     })
 }
 
-// Both sides, from balanced heads, or wider than a failed pair.
+// Both sides, from balanced heads, or from a failed pair.
 fn pair_of<'a>(
     alloc: Global,
     p: &'a Problem,
     b: &'a Barrier,
     links: &'a Links,
     pattern: Option<&'a Pattern>,
-    failed: Option<&[Bound]>,
+    failed: Option<Failed>,
     visits: u64,
     kept: &mut Option<Linear>,
 ) -> Result<Vec<Bound>, AllocError>
@@ -161,14 +177,22 @@ fn is_hard(kept: &Option<Linear>) -> bool {
     }
 }
 
+// Whether pairs that were corrected have failed, and cycles have left their systems unsolved: then elimination may take many operations.
+fn may_be_dear(failed: Option<Failed>, kept: &Option<Linear>) -> bool {
+    match failed {
+        Some(failed) => failed.tries >= TRIES_AS_NARROW && is_hard(kept),
+        None => false,
+    }
+}
+
 /// Bounds of the heads that may be a certificate of a problem and a barrier: balanced heads, moved outwards so that each balance is about the
-/// slope at its cell, and rounded outwards. If a pair has failed, which may be any: heads moved from it so that each balance is about twice the
-/// slope. It begins with what the last pair or guess has kept, which may be that of any problem.
+/// slope at its cell, and rounded outwards. If a pair has failed: heads moved from it so that each balance is about the slope, or twice that
+/// after some tries. It begins with what the last pair or guess has kept, which may be that of any problem.
 pub fn guess_pair(
     alloc: Global,
     p: &Problem,
     b: &Barrier,
-    failed: Option<&[Bound]>,
+    failed: Option<Failed>,
     kept: &mut Kept,
 ) -> Result<Vec<Bound>, AllocError>
     ensures { IfOk result (λ v. AreWords p.now v.items) }
@@ -181,6 +205,12 @@ pub fn guess_pair(
             return Ok(pair);
         }
     }
-    let pattern = kept.eliminable.pattern(alloc, &links)?;
-    pair_of(alloc, p, b, &links, pattern, failed, VISITS, linear)
+    let is_dear = may_be_dear(failed, linear);
+    let pattern = kept.eliminable.pattern(alloc, &links, is_dear)?;
+    let visits = if pattern.is_none() {
+        FEW_VISITS
+    } else {
+        VISITS
+    };
+    pair_of(alloc, p, b, &links, pattern, failed, visits, linear)
 }

@@ -13,7 +13,8 @@ pub struct Ramp {
     top: i64,
 }
 
-/// The heads by which a ramp is taken as flat: below its foot by the one, above its top by the other.
+/// The heads by which a ramp is taken as flat: below its foot by the one, above its top by the other. The latter says which conductance counts
+/// where bounds are far apart, too.
 #[derive(Clone, Copy)]
 pub struct Bends {
     pub foot: i64,
@@ -23,9 +24,11 @@ pub struct Bends {
 // Rivers and drains have no top.
 const NO_TOP: i64 = i64::MAX;
 
-// What flows out only, from an elevation on. Its greater conductance counts on the lower side.
+// What flows out only, from an elevation on. Its greater conductance counts on the lower side. Where two models differ the elevation may be
+// above the top on the upper side: then nothing flows.
 fn outlet_ramp(side: Side, lo: u64, hi: u64, elevation: i64, top: i64) -> Ramp {
     let conductance = match side {
+        _ if is_above(side, elevation, top) => 0,
         Side::Low => hi,
         Side::High => lo,
     };
@@ -120,8 +123,8 @@ impl Ramp {
         }
     }
 
-    /// Whether a head is above the top.
-    pub fn is_topped(&self, side: Side, head: i64) -> bool {
+    // Whether a head is above the top.
+    fn is_topped(&self, side: Side, head: i64) -> bool {
         is_above(side, head, self.top)
     }
 
@@ -131,14 +134,23 @@ impl Ramp {
         self.foot.abs_diff(head) <= units || self.top.abs_diff(head) <= units
     }
 
+    /// Whether its line by one head is not that by another one: either is above the top, or its flow has turned round.
+    pub fn changes_between(&self, side: Side, one: i64, other: i64) -> bool {
+        let (rise, other_rise) = (self.zero.wrapping_sub(one), self.zero.wrapping_sub(other));
+        self.is_topped(side, one) != self.is_topped(side, other)
+            || self.branch.bends_between(side, rise, other_rise)
+    }
+
     /// The flow into the cell and its slope, where the ramp is flat by these bends alone: else it goes on beyond its foot and its top.
     pub fn piece(&self, side: Side, own: i64, bends: Bends) -> (i128, i64) {
+        let branch = self.branch.line(side, self.zero.wrapping_sub(bends.top));
+        let line = Ramp { branch, ..*self };
         if self.is_topped(side, bends.top) {
-            (self.branch_flow(self.top), 0)
+            (line.branch_flow(self.top), 0)
         } else if is_above(side, self.foot, bends.foot) {
-            (self.branch_flow(self.foot), 0)
+            (line.branch_flow(self.foot), 0)
         } else {
-            (self.branch_flow(own), self.branch_fall(own))
+            (line.branch_flow(own), line.branch_fall(own))
         }
     }
 }

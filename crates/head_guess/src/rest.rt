@@ -12,6 +12,11 @@ const PLACES: u32 = 14;
 // The bits of its residuals: they are at most 2^-5 of each slope.
 const BITS: u32 = 9;
 
+// Where heads move too far for those places: few places, and residuals of at most 2^-4 of each slope.
+const FEW_PLACES: u32 = 4;
+
+const FEW_BITS: u32 = 0;
+
 // What is left as a balance: the slope as often, and the part of it by which the solution may be off. Rounding changes a balance by at most
 // its slope, so that the sign of what is left is sure where balances are straight.
 fn rest_of(slope: i64, times: i64) -> i128 {
@@ -24,28 +29,35 @@ fn corrected_heads(
     linear: &mut Linear,
     heads: &[i64],
     balances: &[i128],
+    places: u32,
+    bits: u32,
 ) -> Result<Vec<i64>, AllocError> {
-    let unknowns = linear.solve(work, balances, PLACES as i64, BITS);
-    let way = |cell| 0_i128.saturating_sub((at(unknowns, cell) as i128).wrapping_shr(PLACES));
+    let unknowns = linear.solve(work, balances, places as i64, bits);
+    let way = |cell| 0_i128.saturating_sub((at(unknowns, cell) as i128).wrapping_shr(places));
     work.side.heads_below(heads, way)
 }
 
-// By how much each balance exceeds what is to be left of it.
+// By how much each balance exceeds what is to be left of it. A cell that would fall below its floor is fixed there: its slope is 0 from then on.
 fn excess_balances(
     side: &OneSide,
     heads: &[i64],
-    slopes: &[i64],
+    slopes: &mut [i64],
     times: i64,
 ) -> Result<Vec<i128>, AllocError> {
     let mut balances = Vec::with_capacity(side.alloc, slopes.len())?;
-    for (cell, slope) in slopes.iter().enumerate() {
-        let balance = side.balance(cell, at(heads, cell), heads);
-        balances.push(balance.wrapping_sub(rest_of(*slope, times)))?;
+    for (cell, slope) in slopes.iter_mut().enumerate() {
+        let head = at(heads, cell);
+        let excess = side
+            .balance(cell, head, heads)
+            .wrapping_sub(rest_of(*slope, times));
+        let (balance, held) = side.held(cell, head, (excess, *slope));
+        *slope = held;
+        balances.push(balance)?;
     }
     Ok(balances)
 }
 
-// Corrected heads by the system of these slopes, and by elimination where cycles leave it unsolved.
+// Corrected heads by the system of these slopes, by elimination where cycles leave it unsolved, and in few places where that does, too.
 fn solved_heads(
     work: &mut Work,
     heads: &[i64],
@@ -53,14 +65,16 @@ fn solved_heads(
     balances: &[i128],
     kept: &mut Option<Linear>,
 ) -> Result<Vec<i64>, AllocError> {
-    let linear = Linear::of(work, slopes, kept)?;
-    let lower = corrected_heads(work, linear, heads, balances)?;
-    if linear.is_solved(BITS) || work.side.pattern.is_none() {
-        return Ok(lower);
+    for _ in 0..2 {
+        let linear = Linear::of(work, slopes, kept)?;
+        let lower = corrected_heads(work, linear, heads, balances, PLACES, BITS)?;
+        if linear.is_solved(BITS) || work.side.pattern.is_none() {
+            return Ok(lower);
+        }
+        drop(lower);
     }
-    drop(lower);
     let linear = Linear::of(work, slopes, kept)?;
-    corrected_heads(work, linear, heads, balances)
+    corrected_heads(work, linear, heads, balances, FEW_PLACES, FEW_BITS)
 }
 
 /// Heads at which each slope is left as often, by one round of Newton's method from these heads. The linear system is kept.
@@ -70,8 +84,8 @@ pub fn leave_rest(
     times: i64,
     kept: &mut Option<Linear>,
 ) -> Result<Vec<i64>, AllocError> {
-    let slopes = work.side.slopes(heads)?;
-    let balances = excess_balances(work.side, heads, slopes.as_slice(), times)?;
+    let mut slopes = work.side.slopes(heads)?;
+    let balances = excess_balances(work.side, heads, slopes.as_mut_slice(), times)?;
     let lower = solved_heads(work, heads, slopes.as_slice(), balances.as_slice(), kept);
     drop(slopes);
     drop(balances);

@@ -56,14 +56,34 @@ impl OneSide<'_> {
         sum
     }
 
-    /// The balance of a cell and its slope, where its ramps are flat by these bends alone.
+    // What the balance and the slope of a cell gain if each branch to a known head is a line, as it is by the head `top`.
+    fn line_gain(&self, row: &Row, own: i64, top: i64) -> (i128, i64) {
+        let (mut balance, mut slope) = (0_i128, 0_i64);
+        for known in self.knowns(row) {
+            let branch = known.branch;
+            let line = branch.line(self.side, known.head.wrapping_sub(top));
+            let above = own.wrapping_sub(known.head);
+            let rise = known.head.wrapping_sub(own);
+            balance = balance
+                .wrapping_add(line.inflow(rise))
+                .wrapping_sub(branch.inflow(rise));
+            slope = slope
+                .saturating_add(line.unit_loss(above))
+                .saturating_sub(branch.unit_loss(above));
+        }
+        (balance, slope)
+    }
+
+    /// The balance of a cell and its slope, where its ramps and its branches to known heads are lines by these bends alone.
     pub fn piece(&self, cell: usize, heads: &[i64], bends: Bends) -> (i128, i64) {
         let row = self.links.row(cell);
         let own = at(heads, cell);
         let mut balance = self.straight_balance(cell, &row, own, heads);
         let left = self.straight_fall(&row, own.saturating_sub(1), |other| at(heads, other));
         let right = self.straight_fall(&row, own, |other| at(heads, other));
-        let mut slope = left.max(right);
+        let (gain, more) = self.line_gain(&row, own, bends.top);
+        balance = balance.wrapping_add(gain);
+        let mut slope = left.max(right).saturating_add(more);
         for ramp in self.ramps(&row) {
             let (flow, fall) = ramp.piece(self.side, own, bends);
             balance = balance.wrapping_add(flow);
@@ -79,10 +99,19 @@ impl OneSide<'_> {
             .any(|ramp| ramp.bends_within(head, units))
     }
 
-    /// Whether one of two heads of a cell is above the top of a ramp, and the other is not.
-    pub fn is_top_between(&self, cell: usize, one: i64, other: i64) -> bool {
-        self.ramps(&self.links.row(cell)).iter().any(|ramp| ramp.is_topped(self.side, one)
-            != ramp.is_topped(self.side, other))
+    /// Whether a ramp of a cell or a branch to a known head is another line by one of two heads than by the other.
+    pub fn changes_between(&self, cell: usize, one: i64, other: i64) -> bool {
+        let row = self.links.row(cell);
+        let mut ramps = self.ramps(&row).iter();
+        let mut knowns = self.knowns(&row).iter();
+        ramps.any(|ramp| ramp.changes_between(self.side, one, other))
+            || knowns.any(|known| {
+                let (rise, other_rise) = (
+                    known.head.wrapping_sub(one),
+                    known.head.wrapping_sub(other),
+                );
+                known.branch.bends_between(self.side, rise, other_rise)
+            })
     }
 
     /// The slope of each balance: the greater one to either side of the cell's head.

@@ -17,7 +17,7 @@ pub use Rattle.model_text.specs.Lists.{heads_of, numbers_of}
 unfoldable pub use Rattle.model_text.specs.Lists.{evt_item_2, evt_items, evt_lines, list_item_2, list_item_5, list_item_6, list_lines, period_list, rch_item_2}
 unfoldable pub use Rattle.model_text.specs.Lists.{rch_items, rch_lines}
 pub use Rattle.model_text.specs.Readable.{HasPackage, IsBasic, LacksPackage, with_areas}
-pub use Rattle.model_text.specs.Written.{AreNames, IsFileName, IsReadAgain, deck_name, deck_names, file_type, file_unit, has, is_listed, lines_of, name_file}
-pub use Rattle.model_text.specs.Written.{package_file, packages}
+pub use Rattle.model_text.specs.Written.{AreNames, IsFileName, IsReadAgain, deck_files, deck_name, deck_names, file_type, file_unit, has, is_listed, lines_of}
+pub use Rattle.model_text.specs.Written.{name_file, package_file, packages}
 unfoldable pub use Rattle.model_text.specs.Written.{deck_text, file_line, file_text, file_texts, name_item, written}
 pub use Rattle.period_arrays.specs.{IsLayers}

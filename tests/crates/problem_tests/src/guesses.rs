@@ -2,7 +2,7 @@
 use crate::answers::push_settled;
 use crate::case::Case;
 use certified_pair::{BalancedGuesser, PairGuesser, QuickPairs, certified_pair};
-use head_guess::{Guess, Kept, guess_heads, guess_in_two_threads};
+use head_guess::{Failed, Guess, Kept, guess_heads, guess_in_two_threads};
 use near_settler::Guesser;
 use settle_driver::PlainSettler;
 use std::alloc::{AllocError, Global};
@@ -47,10 +47,10 @@ impl PairGuesser for Spoilt<'_> {
         alloc: Global,
         _p: &Problem,
         _b: &Barrier,
-        failed: Option<&[Bound]>,
+        failed: Option<Failed>,
         _kept: &mut Kept,
     ) -> Result<Vec<Bound>, AllocError> {
-        let Some(pair) = failed else {
+        let Some(Failed { pair, .. }) = failed else {
             return Vec::from_slice(alloc, self.bounds);
         };
         let wider = |bound: &Bound| Bound {

@@ -1,0 +1,103 @@
+-- What is promised over the text of a deck: how files are read has no part in it.
+use Rattle.std.specs.Prelude.{◌≡◌, ◌≤◌, ℕ, ℤ, false, [], All, List, length, map, ◌++◌, None, Ok, Option, Some}
+use Rattle.std.specs.List.{concat}
+use Rattle.std.specs.Io.KnownBytes.{Appends}
+use Rattle.command_line.specs.{ListingOrder}
+use Rattle.outside.specs.{FileSet, with_limit}
+use Rattle.model_types.specs.declared.model.FlowModel.{FlowModel}
+use Rattle.model_types.specs.declared.limits.Limits.{Limits}
+use Rattle.model_types.specs.{start_head, times, most_bytes, IsModel}
+use Rattle.model_reader.specs.{reads}
+use Rattle.array_text.specs.{IsShort}
+use Rattle.model_text.specs.{deck_name, deck_text, deck_files}
+use Rattle.flow_equations.specs.{Solves}
+use Rattle.deck_problems.specs.{one_deck}
+use Rattle.deck_span.specs.{SolvesBetween}
+use Rattle.step_chain.specs.{two}
+use Rattle.run_puts.specs.{Text, end_line}
+use Rattle.listing_run.specs.declared.solving.Step.{Step}
+use Rattle.listing_run.specs.{listing, BoundAll, BoundBetween}
+use Rattle.check_run.specs.{checked_task}
+use Rattle.exact_histories.specs.{HasHistory, AreSame, ChoicesHaveOne}
+use Rattle.engine.specs.Decks.{OneDeck}
+use Rattle.engine.specs.Headline.{Headline, ListsPairs}
+use Rattle.engine.specs.OneListing.{OneListing}
+use Rattle.engine.specs.SpanHeadline.{SpanHeadline}
+
+-- Between the bytes `old` and the bytes `new` stands the text of a deck, and then a listing of its model, with these zones of its cells
+-- if there is a zone file; and every history of heads that solves the manual's exact equations of this model lies, step by step and
+-- cell by cell, between the listed heads, with each of its budget flows between its terms, and each of its flows between two zones
+-- between its two numbers.
+pub record Stated (zones : Option (List ℕ)) (old new : Option (List ℕ)) : Type 0 where
+  -- The model is valid.
+  pub model : FlowModel
+  pub valid : IsModel model
+  -- Its deck, and then the listing of some values, which are the heads, the budget and the flows between zones of each step, was appended, and nothing else.
+  pub digits : ℕ
+  pub values : List Step
+  pub written : Appends old new (deck_text model ++ concat (listing (checked_task (one_deck model) digits zones) values end_line))
+  -- The block of each time step stands under its own line STEP, and lists the flow between each two zones that share a face.
+  pub at : map (λ v. v.at) values ≡ times model
+  pub pairs : All (ListsPairs model zones) values
+  -- Every history over any denominator d that solves the model's exact equations lies between them.
+  pub encloses : (d : ℕ) (history : List (ℕ → ℤ)) → Solves model d history →
+      BoundAll (checked_task (one_deck model) digits zones) model d (start_head model) values history
+  -- And there is one: a history solves them, and any two are the same heads at all active cells, step by step.
+  pub solvable : HasHistory model
+  pub one : (d e : ℕ) (history other : List (ℕ → ℤ)) → Solves model d history → Solves model e other → AreSame model d e history other
+
+-- The same of the texts of two decks, and then a listing of all models between them: every history of heads each step of which solves
+-- the manual's exact equations of some model between the two decks, chosen anew at each step, lies within it.
+pub record SpanStated (zones : Option (List ℕ)) (old new : Option (List ℕ)) : Type 0 where
+  -- The models are valid.
+  pub first : FlowModel
+  pub valid : IsModel first
+  pub second : FlowModel
+  pub valid_to : IsModel second
+  -- Both decks, and then the listing of some values, which are the heads, the budget and the flows between zones of each step, were appended, and nothing else.
+  pub digits : ℕ
+  pub values : List Step
+  pub written : Appends old new (deck_text first ++ (deck_text second ++ concat (listing (checked_task (two first second) digits zones) values end_line)))
+  -- The block of each time step stands under its own line STEP, and lists the flow between each two zones that share a face.
+  pub at : map (λ v. v.at) values ≡ times first
+  pub pairs : All (ListsPairs first zones) values
+  -- Every history between the two decks over any denominator d lies between them.
+  pub encloses : (d : ℕ) (history : List (ℕ → ℤ)) (h : SolvesBetween first second d history) →
+      BoundBetween (checked_task (two first second) digits zones) first second d (start_head h.first) (times first) values history h.steps
+  -- And each choice of models between has one: a history solves it, and any two are the same heads at all active cells, step by step.
+  pub choices : ChoicesHaveOne first second
+
+-- Laws.
+-- Where `heads write` has put the deck of some files, and then `heads run` a listing of the same files by the same limits, what they put is so.
+abbrev pub DeckAndListingAreStated : Type 0
+DeckAndListingAreStated =
+    (asked : ListingOrder) (files : FileSet) (old mid new : Option (List ℕ)) → OneDeck asked.limits asked.name files old mid →
+    (h : Headline asked files mid new) → Stated h.zones old new
+
+-- So it is where both decks were put, and then a listing of the two.
+abbrev pub DecksAndListingAreStated : Type 0
+DecksAndListingAreStated =
+    (asked : ListingOrder) (to : Text) (files : FileSet) (old mid last new : Option (List ℕ)) → OneDeck asked.limits asked.name files old mid →
+    OneDeck asked.limits to files mid last → (h : SpanHeadline asked to files last new) → SpanStated h.zones old new
+
+-- Two runs without --quick, by the same limits, digits and rounds, whose files read as the same model with the same zones, put the same bytes.
+abbrev pub SameModelHasSameListing : Type 0
+SameModelHasSameListing =
+    (asked : ListingOrder) (name : Text) (zones : Option Text) (files others : FileSet) (bytes anew : List ℕ) → asked.quick ≡ false →
+    (h : OneListing asked files (Some []) (Some bytes)) → (o : OneListing (record asked { name = name; zones = zones }) others (Some []) (Some anew)) →
+    o.headline.model ≡ h.headline.model → o.headline.zones ≡ h.headline.zones → anew ≡ bytes
+
+-- A run of a deck that `heads write` has put has the bytes of the run of the files that it was written from, without a zone file,
+-- where each IBOUND has at most 18 digits and no file of the deck is too long.
+abbrev pub DeckHasSameListing : Type 0
+DeckHasSameListing =
+    (asked : ListingOrder) (files : FileSet) (bytes anew : List ℕ) → asked.quick ≡ false → asked.zones ≡ None →
+    (h : OneListing asked files (Some []) (Some bytes)) → All IsShort h.headline.model.ibound →
+    All (λ f. length f.bytes ≤ most_bytes asked.limits) (deck_files h.headline.model) →
+    OneListing (record asked { name = deck_name }) (with_limit (most_bytes asked.limits) (deck_files h.headline.model)) (Some []) (Some anew) → anew ≡ bytes
+
+-- Two models that were read, whose decks have the same files, are the same model, where each IBOUND has at most 18 digits and no file is too long.
+abbrev pub SameDeckHasSameModel : Type 0
+SameDeckHasSameModel =
+    (limits : Limits) (files others : FileSet) (name other : Text) (a b : FlowModel) → reads limits files name ≡ Ok a → reads limits others other ≡ Ok b →
+    All IsShort a.ibound → All IsShort b.ibound → All (λ f. length f.bytes ≤ most_bytes limits) (deck_files a) → deck_files a ≡ deck_files b → a ≡ b

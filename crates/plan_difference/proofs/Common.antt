@@ -1,0 +1,25 @@
+-- Names that several proofs of this crate cite, of the crates below and of its own definitions, passed on from one place. Declares nothing.
+pub use Rattle.std.proofs.Common.{All, Bool, Contains, List, None, Option, Some, [], ap, arith, cond, false, get_or, inl, inr, length, mul-pos, nat_eq, neg_ℤ}
+pub use Rattle.std.proofs.Common.{negsuc, pos, refl, subst, suc, sym, true, zero, ℕ, ℤ, ◌*ℤ◌, ◌*◌, ◌++◌, ◌+ℤ◌, ◌-ℤ◌, ◌-◌, ◌<◌, ◌^◌, ◌∙◌, ◌∷◌, ◌≡◌, ◌≤ℤ◌, ◌≤◌}
+pub use Rattle.std.proofs.Math.IntN.{zero-*ℤ}
+pub use Rattle.std.proofs.Math.Nat.{le_of_mul-le-mul_right, mul-le-mul_left, mul-le-mul_right}
+pub use Rattle.std.proofs.lemmas.Int.{by_lt_z, clamps, ints}
+pub use Rattle.std.specs.List.{AllZip}
+pub use Rattle.cell_balance.proofs.Deep.{sub_mul}
+pub use Rattle.cell_balance.proofs.Denominators.{Goes, Goes-first, Goes-second, fraction_over, left_goes, right_goes}
+pub use Rattle.cell_balance.proofs.Enclosing.{same_over}
+pub use Rattle.cell_balance.proofs.ExactLaws.{heads_over}
+pub use Rattle.cell_balance.proofs.Ramps.{Ramp, net_flow, ramp_flow, rise, rise_grows}
+pub use Rattle.cell_balance.proofs.Scaling.{IsOver-minus, IsOver-none, IsOver-plus, IsOver-signed, IsOver-times, over_zero, positive_natural}
+pub use Rattle.cell_balance.specs.{CellEncloses, ExactCell, ExactDrain, ExactEvap, ExactFixed, ExactLink, ExactRiver, FixedEncloses, HasEqualEnds, HasLinkBack}
+pub use Rattle.cell_balance.specs.{balance, cell_at, drain_flow, evap_flow, fixed_flow, link_flow, minus, no_cell, river_flow, share}
+pub use Rattle.decimal_input.proofs.FloorLaws.{Same-sym, Same-trans, cancel_right, le-antisym, le-of, swap}
+pub use Rattle.decimal_input.specs.{Encloses, Fraction, IsOver, Ratio, as_fraction, fraction_total, whole}
+pub use Rattle.decimal_input.specs.Fractions.{Same, den, plus, times}
+pub use Rattle.decimal_input.specs.Ratios.{AtMost}
+pub use Rattle.plan_difference.specs.{AreInOneWeather, BoundsDifferences, DifferenceSolvesIt, DifferenceStepExists, DifferencesLieAbove, DifferencesLieBelow}
+pub use Rattle.plan_difference.specs.{EnclosesDifferences, IsDifferenceCell, IsDifferenceStep, IsOpenBranch, IsRampBranch, RampsShare}
+pub use Rattle.plan_difference.specs.{SolutionsBoundDifferences, flow_difference, greatest_balance, known_difference, known_differences, least_balance}
+pub use Rattle.plan_difference.specs.{least_of_ramp, most_of_ramp}
+pub use Rattle.step_problem.proofs.Leasts.{as_diff, diffs, mul_add, mul_assoc, mul_mono, mul_neg, same_diff}
+pub use Rattle.step_problem.specs.{entries_at, least, most, no_entries, total}

@@ -1,0 +1,8 @@
+mod Common
+pub mod Differences
+pub mod Shares
+pub mod Sames
+pub mod DifferenceBalance
+pub mod RampBranches
+pub mod DifferenceExists
+pub mod AnyWeather
