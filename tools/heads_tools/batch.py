@@ -84,9 +84,8 @@ def batch(
         run_parallel(path, jobs, options, at_once, is_written_only, out)
     elif not (fits_memory(jobs) and run_by_program(jobs, options, at_once or os.cpu_count() or 1)):
         with ThreadPoolExecutor(at_once or os.cpu_count() or 1) as pool:
-            for done, job in enumerate(
-                pool.map(lambda job: run(job.nam, options, job.listing, is_told=False) and job, jobs), 1
-            ):
+            ended = pool.map(lambda job: run(job.nam, options, job.listing, is_told=False), jobs)
+            for done, (job, _) in enumerate(zip(jobs, ended), 1):
                 print(f"{done} of {len(jobs)}: {job.name}", file=sys.stderr)
     table = path.with_suffix(".ends.csv")
     return 0 if is_written_only and way != "here" else collect(jobs, before, options, table, out)
@@ -121,16 +120,14 @@ def collect(
             output = new_output(job, old)
             last = read_text(output).rstrip("\n").rsplit("\n", 1)[-1] if output else ""
             meaning = explain(last, job.nam.parent, digits_of(options), options=options)
-            steps = cells = width = ""
+            steps, cells, width, sizes = 0, 0, "", ",,"
             if meaning.is_good:
                 listing = read_listing(job.listing)
                 keep_words(job.listing, job.nam.name, options)
-                steps, cells, width = (
-                    len(listing.steps),
-                    len(listing.cells),
-                    decimal_text(listing.widest()[0] if len(listing.cells) else 0, 9),
-                )
-            file.write(f"{job.name},{meaning.status},{last[:100]},{steps},{cells},{width}\n")
+                steps, cells = len(listing.steps), len(listing.cells)
+                width = decimal_text(listing.widest()[0] if cells else 0, 9)
+                sizes = f"{steps},{cells},{width}"
+            file.write(f"{job.name},{meaning.status},{last[:100]},{sizes}\n")
             good = meaning.is_good and f"END, {counted(steps, 'step')} of {counted(cells, 'cell')}, widest pair {width}"
             kept = (
                 ""

@@ -4,11 +4,10 @@ from __future__ import annotations
 from dataclasses import dataclass
 from fractions import Fraction
 
-from .listing import Listing
+from .listing import Cell, Listing
 from .model import Model
 from .text import Problem
 
-Cell = tuple[int, int, int]
 Weights = dict[Cell, Fraction]
 HALF = Fraction(1, 2)
 

@@ -170,7 +170,8 @@ class Bounds:
         model, active = self.model, np.flatnonzero(self.model.ibound.ravel())
         out = Listing(path, self.digits, model.deck.lenuni, cells=np.argwhere(model.ibound != 0) + 1, end="END")
         low, high = self.strt = pair_of_heads(model.deck.strt)
-        start, given = model.strt.ravel().copy(), {}
+        start = model.strt.ravel().copy()
+        given: Given = {}
         for p, period in enumerate(model.deck.periods):
             given = given_heads(model, p, given)
             for number in range(1, period.nstp + 1):

@@ -122,7 +122,8 @@ def cell(text: str) -> tuple[int, int, int]:
     parts = text.replace(" ", ",").split(",")
     if len(parts) != 3 or not all(p.isdigit() for p in parts):
         raise argparse.ArgumentTypeError("a cell is K,I,J: layer, row, column")
-    return tuple(map(int, parts))
+    layer, row, column = map(int, parts)
+    return layer, row, column
 
 
 class Wrong(Problem):

@@ -144,7 +144,7 @@ def run_model(args: argparse.Namespace, options: list[str], out: IO[str]) -> Ran
 def without_listing(ended: Ended, meaning: Meaning, target: Path, out: IO[str]) -> Ran:
     """Says how a run ended that wrote no whole listing."""
     lines = meaning.lines if not meaning.is_good else [f"The run ended with status {ended.status} after its last line."]
-    if ended.output != target:
+    if ended.output is not None and ended.output != target:
         kept = f"{target} is that of an earlier run and was left; this run's output is {ended.output.name}"
         lines = [*lines, kept]
     say(lines, out)

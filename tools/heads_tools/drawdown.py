@@ -11,7 +11,7 @@ import numpy as np
 
 from .below_top import BelowTop
 from .cell_lines import write_cells
-from .listing import Listing, Step
+from .listing import Cell, Listing, Step
 from .model import Model
 from .spans import demand_one
 from .tables import budget_of
@@ -20,7 +20,6 @@ from .verdict import UNCHECKED_ZONES, Verdict, check_listing, not_checked
 from .whole_files import whole_file
 
 Pair = tuple[int, int]
-Cell = tuple[int, int, int]
 SHOWN = 3
 
 
@@ -201,7 +200,7 @@ class Drawdown:
         """What the plan does at the end of a step to the cell, of all or of some, whose head it changes most."""
         at = self.deepest(change, among)
         return told(
-            int(change.low[at]), int(change.high[at]), self.unit, where=place_of(tuple(self.plan.cells[at].tolist()))
+            int(change.low[at]), int(change.high[at]), self.unit, where=place_of(self.plan.cell(at))
         )
 
     def term_sentences(self) -> list[str]:

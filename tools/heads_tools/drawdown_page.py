@@ -12,7 +12,7 @@ from .looking import plan_for, title_of
 from .page import Page, write_page
 from .page_facts import Facts, facts_of, facts_of_making
 from .pictures import Album
-from .text import decimal_text, down, up
+from .text import Problem, decimal_text, down, up
 from .verdict import Verdict
 
 MOST_MAPS, MOST_PANELS = 12, 24
@@ -28,8 +28,8 @@ def fall(it: Drawdown, change: Change) -> np.ndarray:
 
 def scale_of(falls: list[np.ndarray]) -> maps.Scale:
     """The common scale of some grids of changes."""
-    ends = [min(float(np.nanmin(v)) for v in falls), max(float(np.nanmax(v)) for v in falls)]
-    return maps.change_scale(*ends, maps.FALL_MAP)
+    least, most = min(float(np.nanmin(v)) for v in falls), max(float(np.nanmax(v)) for v in falls)
+    return maps.change_scale(least, most, maps.FALL_MAP)
 
 
 def set_verdict(page: Page, seen: list[Verdict]) -> None:
@@ -86,7 +86,7 @@ def draw_curves(it: Drawdown, album: Album, page: Page, cells: list[Cell]) -> No
     x = np.array(ends if has_times else range(1, len(ends) + 1), dtype=float)
     label = f"time, {it.model.time}" if has_times and it.model else "step"
     greatest = np.array([it.greatest(c) for c in it.changes]).T / 1e9
-    lines = [("greatest of all cells", *greatest)]
+    lines: list[curves.Curve] = [("greatest of all cells", greatest[0], greatest[1])]
     for cell in cells:
         at = it.plan.at(cell)
         low, high = (np.array([-getattr(c, side)[at] for c in it.changes]) / 1e9 for side in ("high", "low"))
@@ -96,7 +96,7 @@ def draw_curves(it: Drawdown, album: Album, page: Page, cells: list[Cell]) -> No
         "Curves", "drawdown_curves.png", "Drawdown over time, bands between its bounds; down is a lower head"
     )
     names = [name for name in it.changes[-1].nets if any(any(c.nets.get(name, (0, 0))) for c in it.changes)]
-    terms = [(name.lower(), *(rates(it, name, side) for side in (0, 1))) for name in names]
+    terms = [(name.lower(), rates(it, name, 0), rates(it, name, 1)) for name in names]
     if terms:
         words = label, f"more into the cells, {it.rate}", "Change of the budget over time"
         curves.bands(album, "budget_curves", np.concatenate([[0.0], x]), terms, *words, is_rate=True)
@@ -121,7 +121,7 @@ def draw(it: Drawdown, folder: Path, cells: list[Cell], files: list[str]) -> Non
         page.say(text)
     deepest = [it.deepest(it.worst), it.deepest(last)]
     deepest += [it.deepest(it.worst, it.without_wells)] if len(it.without_wells) else []
-    chosen = cells or [tuple(it.plan.cells[at].tolist()) for at in dict.fromkeys(deepest)]
+    chosen = cells or [it.plan.cell(at) for at in dict.fromkeys(deepest)]
     rows = []
     for cell in chosen:
         at = it.plan.at(cell)
@@ -180,16 +180,24 @@ class Plan:
     ended: str
     it: Drawdown | None
 
+    @property
+    def drawdown(self) -> Drawdown:
+        """The changes of a plan that has a listing."""
+        if self.it is None:
+            raise Problem(f"{self.name}: {self.ended}")
+        return self.it
+
 
 def draw_plans(plans: list[Plan], base: Plan, folder: Path, cells: list[Cell]) -> None:
     """One page for all plans of a batch against their base: a table, maps in one scale, and the terms of each. `base`:
     the base against itself."""
-    drawn, ground = [p for p in plans if p.it is not None], base.it
+    drawn, ground = [p for p in plans if p.it is not None], base.drawdown
     count = f"{len(plans)} plan{'' if len(plans) == 1 else 's'} against {base.name}"
-    page = Page(f"{title_of(ground.model.deck.path)}: {count}", files=["plans.csv"])
+    name = title_of(ground.model.deck.path) if ground.model else base.name
+    page = Page(f"{name}: {count}", files=["plans.csv"])
     page.facts = [*facts_of(ground.plan, ground.unit, ground.model, "Base"), *facts_of_making(True)]
-    set_verdict(page, [ground.verdicts[0], *(p.it.verdicts[0] for p in drawn)])
-    for text in dict.fromkeys(text for p in (base, *drawn) for text in p.it.tops):
+    set_verdict(page, [ground.verdicts[0], *(p.drawdown.verdicts[0] for p in drawn)])
+    for text in dict.fromkeys(text for p in (base, *drawn) for text in p.drawdown.tops):
         page.say(text)
     head, rows = table_of(plans, cells)
     page.text("Plans", f"Drawdown in {ground.unit}; a click on the head of a column sorts the table.")
@@ -197,7 +205,7 @@ def draw_plans(plans: list[Plan], base: Plan, folder: Path, cells: list[Cell]) -
     draw_small_maps(drawn, Album(folder), page)
     terms = []
     for plan in drawn:
-        last = plan.it.changes[-1]
+        last = plan.drawdown.changes[-1]
         for name, (low, high) in last.nets.items():
             if low or high:
                 terms.append([plan.name, name, down(low, last.places), up(high, last.places)])
@@ -210,7 +218,7 @@ def table_of(plans: list[Plan], cells: list[Cell]) -> tuple[list[str], list[list
     """A row for each plan: where and when it lowers the head most, by how much, what it does at some cells and to the
     river at the end of the last step; of a plan without a listing, why."""
     drawn = [p for p in plans if p.it is not None]
-    has_river = any(RIVER in p.it.changes[-1].nets for p in drawn)
+    has_river = any(RIVER in p.drawdown.changes[-1].nets for p in drawn)
     head = ["plan", "greatest drawdown, from", "to", "layer row column", "at the end of"]
     head += [f"{' '.join(map(str, cell))}, {side}" for cell in cells for side in ("from", "to")]
     head += ["river into the cells, from", "to"] * has_river + ["heads check"]
@@ -238,11 +246,11 @@ def fall_pair(change: Change, at: int) -> tuple[str, str]:
 
 def draw_small_maps(plans: list[Plan], album: Album, page: Page) -> None:
     """The topmost layer with flow of each plan, all in one scale."""
-    falls = [fall(p.it, p.it.changes[-1]) for p in plans]
+    falls = [fall(p.drawdown, p.drawdown.changes[-1]) for p in plans]
     if not falls or min(falls[0].shape[1:]) == 1:
         return
-    plan = plan_for(plans[0].it.model, falls[0].shape, plans[0].it.unit)
-    label, scale = f"drawdown, {plans[0].it.unit}", scale_of(falls)
+    plan = plan_for(plans[0].drawdown.model, falls[0].shape, plans[0].drawdown.unit)
+    label, scale = f"drawdown, {plans[0].drawdown.unit}", scale_of(falls)
     for first in range(0, len(plans), MOST_PANELS):
         panels = []
         for one, values in list(zip(plans, falls))[first : first + MOST_PANELS]:

@@ -71,7 +71,8 @@ def place_of(text: str) -> Place:
     try:
         if not 2 <= len(parts) <= 4:
             raise ValueError
-        return Place(*map(float, parts[:3]), **({"epsg": int(parts[3])} if len(parts) == 4 else {}))
+        x, y, angle = map(float, [*parts[:3], "0"][:3])
+        return Place(x, y, angle, int(parts[3]) if len(parts) == 4 else None)
     except ValueError:
         raise Problem(
             f"`{text}`: a place is X0,Y0[,ANGLE[,EPSG]], the grid's lower left corner, degrees against the clock, a"
@@ -100,7 +101,7 @@ def demand_unit(model: Model | None, place: Place) -> None:
     if not system.is_projected:
         raise Problem(f"EPSG:{place.epsg} has degrees, and the grid has lengths: a code of a projection is due")
     name, factor = system.linear_units_factor
-    if metres and abs(factor - metres) > 1e-5 * metres:
+    if model and metres and abs(factor - metres) > 1e-5 * metres:
         raise Problem(
             f"{model.deck.path.name} has its lengths in {model.length}, and EPSG:{place.epsg} in {name}: the grid isn't"
             " converted. Take a code with the model's unit, or leave the code out"

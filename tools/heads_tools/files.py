@@ -139,16 +139,16 @@ def export(
     """Writes the formats into a folder, GeoTIFF and VTK for each step or the last one alone; a sentence on each. A
     format whose package is missing, or that can't hold the grid, is an error only where it was asked for alone."""
     stem = "change" if listing.is_change else "heads"
-    verdict = verdict or not_checked(listing, NO_CHECK)
+    seen = verdict or not_checked(listing, NO_CHECK)
     whole: dict[str, Callable[[Path], None]] = {
-        "nc": lambda path: to_netcdf(path, listing, model, place, verdict, start),
-        "csv": lambda path: to_csv(path, listing, model, place, verdict),
+        "nc": lambda path: to_netcdf(path, listing, model, place, seen, start),
+        "csv": lambda path: to_csv(path, listing, model, place, seen),
     }
     said = []
     for kind in formats:
         try:
             if kind in BY_STEPS:
-                said.append(export_steps(listing, folder, model, place, (stem, kind), is_last, verdict))
+                said.append(export_steps(listing, folder, model, place, (stem, kind), is_last, seen))
             else:
                 whole[kind](folder / f"{stem}.{kind}")
                 said.append(f"written: {folder / stem}.{kind}")

@@ -28,9 +28,9 @@ def demand_fit(listing: Listing, model: Model) -> None:
         )
     cells = np.argwhere(model.ibound != 0) + 1
     if not np.array_equal(cells, listing.cells):
-        listed, due = (set(map(tuple, each.tolist())) for each in (listing.cells, cells))
-        cell = min(listed ^ due)
-        has, lacks = ("the model", "the listing") if cell in due else ("the listing", "the model")
+        theirs, ours = (set(map(tuple, each.tolist())) for each in (listing.cells, cells))
+        cell = min(theirs ^ ours)
+        has, lacks = ("the model", "the listing") if cell in ours else ("the listing", "the model")
         place = "layer {} row {} column {}".format(*cell)
         raise Problem(f"{listing.path} is of another model: {has} has a cell with flow at {place}, {lacks} has none")
     steps = [(step.period, step.step) for step in listing.steps]

@@ -18,6 +18,10 @@ FIFTHS = 5**9
 NO_LISTING = ("REFUSED", "READFAULT", "MEMORY", "USAGE:", "CERTIFIED", "NOT")
 
 
+# A layer, a row and a column, from 1.
+Cell = tuple[int, int, int]
+
+
 @dataclass(repr=False)
 class Step:
     """One time step. `low`, `high`: heads in 10^-9 length units, shape (cells,); `terms`: name to the whole
@@ -69,7 +73,10 @@ class Listing:
     @property
     def shape(self) -> tuple[int, int, int]:
         """The greatest layer, row and column of a cell with flow: the least grid that holds them."""
-        return tuple(int(n) for n in self.cells.max(axis=0)) if len(self.cells) else (0, 0, 0)
+        if not len(self.cells):
+            return 0, 0, 0
+        layer, row, column = self.cells.max(axis=0).tolist()
+        return layer, row, column
 
     @functools.cached_property
     def places(self) -> np.ndarray:
@@ -89,11 +96,16 @@ class Listing:
             raise Problem("cell {},{},{} isn't in the listing: it has no flow, or lies outside the grid".format(*cell))
         return int(self.places[tuple(n - 1 for n in cell)])
 
-    def widest(self) -> tuple[int, Step, tuple[int, int, int]]:
+    def cell(self, at: int) -> Cell:
+        """The layer, row and column of a place in the arrays of a step."""
+        layer, row, column = self.cells[at].tolist()
+        return layer, row, column
+
+    def widest(self) -> tuple[int, Step, Cell]:
         """The greatest upper less lower in 10^-9, its step and its cell."""
         step = max(self.steps, key=lambda s: int(s.width().max(initial=-1)))
         at = int(step.width().argmax())
-        return int(step.width()[at]), step, tuple(self.cells[at].tolist())
+        return int(step.width()[at]), step, self.cell(at)
 
     def lower(self, shape: tuple[int, int, int] | None = None) -> np.ndarray:
         """Lower heads in length units, shape (steps, layers, rows, cols), rounded down; nan where there is no flow."""
@@ -189,7 +201,8 @@ def _read_step(lines: list[str], begin: int, end: int, places: int) -> tuple[Ste
     for line in lines[last:end]:
         word, *rest = line.split(None, 3)
         if word == "ZONE":
-            step.zones.append((int(rest[0]), int(rest[1]), *(_flow(w, places) for w in rest[2].split())))
+            low, high = (_flow(w, places) for w in rest[2].split())
+            step.zones.append((int(rest[0]), int(rest[1]), low, high))
             continue
         if word not in ("IN", "OUT"):
             raise ValueError(f"a line begins with {word}")

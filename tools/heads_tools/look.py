@@ -2,10 +2,11 @@
 from __future__ import annotations
 
 from pathlib import Path
+from typing import Sequence
 
 import numpy as np
 
-from .listing import Listing
+from .listing import Cell, Listing
 from .live_map import NAME, write_live_map
 from .look_flows import Flows
 from .look_others import Others
@@ -14,7 +15,6 @@ from .look_tops import Tops
 from .looking import HEADS, title_of
 from .model import Model
 from .page import write_page
-from .pictures import Cell
 from .tables import write_tables
 from .text import Problem
 from .verdict import Verdict
@@ -31,7 +31,7 @@ def look(
     listing: Listing,
     folder: Path,
     model: Model | None = None,
-    cells: list[Cell] = (),
+    cells: Sequence[Cell] = (),
     given: Path | None = None,
     is_every: bool = False,
     verdict: Verdict | None = None,

@@ -76,8 +76,9 @@ class Flows(OverTime):
         label = self.times()[1]
         nets = [{n[0]: n[1:3] for n in budget_of(s).nets} for s in self.listing.steps]
         unit = 10.0**-self.listing.flow_places
+        values = lambda name, side: np.array([float(n.get(name, (0, 0))[side]) * unit for n in nets])
         lines = [
-            (name.lower(), *(np.array([float(n.get(name, (0, 0))[side]) * unit for n in nets]) for side in (0, 1)))
+            (name.lower(), values(name, 0), values(name, 1))
             for name in nets[-1]
             if any(any(n.get(name, ())) for n in nets)
         ]

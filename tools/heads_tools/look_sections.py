@@ -38,10 +38,14 @@ class Sections(Ranges):
 
     def where_below(self, step: Step) -> np.ndarray:
         """The cells of the grid whose every exact head lies below the cell's top."""
+        if self.below_top is None:
+            return np.zeros(self.shape, bool)
         return self.listing.grid(self.below_top.is_below(step) * 1.0, self.shape) == 1
 
     def draw_section(self, step: Step, name: str, title: str, where: tuple, axis: int, number: int) -> None:
-        other = 3 - axis
+        other, top, bottom = 3 - axis, self.plan.top, self.plan.bottom
+        if top is None or bottom is None:
+            return
         met = [
             (kind, cell[0], cell[other] - 1, levels)
             for kind, found in self.elements.items()
@@ -52,7 +56,9 @@ class Sections(Ranges):
         cut = curves.Cut(
             f"{title}\n{self.when(step)}",
             edges,
-            *(v[where] for v in (self.grid(step.low), self.plan.top, self.plan.bottom)),
+            self.grid(step.low)[where],
+            top[where],
+            bottom[where],
             met,
             self.grid(step.high)[where] if self.listing.is_span else None,
             self.where_below(step)[where],

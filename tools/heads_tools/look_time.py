@@ -6,8 +6,8 @@ from functools import partial
 import numpy as np
 
 from . import curves
+from .listing import Cell
 from .looking import HYDROGRAPHS, Looking
-from .pictures import Cell
 from .text import decimal_text
 
 MOST_CURVES, LEAST_CURVES = 5, 3
@@ -25,7 +25,7 @@ class OverTime(Looking):
         chosen = list(dict.fromkeys(sorted(wells, key=lambda c: -moves[self.listing.at(c)])))[:LEAST_CURVES]
         apart = max(self.shape[1:]) / 5
         for at in np.argsort(-moves, kind="stable").tolist():
-            cell = tuple(self.listing.cells[at].tolist())
+            cell = self.listing.cell(at)
             if len(chosen) >= min(MOST_CURVES, max(LEAST_CURVES, len(wells) + 2)) or not moves[at]:
                 break
             if all(max(abs(cell[1] - c[1]), abs(cell[2] - c[2])) >= apart for c in chosen):
@@ -55,21 +55,14 @@ class OverTime(Looking):
 
     def draw_hydrographs(self, cells: list[Cell]) -> None:
         x, label = self.times()
-        lines = []
+        lines, pairs = [], [(s.low, s.high) for s in self.listing.steps]
         for cell in cells:
             at = self.listing.at(cell)
             name = "layer {} row {} column {}".format(*cell) + (
                 " (well)" if any(cell == c for c, _ in self.elements.get("WEL", [])) else ""
             )
-            lines.append(
-                (
-                    name,
-                    *(
-                        np.array([v[at] for v in values]) / 1e9
-                        for values in zip(*((s.low, s.high) for s in self.listing.steps))
-                    ),
-                )
-            )
+            low, high = (np.array([pair[side][at] for pair in pairs]) / 1e9 for side in (0, 1))
+            lines.append((name, low, high))
         curves.bands(self.album, "hydrographs", x, lines, label, f"head, {self.unit}", "Hydrographs")
         self.page.picture(
             HYDROGRAPHS, "hydrographs.png", f"Bands between lower and upper heads. {self.widest_of(self.listing.steps)}"

@@ -26,6 +26,8 @@ class Tops(Looking):
 
     def draw_below_top(self, layer: Layer, is_folded: bool) -> None:
         last, tops = self.listing.steps[-1], self.below_top
+        if tops is None:
+            return
         cases = tops.is_below(last), tops.below > 0, tops.perhaps > 0
         kinds = np.select(cases, [maps.BELOW, maps.BELOW_ONCE, maps.PERHAPS], maps.FULL)
         name, title = f"below_top_layer{layer.number}", f"Layer {layer.number}: heads below the tops of their cells"

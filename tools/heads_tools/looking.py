@@ -7,12 +7,13 @@ from typing import Callable
 import numpy as np
 
 from .below_top import ALL_FULL, ALL_LISTED_FULL, NO_TOPS, BelowTop
-from .listing import Listing, Step
+from .deck import Entry
+from .listing import Cell, Listing, Step
 from .made_by import made_by
 from .model import Model, value
 from .page import Page
 from .page_facts import facts_of, facts_of_making
-from .pictures import Album, Cell, Plan, plan_of
+from .pictures import Album, Plan, plan_of
 from .progress import bar
 from .text import LENGTHS, Problem, decimal_text, read_text
 from .verdict import Verdict, not_checked
@@ -111,12 +112,13 @@ def elements(model: Model) -> dict[str, list[tuple[Cell, list[float]]]]:
     columns = {"WEL": (), "RIV": (0, 2), "DRN": (0,), "GHB": (0,), "CHD": (1,)}
     out = {}
     for kind, places in columns.items():
-        entries = next((p for p in reversed(model.deck.lists.get(kind, [])) if p is not None), [])
+        none: list[Entry] = []
+        entries = next((p for p in reversed(model.deck.lists.get(kind, [])) if p is not None), none)
         out[kind] = [(e.cell, [value(e.words[n]) for n in places]) for e in entries]
     return out
 
 
-def plan_for(model: Model | None, shape: tuple[int, int, int], unit: str) -> Plan:
+def plan_for(model: Model | None, shape: tuple[int, ...], unit: str) -> Plan:
     """The plan of a model with its entries, or one of equal widths where the model isn't known."""
     if model is None:
         return plan_of(np.ones(shape[2]), np.ones(shape[1]), unit, "columns, rows")

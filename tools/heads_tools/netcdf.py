@@ -150,8 +150,8 @@ def to_netcdf(
     netcdf, backends = package("netCDF4"), package("xarray").backends
     with ALONE:
         file = netcdf.Dataset("heads.nc", "w", memory=1 << 16)
-        encoding: dict[str, dict] = {name: {"_FillValue": None} for name in data.coords}
-        encoding |= {name: {"zlib": True, "complevel": 4} for name in data.data_vars if data[name].ndim}
+        encoding: dict[str, dict] = {str(name): {"_FillValue": None} for name in data.coords}
+        encoding |= {str(name): {"zlib": True, "complevel": 4} for name in data.data_vars if data[name].ndim}
         data.dump_to_store(backends.NetCDF4DataStore(file), encoding=encoding)
         content = bytes(file.close())
         write_whole(path, content, lambda new: look_at(new, data))

@@ -20,7 +20,7 @@ from typing import Iterator
 import numpy as np
 
 from .batch import call_tool
-from .equations import given_heads
+from .equations import Given, given_heads
 from .limits import wide_words
 from .listing import Listing, Step, read_listing
 from .model import Model, model_of
@@ -31,7 +31,7 @@ from .program import call, direct_program
 from .spans import demand_one
 from .text import Problem, counted, read_text
 from .verdict import UNCHECKED_ZONES, has_zones
-from .whole import WholeModel
+from .whole import Pair, WholeModel
 from .whole_files import whole_file
 from .whole_step import WholeStep
 from .zone_bounds import zone_faults, zone_flows
@@ -121,13 +121,14 @@ def steps_of(
 ) -> Iterator[tuple[Slabs, int]]:
     """What each step's decks are made of; what pieces don't show is checked on the way, the flows between zones, too,
     and faults are added to `failed`."""
-    network, given = WholeModel(model, listing.digits), {}
+    network = WholeModel(model, listing.digits)
+    given: Given = {}
     old = network.start
     for at, listed in enumerate(listing.steps):
         if listed.step == 1:
             given = given_heads(model, listed.period - 1, given)
         step = WholeStep(network, listed.period, listed.step, given)
-        now = tuple(on_grid(model, listing, units) for units in (listed.low, listed.high))
+        now = on_grid(model, listing, listed.low), on_grid(model, listing, listed.high)
         where = f"period {listed.period} step {listed.step}"
         faults = whole_faults(step, listed, now, old)
         if zones is not None:
@@ -144,7 +145,7 @@ def on_grid(model: Model, listing: Listing, units: np.ndarray) -> np.ndarray:
     return out.ravel()
 
 
-def whole_faults(step: WholeStep, listed: Step, now: tuple[np.ndarray, ...], old: tuple[np.ndarray, ...]) -> list[str]:
+def whole_faults(step: WholeStep, listed: Step, now: Pair, old: Pair) -> list[str]:
     """What pieces don't show of a step, where it doesn't hold."""
     name = lambda cell: " ".join(map(str, step.model.cell(cell)))
     out = [f"nothing holds the heads of the group of cells of {name(cell)}" for cell in step.loose_cells()[:SHOWN]]

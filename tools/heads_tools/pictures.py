@@ -19,7 +19,6 @@ from matplotlib.patches import Patch
 
 from .whole_files import write_whole
 
-Cell = tuple[int, int, int]
 
 # The style is one of the whole process: figures are drawn one at a time.
 ALONE = threading.Lock()
@@ -74,7 +73,8 @@ class Plan:
         _, rows, cols = cells[cells[:, 0] == layer].T
         spots = np.unique(rows * len(self.x) + cols)
         is_map = len(spots) <= (len(self.x) - 1) * (len(self.y) - 1) / 3
-        return np.divmod(spots if is_map else spots[:0], len(self.x))
+        row, column = np.divmod(spots if is_map else spots[:0], len(self.x))
+        return row, column
 
 
 def plan_of(delr: np.ndarray, delc: np.ndarray, unit: str, axis: str, **more) -> Plan:

@@ -62,7 +62,7 @@ def write_table(plans: list[Plan], folder: Path) -> None:
     with whole_file(folder / "plans.csv") as file:
         file.write("plan,period,step,layer,row,col,drawdown_lower,drawdown_upper\n")
         for plan in (plan for plan in plans if plan.it is not None):
-            worst = plan.it.worst
-            at = plan.it.deepest(worst)
-            cell = ",".join(map(str, plan.it.plan.cells[at].tolist()))
+            worst = plan.drawdown.worst
+            at = plan.drawdown.deepest(worst)
+            cell = ",".join(map(str, plan.drawdown.plan.cells[at].tolist()))
             file.write(f"{plan.name},{worst.period},{worst.step},{cell},{','.join(fall_pair(worst, at))}\n")

@@ -70,7 +70,7 @@ class Points:
         number = lambda name: exact_value(text(name)) if text(name) else None
         try:
             layer = int(number("layer") or 1)
-            x, y = (float(text(name)) for name in "xy") if text("x") else (None, None)
+            x, y = (float(text(name)) for name in "xy") if text("x") else (0.0, 0.0)
             cell = None if text("x") else (layer, int(text("row")), int(text("col")))
             name, time, measured = (row.get("name") or f"point {n - 1}").strip(), number("time"), number("measured")
         except (ValueError, TypeError, KeyError):

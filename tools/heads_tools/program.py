@@ -13,7 +13,7 @@ import time
 from contextlib import nullcontext
 from dataclasses import dataclass
 from pathlib import Path
-from typing import IO
+from typing import IO, ContextManager, cast
 
 from .follow import Progress
 from .limits import PLAIN, WIDE_WORD, asks_for_wide, is_wide, limits_of, wide_words
@@ -53,9 +53,9 @@ def program() -> Path:
             raise Problem(f"HEADS names {path}, which is no program")
         return path
     here = windows_port(TOP / "dist" / "heads.exe") if IS_WINDOWS else TOP / "heads"
-    for path in (here, BIN / NAME, Path(shutil.which(NAME) or "")):
-        if path and path.is_file() and os.access(path, os.X_OK):
-            return path.resolve()
+    for found in (here, BIN / NAME, Path(shutil.which(NAME) or "")):
+        if found and found.is_file() and os.access(found, os.X_OK):
+            return found.resolve()
     raise Problem("where is `heads`? Set HEADS=/path/to/heads, or put it on the PATH")
 
 
@@ -173,6 +173,8 @@ class Ended:
 
     def listing(self) -> Listing:
         """The listing that the run wrote, if it is still there."""
+        if self.output is None:
+            raise Problem("the run wrote no file")
         found = read_listing(self.output)
         if found.sha256 != self.sha256:
             raise Problem(f"{self.output} was written over since this run: two runs at once need two files (--out)")
@@ -259,15 +261,17 @@ def run(
     began = time.monotonic()
     is_watched = any(o.startswith("--watch") for o in options)
     is_followed = is_followed and is_told and not is_watched and not is_quick(options)
-    words = [direct_program(), "run", nam.name, *options, *(["--watch", "1"] if is_followed else [])]
-    with draft_of(target) as new, open(new, "wb") as file, watch_file(target) if is_watched else nullcontext() as side:
+    words = [str(direct_program()), "run", nam.name, *options, *(["--watch", "1"] if is_followed else [])]
+    unwatched: ContextManager[IO[bytes] | None] = nullcontext()
+    with draft_of(target) as new, open(new, "wb") as file, watch_file(target) if is_watched else unwatched as side:
         process = subprocess.Popen(
             words, cwd=nam.parent, stdout=subprocess.PIPE, stderr=subprocess.PIPE if is_followed else side
         )
         if is_told:
             progress.follow(process.stderr)
         try:
-            last, count, digest = copy_output(process.stdout, file, progress if is_told else None)
+            stream = cast("IO[bytes]", process.stdout)
+            last, count, digest = copy_output(stream, file, progress if is_told else None)
             file.close()
         except BaseException:
             process.kill()

@@ -10,13 +10,16 @@ from .text import decimal_text
 from .whole_files import whole_file
 
 
+Row = tuple[str, int, int, int, int]
+
+
 @dataclass
 class Budget:
     """The budget of a step in whole numbers of 10^-(digits + 9): rows (name, in_low, in_high, out_low, out_high), the
     last one the total; net terms (name, low, high, narrowed low, narrowed high); the percent discrepancy's range."""
 
-    rows: list[tuple[str, int, int, int, int]]
-    nets: list[tuple[str, int, int, int, int]]
+    rows: list[Row]
+    nets: list[Row]
     discrepancy: tuple[float, float] | None
 
     @property
@@ -28,8 +31,8 @@ class Budget:
 def budget_of(step: Step) -> Budget:
     """Totals and net terms. In an exact solution all net terms sum to 0, so each one lies also between the negated
     sums of the others' bounds (the theorem net_terms_lie_in_the_others): its pair is narrowed to what both say."""
-    rows = [(name, *t) for name, t in step.terms.items()]
-    total = tuple(sum(r[n] for r in rows) for n in range(1, 5))
+    rows: list[Row] = [(name, a, b, c, d) for name, (a, b, c, d) in step.terms.items()]
+    total = [sum(t[n] for t in step.terms.values()) for n in range(4)]
     lows, highs = {r[0]: r[1] - r[4] for r in rows}, {r[0]: r[2] - r[3] for r in rows}
     all_low, all_high = sum(lows.values()), sum(highs.values())
     nets = [
@@ -44,7 +47,8 @@ def budget_of(step: Step) -> Budget:
     ]
     mean = sum(total) / 4
     discrepancy = ((total[0] - total[3]) / mean * 100, (total[1] - total[2]) / mean * 100) if mean else None
-    return Budget(rows + [("TOTAL", *total)], nets, discrepancy)
+    rows.append(("TOTAL", total[0], total[1], total[2], total[3]))
+    return Budget(rows, nets, discrepancy)
 
 
 def write_tables(

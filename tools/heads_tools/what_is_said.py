@@ -5,10 +5,9 @@ from dataclasses import dataclass, field
 
 import numpy as np
 
-from .listing import Listing
+from .listing import Cell, Listing
 from .text import decimal_text, down, up
 
-Cell = tuple[int, int, int]
 EACH_HEAD = (
     "Each exact solution of this model's finite-difference equations has, at the end of each listed time step "
     "and at each listed cell, a head between the two listed numbers, "

@@ -48,8 +48,8 @@ def whole_file(path: Path | str, binary: bool = False, is_own: bool = False) -> 
     path = Path(path)
     with draft_of(path) as new:
         # Lines end with LF on each system: `heads` refuses a listing with CR LF.
-        how = {"mode": "wb"} if binary else {"mode": "w", "encoding": "utf-8", "newline": "\n"}
-        with open(new, **how) as file:
+        mode, encoding, newline = ("wb", None, None) if binary else ("w", "utf-8", "\n")
+        with open(new, mode, encoding=encoding, newline=newline) as file:
             yield file
         if not is_own:
             demand_free(path, new)
