@@ -20,7 +20,6 @@ if TYPE_CHECKING:
     from .verdict import Verdict
 
 OUTPUTS = {"out", "csv", "map", "folder"}
-NOT_CALLED = 2
 NO_BASE = "the other run's model wasn't named by --base-name"
 
 MOST_DIGITS = 18
@@ -148,7 +147,7 @@ def without_listing(ended: Ended, meaning: Meaning, target: Path, out: IO[str]) 
         kept = f"{target} is that of an earlier run and was left; this run's output is {ended.output.name}"
         lines = [*lines, kept]
     say(lines, out)
-    return Ran(ended.status or meaning.status or NOT_CALLED, ended.last, lines)
+    return Ran(ended.status or meaning.status or 6, ended.last, lines)
 
 
 def is_of_digits(ended: Ended, options: list[str]) -> bool:
@@ -204,6 +203,7 @@ def do_model(args: argparse.Namespace, _: list[str], out: IO[str]) -> int:
 def do_look(args: argparse.Namespace, _: list[str], out: IO[str]) -> int:
     from .look import look
     from .model import read_model
+    from .verdict import status_of
     from .zones import read_zones
 
     model_for_zones(args)
@@ -224,12 +224,6 @@ def page_folder(folder: Path) -> ContextManager[Path]:
     from .whole_files import whole_folder
 
     return whole_folder(folder, "index.html")
-
-
-def status_of(name: Path | None, verdict: Verdict) -> int:
-    """The status of a command after a check: that of the check, and not 0 where it was asked for, by the model's name,
-    and couldn't be made."""
-    return (NOT_CALLED if name else 0) if verdict.status is None else verdict.status
 
 
 def model_for_zones(args: argparse.Namespace) -> None:
@@ -261,6 +255,7 @@ def do_compare(args: argparse.Namespace, _: list[str], out: IO[str]) -> int:
     from .look import look_at_given
     from .model import read_model
     from .text import LENGTHS
+    from .verdict import status_of
 
     model_for_zones(args)
     listing = listing_of(args.listing)
@@ -299,9 +294,9 @@ def do_plans(args: argparse.Namespace, _: list[str], out: IO[str]) -> int:
     from .plans import compare_plans
 
     with page_folder(args.folder) as folder:
-        said = compare_plans(existing(args.list), folder, args.base, args.cell)
+        said, status = compare_plans(existing(args.list), folder, args.base, args.cell)
     say(said + [f"open {args.folder / 'index.html'}"], out)
-    return 0
+    return status
 
 
 def do_certify(args: argparse.Namespace, _: list[str], out: IO[str]) -> int:
@@ -327,12 +322,12 @@ def do_check(args: argparse.Namespace, _: list[str], out: IO[str]) -> int:
     nam, path = existing(args.nam), existing(args.listing)
     to = second_deck(nam, args.to)
     if args.parts is None:
-        from .verdict import check_listing
+        from .verdict import check_listing, status_of
 
         zones = existing(args.zones) if args.zones else None
         verdict = check_listing(nam, read_listing(path), zones, to, args.wide)
         say([verdict.sentence], out)
-        return NOT_CALLED if verdict.status is None else verdict.status
+        return status_of(nam, verdict)
     from .parts import Way, check_parts
 
     if args.parts < 1:
@@ -354,6 +349,7 @@ def do_hds(args: argparse.Namespace, _: list[str], out: IO[str]) -> int:
     from .headfile import write_heads
     from .kept_files import demand_free
     from .model import read_model
+    from .verdict import status_of
 
     listing = listing_of(args.listing)
     model = read_model(existing(args.name)) if args.name else None
@@ -381,7 +377,7 @@ def do_export(args: argparse.Namespace, _: list[str], out: IO[str]) -> int:
     from .files import FORMATS, export
     from .fitting import demand_fit
     from .model import read_model
-    from .verdict import both, check_listing, not_checked
+    from .verdict import both, check_listing, not_checked, status_of
     from .whole_files import whole_folder
 
     formats = [f for f in args.formats.split(",") if f]
@@ -424,6 +420,7 @@ def do_observe(args: argparse.Namespace, _: list[str], out: IO[str]) -> int:
     from .model import read_model
     from .observe import observe
     from .spans import demand_one
+    from .verdict import status_of
 
     listing, model = listing_of(args.listing), read_model(existing(args.name))
     demand_one(listing, "observe compares with one model's heads. `heads-tools compare` takes a listing of two")

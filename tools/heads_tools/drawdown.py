@@ -16,7 +16,7 @@ from .model import Model
 from .spans import demand_one
 from .tables import budget_of
 from .text import Problem, counted, decimal_text, down, up
-from .verdict import UNCHECKED_ZONES, Verdict, check_listing, not_checked
+from .verdict import UNCHECKED_ZONES, Verdict, check_listing, not_checked, status_of
 from .whole_files import whole_file
 
 Pair = tuple[int, int]
@@ -300,4 +300,5 @@ def drawdown(
     )
     folder.mkdir(parents=True, exist_ok=True)
     draw(it, folder, cells, write_changes(it, folder))
-    return it.sentences(cells) + it.term_sentences(), seen[0].status or seen[1].status or 0
+    status = status_of(nam, seen[0]) or status_of(base_nam, seen[1])
+    return it.sentences(cells) + it.term_sentences(), status

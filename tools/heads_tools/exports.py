@@ -138,8 +138,11 @@ def time_of(model: Model | None, step: Step) -> float:
     return model.times.get((step.period, step.step), (0.0, math.nan))[1] if model else math.nan
 
 
-def heads_frame(listing: Listing, model: Model | None = None, place: Place = Place()) -> pandas.DataFrame:
-    """A row for each step and cell: period, step, time, layer, row, col, x, y (with a model), lower, upper."""
+def heads_frame(
+    listing: Listing, model: Model | None = None, place: Place = Place(), verdict: Verdict | None = None
+) -> pandas.DataFrame:
+    """A row for each step and cell: period, step, time, layer, row, col, x, y (with a model), lower, upper. Its attrs
+    have the verdict."""
     pandas = package("pandas")
     lower, upper = (
         np.concatenate([grid[tuple((listing.cells - 1).T)] for grid in side])
@@ -157,11 +160,16 @@ def heads_frame(listing: Listing, model: Model | None = None, place: Place = Pla
         x, y = middles(model)
         wx, wy = place.world(x[listing.cells[:, 2] - 1], y[listing.cells[:, 1] - 1])
         columns |= {"x": np.tile(wx, len(steps)), "y": np.tile(wy, len(steps))}
-    return pandas.DataFrame(columns | {"lower": lower, "upper": upper})
+    frame = pandas.DataFrame(columns | {"lower": lower, "upper": upper})
+    frame.attrs.update(facts_for(listing, verdict))
+    return frame
 
 
-def terms_frame(listing: Listing, model: Model | None = None) -> pandas.DataFrame:
-    """A row for each step and budget term, rates: in, out and net (narrowed to what the other terms leave), outward."""
+def terms_frame(
+    listing: Listing, model: Model | None = None, verdict: Verdict | None = None
+) -> pandas.DataFrame:
+    """A row for each step and budget term, rates: in, out and net (narrowed to what the other terms leave), outward.
+    Its attrs have the verdict."""
     pandas = package("pandas")
     names = [
         "period",
@@ -182,4 +190,6 @@ def terms_frame(listing: Listing, model: Model | None = None) -> pandas.DataFram
         for name, *flows in budget.rows[:-1]:
             values = [outward(v, listing.flow_places, 1 if n % 2 else -1) for n, v in enumerate([*flows, *nets[name]])]
             rows.append((step.period, step.step, time_of(model, step), name, *values))
-    return pandas.DataFrame(rows, columns=names).set_index(["period", "step", "term"])
+    frame = pandas.DataFrame(rows, columns=names).set_index(["period", "step", "term"])
+    frame.attrs.update(facts_for(listing, verdict))
+    return frame

@@ -24,6 +24,7 @@ BEGINS = re.compile(
     rb"|#!/bin/bash\n#(SBATCH --job-name=heads| Further words, as --sshloginfile hosts, go to parallel\.)"
 )
 PAGES, PICTURES = (b"<!doctype html", b"<!DOCTYPE html"), (b"\x89PNG", b"\x89HDF", b"CDF", b"II", b"MM", b"<?xml")
+PAGE_MARKS = (b'<meta name="generator" content="heads-tools">', b"made by heads-tools")
 BESIDE = ".about"
 
 
@@ -123,7 +124,7 @@ def is_ours(path: Path, new: Path | None = None) -> bool:
         if not begin or begin.startswith(ENDS) or BEGINS.match(begin):
             return True
         if begin.startswith(PAGES + PICTURES):
-            marks = (b"made by heads-tools",) if begin.startswith(PAGES) else (b"heads-tools", b"heads check")
+            marks = PAGE_MARKS if begin.startswith(PAGES) else (b"heads-tools", b"heads check")
             with mmap.mmap(file.fileno(), 0, access=mmap.ACCESS_READ) as content:
                 return any(content.find(mark) >= 0 for mark in marks)
     return is_noted(path) or (new is not None and path.suffix == ".csv" and begins_like(begin, new))

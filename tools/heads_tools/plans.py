@@ -10,12 +10,13 @@ from .explain import explain_output
 from .listing import Listing, read_listing
 from .model import read_model
 from .text import Problem, counted
-from .verdict import Verdict
+from .verdict import Verdict, status_of
 from .whole_files import whole_file
 
 
-def compare_plans(path: Path, folder: Path, base_name: str | None, cells: list[Cell]) -> list[str]:
-    """Writes the page and plans.csv of a batch's list, whose models have run; what there is to say."""
+def compare_plans(path: Path, folder: Path, base_name: str | None, cells: list[Cell]) -> tuple[list[str], int]:
+    """Writes the page and plans.csv of a batch's list, whose models have run; what there is to say, and the first status
+    of a check that isn't 0."""
     jobs = read_jobs(path)
     base = next((j for j in jobs if base_name in (None, j.name, j.nam.name)), None)
     if base is None:
@@ -31,7 +32,10 @@ def compare_plans(path: Path, folder: Path, base_name: str | None, cells: list[C
     write_table(plans, folder)
     draw_plans(plans, against(base, ground, ground, seen, seen), folder, cells)
     told = said_of(seen)
-    return [told] + [f"{p.name}: {p.ended}" for p in plans] + [f"{counted(len(plans), 'plan')} against {base.name}"]
+    checks = [seen, *(plan.it.verdicts[0] for plan in plans if plan.it)]
+    status = next((status for each in checks if (status := status_of(base.nam, each))), 0)
+    said = [told] + [f"{p.name}: {p.ended}" for p in plans]
+    return said + [f"{counted(len(plans), 'plan')} against {base.name}"], status
 
 
 def plan_of(job: Job, ground: Listing, seen: Verdict) -> Plan:

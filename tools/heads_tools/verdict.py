@@ -143,6 +143,12 @@ def check_listing(
     return Verdict(ended.status, last, *told, program)
 
 
+def status_of(nam: Path | None, verdict: Verdict) -> int:
+    """The status of a command after a check: that of the check, and not 0 where it was asked for, by the model's name,
+    and couldn't be made."""
+    return (2 if nam else 0) if verdict.status is None else verdict.status
+
+
 def demand_same(listing: Listing) -> None:
     """Refuses a listing in memory whose file has other bytes by now."""
     if not listing.path.is_file() or hashlib.sha256(listing_bytes(listing.path)).hexdigest() != listing.sha256:
