@@ -9,6 +9,7 @@ import subprocess
 import sys
 import tempfile
 from concurrent.futures import ThreadPoolExecutor
+from contextvars import copy_context
 from dataclasses import dataclass
 from pathlib import Path
 from typing import IO, Iterable
@@ -83,8 +84,10 @@ def batch(
     elif way == "parallel":
         run_parallel(path, jobs, options, at_once, is_written_only, out)
     elif not (fits_memory(jobs) and run_by_program(jobs, options, at_once or os.cpu_count() or 1)):
+        # A thread begins without the context, which has what may be written over.
+        one = lambda job, context: context.run(run, job.nam, options, job.listing, is_told=False)
         with ThreadPoolExecutor(at_once or os.cpu_count() or 1) as pool:
-            ended = pool.map(lambda job: run(job.nam, options, job.listing, is_told=False), jobs)
+            ended = pool.map(one, jobs, [copy_context() for _ in jobs])
             for done, (job, _) in enumerate(zip(jobs, ended), 1):
                 print(f"{done} of {len(jobs)}: {job.name}", file=sys.stderr)
     table = path.with_suffix(".ends.csv")

@@ -60,6 +60,8 @@ def demand_free(path: Path | str, new: Path | None = None) -> None:
     place, keep = path.resolve(), KEEP.get()
     if place.is_dir():
         raise Problem(f"{path} is a folder; a file is due here")
+    if place.exists() and not place.is_file():
+        raise Problem(f"{path} is a device, and a file is due here: it gets its name once it is whole")
     if place in keep.inputs:
         raise Problem(f"{path} isn't written over: the command reads it")
     is_free = not place.exists() or is_ours(place, new)

@@ -158,6 +158,30 @@ def test_a_folder_is_no_file_and_an_empty_file_may_go(tmp_path):
         demand_free(tmp_path)
 
 
+def test_a_device_is_no_place_for_a_whole_file():
+    with pytest.raises(Problem, match="is a device, and a file is due here"):
+        demand_free("/dev/null")
+
+
+def test_a_batch_by_single_runs_keeps_files_and_may_be_forced(valley, tool, monkeypatch):
+    import heads_tools.batch
+
+    monkeypatch.setattr(heads_tools.batch, "fits_memory", lambda jobs: False)
+    (valley / "list.txt").write_text("m.nam\n")
+    (valley / "m.heads").write_text("my own heads\n")
+    status, out, err = tool("batch", valley / "list.txt")
+    assert status == 2 and FOREIGN in err and (valley / "m.heads").read_text() == "my own heads\n"
+    assert tool("batch", valley / "list.txt", "--force")[0] == 0
+    assert (valley / "m.heads").read_text().endswith("END\n")
+
+
+@pytest.mark.parametrize("name", ["certify", "compare"])
+def test_a_listing_in_the_place_of_a_head_file_is_told(name, valley, tool):
+    words = [valley / "m.nam"] if name == "certify" else [valley / "m.heads"]
+    status, out, err = tool(name, *words, valley / "m.heads")
+    assert status == 2 and "is a listing of `heads`, and a head file or a table is due" in err
+
+
 @pytest.mark.parametrize("begin, is_known", [("HEADS 2 DIGITS 12 UNIT 2\n", True), ("heads of mine\n", False)])
 def test_a_listing_is_known_by_its_first_line(begin, is_known, tmp_path):
     (tmp_path / "a").write_text(begin)
