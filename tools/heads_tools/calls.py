@@ -78,7 +78,7 @@ def call(command: str, given: dict[str, Any], options: dict[str, Any]) -> Answer
 
     args, rest = arguments(command, given, options)
     said = io.StringIO()
-    with commands.guarded(args):
+    with commands.guarded(args, rest):
         status = getattr(commands, "do_" + command)(args, rest, said)
     return Answer(command, status, said.getvalue().rstrip("\n").split("\n"))
 
@@ -89,7 +89,7 @@ def made(command: str, given: dict[str, Any], options: dict[str, Any]) -> Answer
 
     args, rest = arguments(command, given, options)
     said = io.StringIO()
-    with commands.guarded(args):
+    with commands.guarded(args, rest):
         ran = commands.run_model(args, rest, said) if command == "run" else commands.certify_heads(args, said)
     if ran.status != 0 or ran.listing is None:
         raise failure_of(ran.status, ran.last, ran.lines)
@@ -159,10 +159,10 @@ def check(nam: str | Path, listing: str | Path | Listing, **options: Any) -> Ver
     from .spans import second_deck
     from .verdict import check_listing
 
-    args, _ = arguments("check", {"nam": nam, "listing": listing}, options)
+    args, rest = arguments("check", {"nam": nam, "listing": listing}, options)
     if args.parts is not None:
         raise Problem("a check by parts has no verdict of the whole: call `heads-tools check --parts`")
     path = commands.existing(args.nam)
     zones = commands.existing(args.zones) if args.zones else None
-    with commands.guarded(args):
+    with commands.guarded(args, rest):
         return check_listing(path, commands.listing_of(args.listing), zones, second_deck(path, args.to), args.wide)

@@ -458,7 +458,7 @@ def main(words: list[str] | None = None) -> int:
             top.error(f"unknown words: {' '.join(rest)}")
         if threading.current_thread() is threading.main_thread():
             signal.signal(signal.SIGTERM, stop)
-        with commands.guarded(args):
+        with commands.guarded(args, rest):
             status = getattr(commands, "do_" + args.command)(args, rest, sys.stdout)
         sys.stdout.flush()
         return status

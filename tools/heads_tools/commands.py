@@ -32,8 +32,9 @@ def existing(path: Path) -> Path:
 
 
 @contextmanager
-def guarded(args: argparse.Namespace) -> Iterator[None]:
-    """Within the block the command's inputs are never written over."""
+def guarded(args: argparse.Namespace, rest: list[str]) -> Iterator[None]:
+    """Within the block the command's inputs are never written over. Names among the `rest`, which goes to the program,
+    are looked up from the model's folder."""
     from .kept_files import keeping
     from .program import look_again
 
@@ -41,6 +42,8 @@ def guarded(args: argparse.Namespace) -> Iterator[None]:
     given = [value for name, value in vars(args).items() if name not in OUTPUTS]
     flat = [each for value in given for each in (value if isinstance(value, list) else [value])]
     inputs = [each.path if isinstance(each, Listing) else each for each in flat if isinstance(each, (Path, Listing))]
+    named = [word.partition("=")[2] or word for word in rest] + [str(getattr(args, "to", None) or "")]
+    inputs += [args.nam.parent / name for name in named if name] if hasattr(args, "nam") else []
     with keeping(inputs, getattr(args, "force", False)):
         yield
 

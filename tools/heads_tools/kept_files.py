@@ -86,8 +86,12 @@ def name_files(place: Path, keep: Keep) -> list[Path]:
 
 
 def named(nam: Path) -> list[tuple[str, str]]:
-    """What a name file names: kinds and names, as they stand there."""
-    lines = (quoted_words(line) for line in read_text(nam).split("\n") if not line.startswith("#"))
+    """What a name file names: kinds and names, as they stand there. Nothing of one that can't be read."""
+    try:
+        text = read_text(nam)
+    except Problem:
+        return []
+    lines = (quoted_words(line) for line in text.split("\n") if not line.startswith("#"))
     return [(words[0].upper(), name) for words in lines for name in words[1:3] if len(words) > 1]
 
 

@@ -39,6 +39,7 @@ def contents(folder):
     [
         (["run", "m.nam", "--out", "m.rch"], "m.rch", "m.nam names it (RCH)"),
         (["run", "m.nam", "--out", "m.nam"], "m.nam", "the command reads it"),
+        (["run", "m.nam", "--out", "m.zon", "--zones", "m.zon"], "m.zon", "the command reads it"),
         (["run", "m.nam", "--out", "hk.txt"], "hk.txt", "an array of m.nam is read from it"),
         (["certify", "m.nam", "middle.hds", "--out", "m.riv"], "m.riv", "m.nam names it (RIV)"),
         (["compare", "m.heads", "middle.hds", "--csv", "m.wel"], "m.wel", "m.nam names it (WEL)"),
