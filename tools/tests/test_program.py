@@ -108,6 +108,25 @@ def test_a_program_of_other_sources_is_never_run(name, checkout, monkeypatch):
     assert done.returncode == 70 and done.stdout == "" and "dist/heads" in done.stderr, done
 
 
+@pytest.mark.parametrize("folder", ["checkout[1]", "a *", "c?"])
+def test_the_name_of_the_checkouts_folder_is_no_pattern(folder, checkout, monkeypatch):
+    grow_old(monkeypatch, checkout)
+    moved = checkout.rename(checkout.parent / folder)
+    assert ran(moved) and ran(moved) and (moved / "dist/heads.checked").is_file()
+    rewritten(moved / "crates/heads/src/main.rt", "wan\n")
+    assert subprocess.run([moved / "heads"], capture_output=True).returncode == 70
+
+
+def test_a_find_that_cannot_tell_times_keeps_nothing(checkout, monkeypatch, hashes):
+    grow_old(monkeypatch, checkout)
+    find = checkout.parent / "bin" / "find"
+    find.write_text("#!/bin/sh\ncase \"$*\" in *-printf*|*-newerct*) exit 1 ;; esac\nexec /usr/bin/find \"$@\"\n")
+    find.chmod(0o755)
+    assert ran(checkout) and ran(checkout) and hashes() > 0 and not (checkout / "dist/heads.checked").exists()
+    rewritten(checkout / "crates/heads/src/main.rt", "wan\n")
+    assert subprocess.run([checkout / "heads"], capture_output=True).returncode == 70
+
+
 def test_the_whole_check_believes_nothing(checkout, monkeypatch, hashes):
     grow_old(monkeypatch, checkout)
     assert ran(checkout) and hashes() > 0
