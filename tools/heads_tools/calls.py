@@ -98,7 +98,8 @@ def made(command: str, given: dict[str, Any], options: dict[str, Any]) -> Answer
 
 def run(nam: str | Path, out: str | Path | None = None, **options: Any) -> Answer:
     """Runs the model; `.listing` is its listing. Options are those of `heads run`: digits, workers, rounds, zones,
-    watch, quick, wide, to. A run that doesn't end well raises RunFailed; where a step has no bounds, NoBounds."""
+    watch, quick, wide, to; and quiet, without progress on standard error. A run that doesn't end well raises RunFailed;
+    where a step has no bounds, NoBounds."""
     return made("run", {"nam": nam}, {"out": out} | options)
 
 
@@ -113,8 +114,9 @@ def plain(nam: str | Path, folder: str | Path) -> Answer:
 
 
 def between(nam: str | Path, folder: str | Path, **options: Any) -> Answer:
-    """Writes two decks of one shape: wells, recharge, stage (each "LOW..HIGH"), package."""
-    return call("between", {"nam": nam, "folder": folder}, options)
+    """Writes two decks of one shape: wells, recharge, stage (each (LOW, HIGH) or "LOW..HIGH"), package."""
+    spans = {name: "{}..{}".format(*each) if isinstance(each, tuple) else each for name, each in options.items()}
+    return call("between", {"nam": nam, "folder": folder}, spans)
 
 
 def look(listing: str | Path | Listing, folder: str | Path, **options: Any) -> Answer:

@@ -162,6 +162,7 @@ def parser() -> argparse.ArgumentParser:
         "run", "run the model in its folder into NAME.heads, with progress; all further options go to heads run", nam
     )
     s.add_argument("--out", type=Path, help="the listing's file, NAME.heads beside the name file where left out")
+    s.add_argument("--quiet", action="store_true", help="no progress on standard error")
     add_to(s, "a second deck: bounds for every deck between the two, into NAME-TO.heads")
     add_quick(s)
     add_wide(s, WIDE_RUN + "; taken by itself where an end without it asks for it")

@@ -111,7 +111,7 @@ def run_model(args: argparse.Namespace, options: list[str], out: IO[str]) -> Ran
     target = (args.out or target_of(nam, to)).resolve()
     digits, tried, (steps, cells) = digits_of(options), [], size_of(nam)
     is_followed = steps is not None and cells * steps <= MOST_WATCHED
-    ended = run(nam, options, target, steps, is_followed=is_followed)
+    ended = run(nam, options, target, steps, not args.quiet, is_followed)
     while True:
         if more := with_wide(ended, options, nam.parent):
             options = more
@@ -126,7 +126,7 @@ def run_model(args: argparse.Namespace, options: list[str], out: IO[str]) -> Ran
         else:
             break
         given = ["--digits", str(digits)] if tried else []
-        ended = run(nam, [*options, *given], target, steps, is_followed=is_followed)
+        ended = run(nam, [*options, *given], target, steps, not args.quiet, is_followed)
     meaning = explain(ended.last, nam.parent, digits, ended.steps > 0, options)
     if ended.status != 0 or not meaning.is_good:
         return without_listing(ended, meaning, target, out)

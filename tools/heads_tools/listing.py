@@ -115,6 +115,19 @@ class Listing:
         """Upper heads in length units, shape (steps, layers, rows, cols), rounded up; nan where there is no flow."""
         return np.array([self.grid(-head_floor(-s.high), shape) for s in self.steps])
 
+    def step_at(self, period: int, step: int) -> Step:
+        """The step of a stress period."""
+        found = next((each for each in self.steps if (each.period, each.step) == (period, step)), None)
+        if found is None:
+            raise Problem(f"{self.path} has no period {period} step {step}")
+        return found
+
+    def series(self, cell: tuple[int, int, int]) -> tuple[np.ndarray, np.ndarray]:
+        """Lower and upper heads of a cell (layer, row, column) at the ends of all steps, rounded outward."""
+        at = self.at(cell)
+        low, high = (np.array([getattr(step, side)[at] for step in self.steps]) for side in ("low", "high"))
+        return head_floor(low), -head_floor(-high)
+
     def grid(self, values: np.ndarray, shape: tuple[int, int, int] | None = None) -> np.ndarray:
         """Values of the cells with flow on the whole grid, nan elsewhere."""
         out = np.full(shape or self.shape, np.nan)

@@ -4,6 +4,7 @@ from __future__ import annotations
 import functools
 import hashlib
 import os
+import platform
 import re
 import shutil
 import subprocess
@@ -87,7 +88,8 @@ def windows_port(path: Path) -> Path | None:
 @functools.lru_cache
 def direct(found: Path) -> Path:
     kept, check = TOP / "dist" / "heads", TOP / "scripts" / "check_dist"
-    is_script = found == TOP / "heads" and kept.is_file() and check.is_file()
+    is_here = platform.system() == "Linux" and platform.machine() == "x86_64"
+    is_script = is_here and found == TOP / "heads" and kept.is_file() and check.is_file()
     return kept if is_script and subprocess.run([check, "--kept"], capture_output=True).returncode == 0 else found
 
 

@@ -162,6 +162,27 @@ def test_a_command_writes_to_the_stream_that_it_is_given(valley):
     assert commands.do_model(args, rest, stream) == 0 and "600 cells" in stream.getvalue()
 
 
+def test_a_quiet_run_says_nothing_on_standard_error(valley, capfd):
+    heads_tools.run(valley)
+    assert "step 1 of 1" in capfd.readouterr().err
+    assert heads_tools.run(valley, quiet=True).is_good and "step 1 of 1" not in capfd.readouterr().err
+
+
+def test_a_range_may_be_a_pair_of_numbers(valley, tmp_path):
+    for name, span in (("a", (0, 1.5)), ("b", "0..1.5")):
+        heads_tools.between(valley, tmp_path / name, wells=span)
+    assert (tmp_path / "a" / "to.wel").read_text() == (tmp_path / "b" / "to.wel").read_text()
+
+
+def test_steps_and_cells_of_a_listing_are_found(example):
+    listing = heads_tools.run(example("tide"), quiet=True).listing
+    assert listing.step_at(3, 2) is listing.steps[9]
+    low, high = listing.series((1, 1, 20))
+    assert list(low) == list(listing.lower()[:, 0, 0, 19]) and list(high) == list(listing.upper()[:, 0, 0, 19])
+    with pytest.raises(Problem, match="has no period 13 step 1"):
+        listing.step_at(13, 1)
+
+
 def test_an_answer_without_a_listing_says_so(valley):
     with pytest.raises(Problem, match="inside wrote no listing"):
         heads_tools.inside(valley).listing
