@@ -3,7 +3,7 @@ use Rattle.plan_difference.proofs.Common.{◌≡◌, ℕ, suc, ◌*◌, ◌<◌,
 use Rattle.plan_difference.proofs.Common.{get_or, inl, inr, All, Contains, zero-*ℤ, le_of_mul-le-mul_right, mul-le-mul_right, ints, AllZip, Encloses, Fraction}
 use Rattle.plan_difference.proofs.Common.{Ratio, AtMost, entries_at, no_entries, CellEncloses, ExactCell, ExactFixed, ExactLink, FixedEncloses, HasEqualEnds}
 use Rattle.plan_difference.proofs.Common.{HasLinkBack, cell_at, no_cell, BoundsDifferences, SolutionsBoundDifferences, EnclosesDifferences, IsDifferenceCell}
-use Rattle.plan_difference.proofs.Common.{IsDifferenceStep, IsOpenBranch, IsRampBranch}
+use Rattle.plan_difference.proofs.Common.{IsDifferenceStep, IsOpenBranch, IsRampBranch, ExactFlow}
 use Rattle.std.proofs.lemmas.Bool.{cases_lt}
 use Rattle.std.proofs.lemmas.List.{get_or_past}
 use Rattle.std.proofs.lemmas.List.Elements.{All-cons, All-head, All-nil, All-tail}
@@ -56,8 +56,8 @@ module _ (s id : ℕ) (z : Fraction) where
       none_above : (k : ℤ) → (pos 0 *ℤ k) ≤ℤ (pos 0 *ℤ pos 1)
       none_above k = rw (zero-*ℤ k) (omega (arith, ints))
 
-cell_enclosed : (s : ℕ) (v w z : Fraction) (p : Entries) (x y g : ExactCell) → BoundsDifferences s p x y → IsDifferenceCell v w z x y g → CellEncloses s p g
-cell_enclosed s v w z p x y g bounds is = record {
+cell_enclosed : (s : ℕ) (v w z : Fraction) (p : Entries) (qs : List ExactFlow) (x y g : ExactCell) → BoundsDifferences s p qs x y → IsDifferenceCell v w z qs x y g → CellEncloses s p g
+cell_enclosed s v w z p qs x y g bounds is = record {
   id = bounds.id ∙ sym is.id;
   flows = rw is.flows bounds.flows;
   links = rw is.links bounds.links;
@@ -73,7 +73,7 @@ cell_enclosed s v w z p x y g bounds is = record {
   evaps = rw (bounds.no_ramps.2, is.no_ramps.2) tt;
 }
 
-module _ (d : ℕ) (X Y : ℕ → ℤ) (e f g : List ExactCell) (is : IsDifferenceStep d X Y e f g) where
+module _ (d : ℕ) (X Y : ℕ → ℤ) (qs : ℕ → List ExactFlow) (e f g : List ExactCell) (is : IsDifferenceStep d X Y qs e f g) where
   -- the differences' step has the links of the base plan's
   same_links : (k : ℕ) → (cell_at e k).links ≡ (cell_at g k).links
   same_links k = elim (cases_lt k (length e)) [
@@ -97,17 +97,17 @@ module _ (d : ℕ) (X Y : ℕ → ℤ) (e f g : List ExactCell) (is : IsDifferen
   equal_ends ends c h = subst (λ (ls : List ExactLink). All (HasLinkBack g c) ls) (same_links c) (links_back c (cell_at e c).links (ends c (omega (arith, is.as_many))))
 
 pub differences_are_enclosed : EnclosesDifferences
-differences_are_enclosed s p d X Y e f g bounds is = record {
+differences_are_enclosed s p d X Y qs e f g bounds is = record {
   cells = related_at (CellEncloses s) no_entries no_cell p g (bounds.as_many.0 ∙ sym is.as_many)
       (λ c h. cell c (omega (arith, bounds.as_many.0)));
-  ends = equal_ends d X Y e f g is bounds.ends;
+  ends = equal_ends d X Y qs e f g is bounds.ends;
 }
   where
     cell : (c : ℕ) → c < length e → CellEncloses s (entries_at p c) (cell_at g c)
-    cell c here = cell_enclosed s _ _ _ (entries_at p c) (cell_at e c) (cell_at f c) (cell_at g c) (bounds.cells c here) (is.cells c here)
+    cell c here = cell_enclosed s _ _ _ (entries_at p c) (qs c) (cell_at e c) (cell_at f c) (cell_at g c) (bounds.cells c here) (is.cells c here)
 
 pub solutions_bound_differences : SolutionsBoundDifferences
-solutions_bound_differences s p l u e f d X Y bounds solved encloses =
-    let (g, is) = difference_step_exists d X Y e f solved.some in
-    encloses s g d (λ c. X c -ℤ Y c) (differences_are_enclosed s p d X Y e f g bounds is) solved.some
-    (difference_solves_it d X Y e f g solved.some solved.weather is solved.base solved.other)
+solutions_bound_differences s p l u qs e f d X Y bounds solved encloses =
+    let (g, is) = difference_step_exists d X Y qs e f solved.some in
+    encloses s g d (λ c. X c -ℤ Y c) (differences_are_enclosed s p d X Y qs e f g bounds is) solved.some
+    (difference_solves_it d X Y qs e f g solved.some solved.weather bounds.apart is solved.base solved.other)

@@ -11,15 +11,15 @@ pub use Rattle.cell_balance.proofs.Enclosing.{same_over}
 pub use Rattle.cell_balance.proofs.ExactLaws.{heads_over}
 pub use Rattle.cell_balance.proofs.Ramps.{Ramp, net_flow, ramp_flow, rise, rise_grows}
 pub use Rattle.cell_balance.proofs.Scaling.{IsOver-minus, IsOver-none, IsOver-plus, IsOver-signed, IsOver-times, over_zero, positive_natural}
-pub use Rattle.cell_balance.specs.{CellEncloses, ExactCell, ExactDrain, ExactEvap, ExactFixed, ExactLink, ExactRiver, FixedEncloses, HasEqualEnds, HasLinkBack}
-pub use Rattle.cell_balance.specs.{balance, cell_at, drain_flow, evap_flow, fixed_flow, link_flow, minus, no_cell, river_flow, share}
+pub use Rattle.cell_balance.specs.{CellEncloses, ExactCell, ExactDrain, ExactEvap, ExactFixed, ExactFlow, ExactLink, ExactRiver, FixedEncloses, HasEqualEnds}
+pub use Rattle.cell_balance.specs.{HasLinkBack, balance, cell_at, drain_flow, evap_flow, fixed_flow, link_flow, minus, no_cell, river_flow, share}
 pub use Rattle.decimal_input.proofs.FloorLaws.{Same-sym, Same-trans, cancel_right, le-antisym, le-of, swap}
 pub use Rattle.decimal_input.specs.{Encloses, Fraction, IsOver, Ratio, as_fraction, fraction_total, whole}
 pub use Rattle.decimal_input.specs.Fractions.{Same, den, plus, times}
 pub use Rattle.decimal_input.specs.Ratios.{AtMost}
-pub use Rattle.plan_difference.specs.{AreInOneWeather, BoundsDifferences, DifferenceSolvesIt, DifferenceStepExists, DifferencesLieAbove, DifferencesLieBelow}
-pub use Rattle.plan_difference.specs.{EnclosesDifferences, IsDifferenceCell, IsDifferenceStep, IsOpenBranch, IsRampBranch, RampsShare}
-pub use Rattle.plan_difference.specs.{SolutionsBoundDifferences, flow_difference, greatest_balance, known_difference, known_differences, least_balance}
-pub use Rattle.plan_difference.specs.{least_of_ramp, most_of_ramp}
+pub use Rattle.plan_difference.specs.{AreFlowsApart, AreInOneWeather, BoundsDifferences, DifferenceSolvesIt, DifferenceStepExists, DifferencesLieAbove}
+pub use Rattle.plan_difference.specs.{DifferencesLieBelow, EnclosesDifferences, IsDifferenceCell, IsDifferenceStep, IsOpenBranch, IsRampBranch, RampsShare}
+pub use Rattle.plan_difference.specs.{SolutionsBoundDifferences, greatest_balance, known_difference, known_differences, least_balance, least_of_ramp}
+pub use Rattle.plan_difference.specs.{most_of_ramp}
 pub use Rattle.step_problem.proofs.Leasts.{as_diff, diffs, mul_add, mul_assoc, mul_mono, mul_neg, same_diff}
 pub use Rattle.step_problem.specs.{entries_at, least, most, no_entries, total}

@@ -1,10 +1,10 @@
 -- The balance of a difference's cell is the difference of the two plans' balances.
 use Rattle.plan_difference.proofs.Common.{◌≡◌, ℕ, ◌*◌, ◌<◌, ◌∙◌, ap, sym, refl, subst, arith, mul-pos, ℤ, pos, ◌*ℤ◌, ◌+ℤ◌, ◌-ℤ◌, neg_ℤ, List, [], ◌∷◌, ◌++◌}
-use Rattle.plan_difference.proofs.Common.{length, AllZip, Same-sym, Same-trans, Fraction, IsOver, Ratio, as_fraction, fraction_total, whole, Same, den, plus}
-use Rattle.plan_difference.proofs.Common.{times, as_diff, diffs, same_diff, sub_mul, Goes-first, Goes-second, fraction_over, same_over, heads_over}
-use Rattle.plan_difference.proofs.Common.{IsOver-minus, IsOver-signed, IsOver-times, over_zero, ExactCell, ExactFixed, ExactLink, balance, cell_at, drain_flow}
-use Rattle.plan_difference.proofs.Common.{evap_flow, fixed_flow, link_flow, minus, river_flow, share, AreInOneWeather, DifferenceSolvesIt, IsDifferenceCell}
-use Rattle.plan_difference.proofs.Common.{known_difference, known_differences, zero-*ℤ}
+use Rattle.plan_difference.proofs.Common.{length, AllZip, Same-sym, Same-trans, Fraction, IsOver, Ratio, as_fraction, fraction_total, Same, den, plus, times}
+use Rattle.plan_difference.proofs.Common.{as_diff, diffs, same_diff, sub_mul, Goes-first, Goes-second, fraction_over, same_over, heads_over, IsOver-minus}
+use Rattle.plan_difference.proofs.Common.{IsOver-signed, IsOver-times, over_zero, ExactCell, ExactFixed, ExactLink, balance, cell_at, drain_flow, evap_flow}
+use Rattle.plan_difference.proofs.Common.{fixed_flow, link_flow, minus, river_flow, share, AreInOneWeather, DifferenceSolvesIt, IsDifferenceCell}
+use Rattle.plan_difference.proofs.Common.{known_difference, known_differences, zero-*ℤ, ExactFlow, AreFlowsApart}
 use Rattle.decimal_input.specs.Ratios.{den as ratio_den}
 use Rattle.plan_difference.proofs.Sames.{difference_of_sums, difference_of_totals, nothing_after, same_is_over, same_self, sums_same, total_of_both}
 
@@ -81,15 +81,15 @@ module _ (d : ℕ) (some : 0 < d) (X Y : ℕ → ℤ) (c : ℕ) where
       (sums_same (give ks) (give ks) _ _ (same_self (give ks)) (Same-trans (total_of_both (fixed_flow z) rs (ds ++ es))
       (sums_same (give rs) (give rs) _ _ (same_self (give rs)) (total_of_both (fixed_flow z) ds es))))
 
-  pub balance_of_difference : (x y g : ExactCell) → AreInOneWeather x y → IsDifferenceCell v w z x y g →
+  pub balance_of_difference : (qs : List ExactFlow) (x y g : ExactCell) → AreInOneWeather x y → AreFlowsApart qs x y → IsDifferenceCell v w z qs x y g →
       Same (minus (balance x v xs) (balance y w ys)) (balance g z zs)
-  balance_of_difference x y g weather is =
+  balance_of_difference qs x y g weather flows is =
       let flow = minus (fraction_total (λ q. q.flow) x.flows) (fraction_total (λ q. q.flow) y.flows) in
       let links = fraction_total (link_flow zs z) x.links in
       let known = known_differences x.fixed y.fixed in
       let branches = fraction_total (fixed_flow z) (known ++ (is.of_rivers ++ (is.of_drains ++ is.of_evaps))) in
       let apart = Same-trans (nothing_after branches) (branches_together known is.of_rivers is.of_drains is.of_evaps) in
-      let tail = Same-sym (sums_same (plus flow (whole (pos 0))) flow _ _ (nothing_after flow) (sums_same links links _ _ (same_self links) apart)) in
+      let tail = Same-sym (sums_same (fraction_total (λ q. q.flow) qs) flow _ _ flows.same (sums_same links links _ _ (same_self links) apart)) in
       rw (weather.links, weather.rivers, weather.drains, weather.evaps, is.links, is.flows, is.fixed, is.no_ramps.0, is.no_ramps.1, is.no_ramps.2)
       (Same-trans (difference_of_sums _ _ _ _ flow _ (same_self flow)
       (difference_of_sums _ _ _ _ links _ (all_links_differ x.links)
@@ -99,9 +99,9 @@ module _ (d : ℕ) (some : 0 < d) (X Y : ℕ → ℤ) (c : ℕ) where
       (difference_of_totals _ (evap_flow v) (evap_flow w) (fixed_flow z) (λ r b ramp. ramp.same) x.evaps is.of_evaps is.evaps)))))) tail)
 
 pub difference_solves_it : DifferenceSolvesIt
-difference_solves_it d X Y e f g some weather is solves_x solves_y c i =
+difference_solves_it d X Y qs e f g some weather apart is solves_x solves_y c i =
     let here : c < length e = omega (arith, is.as_many) in
-    let same = balance_of_difference d some X Y c (cell_at e c) (cell_at f c) (cell_at g c) (weather.cells c here) (is.cells c here) in
+    let same = balance_of_difference d some X Y c (qs c) (cell_at e c) (cell_at f c) (cell_at g c) (weather.cells c here) (apart c here) (is.cells c here) in
     none _ _ (Same-sym same) (nothing _ _ (solves_x c here) (solves_y c (omega (arith, weather.as_many))))
   where
     nothing : (p q : Fraction) → p.num ≡ pos 0 → q.num ≡ pos 0 → (minus p q).num ≡ pos 0

@@ -7,7 +7,6 @@ use Rattle.decimal_input.specs.{Fraction, Ratio, fraction_total, whole}
 use Rattle.decimal_input.specs.Fractions.{Same}
 use Rattle.decimal_input.specs.Ratios.{AtMost}
 use Rattle.step_problem.specs.declared.entry.FixedKind.TheVariants.{General}
-use Rattle.step_problem.specs.declared.entry.FlowKind.TheVariants.{Wells}
 use Rattle.cell_balance.specs.{ExactCell, ExactFixed, ExactFlow, SolvesStep, cell_at, drain_flow, evap_flow, fixed_flow, minus, river_flow, share}
 
 -- Two cells in the same weather: all is the same but constant flows, and the heads of branches to known heads (the old heads, over storage).
@@ -23,9 +22,9 @@ pub record AreStepsInOneWeather (e f : List ExactCell) : Type 0 where
   pub as_many : length f ≡ length e
   pub cells : (c : ℕ) → c < length e → AreInOneWeather (cell_at e c) (cell_at f c)
 
--- The constant flow that cell x gets more than cell y: what the other plan's wells take.
-abbrev pub flow_difference : ExactCell → ExactCell → ExactFlow
-flow_difference x y = record { kind = Wells; flow = minus (fraction_total (λ q. q.flow) x.flows) (fraction_total (λ q. q.flow) y.flows) }
+-- The flows qs sum to the constant flow that cell x gets more than cell y: they may be the flows of the wells that the other plan adds, turned round.
+pub record AreFlowsApart (qs : List ExactFlow) (x y : ExactCell) : Type 0 where
+  pub same : Same (fraction_total (λ q. q.flow) qs) (minus (fraction_total (λ q. q.flow) x.flows) (fraction_total (λ q. q.flow) y.flows))
 
 -- A branch to a known head, over the same conductance to the difference of the two plans' heads there: 0 for a constant or a
 -- general head, which is the same in both plans, and the old difference for storage.
@@ -47,10 +46,11 @@ pub record IsRampBranch (id : ℕ) (z : Fraction) (own : Ratio) (gives other : F
   pub at_most : AtMost b.conductance own
   pub same : Same (minus gives other) (fixed_flow z b)
 
--- g is the differences' cell of the base plan's cell x at the head v and of the other plan's cell y at the head w, whose difference is z.
-pub record IsDifferenceCell (v w z : Fraction) (x y g : ExactCell) : Type 0 where
+-- g is the differences' cell of the base plan's cell x at the head v and of the other plan's cell y at the head w, whose
+-- difference is z, with the flows qs.
+pub record IsDifferenceCell (v w z : Fraction) (qs : List ExactFlow) (x y g : ExactCell) : Type 0 where
   pub id : g.id ≡ x.id
-  pub flows : g.flows ≡ flow_difference x y ∷ []
+  pub flows : g.flows ≡ qs
   pub links : g.links ≡ x.links
   pub of_rivers : List ExactFixed
   pub of_drains : List ExactFixed
@@ -61,18 +61,20 @@ pub record IsDifferenceCell (v w z : Fraction) (x y g : ExactCell) : Type 0 wher
   pub evaps : AllZip (λ r. IsRampBranch x.id z r.conductance (evap_flow v r) (evap_flow w r)) x.evaps of_evaps
   pub no_ramps : (g.rivers ≡ []) × (g.drains ≡ []) × (g.evaps ≡ [])
 
--- g is the step of the differences X - Y over d of the heads X in the base plan's step e and Y in the other plan's step f.
-pub record IsDifferenceStep (d : ℕ) (X Y : ℕ → ℤ) (e f g : List ExactCell) : Type 0 where
+-- g is the step of the differences X - Y over d of the heads X in the base plan's step e and Y in the other plan's step f,
+-- with the flows qs c at cell c.
+pub record IsDifferenceStep (d : ℕ) (X Y : ℕ → ℤ) (qs : ℕ → List ExactFlow) (e f g : List ExactCell) : Type 0 where
   pub as_many : length g ≡ length e
   pub cells : (c : ℕ) → c < length e →
-      IsDifferenceCell (share d (X c)) (share d (Y c)) (share d (X c -ℤ Y c)) (cell_at e c) (cell_at f c) (cell_at g c)
+      IsDifferenceCell (share d (X c)) (share d (Y c)) (share d (X c -ℤ Y c)) (qs c) (cell_at e c) (cell_at f c) (cell_at g c)
 
--- At any heads of two plans there is such a step.
+-- At any heads of two plans there is such a step, with any flows.
 abbrev pub DifferenceStepExists : Type 0
-DifferenceStepExists = (d : ℕ) (X Y : ℕ → ℤ) (e f : List ExactCell) → 0 < d → (g : List ExactCell) × IsDifferenceStep d X Y e f g
+DifferenceStepExists = (d : ℕ) (X Y : ℕ → ℤ) (qs : ℕ → List ExactFlow) (e f : List ExactCell) → 0 < d → (g : List ExactCell) × IsDifferenceStep d X Y qs e f g
 
--- The difference of two plans' solutions solves it.
+-- Where the flows are what the base plan has more, the difference of two plans' solutions solves it.
 abbrev pub DifferenceSolvesIt : Type 0
 DifferenceSolvesIt =
-    (d : ℕ) (X Y : ℕ → ℤ) (e f g : List ExactCell) → 0 < d → AreStepsInOneWeather e f → IsDifferenceStep d X Y e f g →
+    (d : ℕ) (X Y : ℕ → ℤ) (qs : ℕ → List ExactFlow) (e f g : List ExactCell) → 0 < d → AreStepsInOneWeather e f →
+    ((c : ℕ) → c < length e → AreFlowsApart (qs c) (cell_at e c) (cell_at f c)) → IsDifferenceStep d X Y qs e f g →
     SolvesStep e d X → SolvesStep f d Y → SolvesStep g d (λ c. X c -ℤ Y c)
