@@ -50,14 +50,14 @@ impl PairGuesser for Spoilt<'_> {
         failed: Option<Failed>,
         _kept: &mut Kept,
     ) -> Result<Vec<Bound>, AllocError> {
-        let Some(Failed { pair, .. }) = failed else {
+        let Some(failed) = failed else {
             return Vec::from_slice(alloc, self.bounds);
         };
         let wider = |bound: &Bound| Bound {
             low: bound.low.saturating_sub(1),
             high: bound.high.saturating_add(1),
         };
-        pair.iter().map(wider).collect(alloc)
+        failed.pair.iter().map(wider).collect(alloc)
     }
 }
 
