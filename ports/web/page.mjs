@@ -27,6 +27,8 @@ function promise(command, is_two) {
     return `The listing is ${command === "check" ? "certified" : "whole"}. ${is_two ? PROMISES.two : PROMISES.one}`;
 }
 const held = new Map();
+/** The names of listings that the page made: those of files that were dropped are never taken. */
+const made = new Set();
 const map = new HeadMap({
     canvas: at("canvas"), layer: at("layer"), step: at("step"), value: at("value"),
     least: at("least"), greatest: at("greatest"), ramp: at("ramp"), said: at("cell"),
@@ -84,8 +86,11 @@ function drop_result() {
 
 async function take_file(file, name) {
     const bytes = new Uint8Array(await file.arrayBuffer());
-    if (!/\.zip$/i.test(name)) held.set(name, bytes);
-    else for (const [inner, content] of await unzipped(bytes)) held.set(inner, content);
+    const files = /\.zip$/i.test(name) ? await unzipped(bytes) : [[name, bytes]];
+    for (const [inner, content] of files) {
+        held.set(inner, content);
+        made.delete(inner);
+    }
 }
 
 /** All files below an entry that was dropped. */
@@ -199,12 +204,14 @@ async function show_end(command, line, { status, out, side, taken, fault }, seco
 
 /** Offers what was written as a file, and a listing as one that can be checked. */
 function keep(command, out) {
-    const name = at("name").value.replace(/\.[^.]*$/, command === "write" ? ".deck" : ".heads");
+    const stem = at("name").value.replace(/\.[^.]*$/, ""), ending = command === "write" ? ".deck" : ".heads";
+    const name = held.has(stem + ending) && !made.has(stem + ending) ? `${stem}.page${ending}` : stem + ending;
     saved = URL.createObjectURL(new Blob([out]));
     Object.assign(at("save"), { href: saved, download: name.slice(name.lastIndexOf("/") + 1), hidden: false });
     at("save").textContent = `Save ${at("save").download}`;
     if (command === "write") return;
     held.set(name, out);
+    made.add(name);
     offer("listing", [...held.keys()].filter(is_listing).sort());
     at("listing").value = name;
 }
