@@ -5,11 +5,14 @@ import os
 import subprocess
 from dataclasses import dataclass
 from pathlib import Path
+from typing import Any
 
 HERE = Path(__file__).resolve().parent
 WINE, WINE_SERVER = Path("/usr/lib/wine/wine64"), Path("/usr/lib/wine/wineserver")
 QEMU = Path("/usr/bin/qemu-aarch64-static")
 NODE = Path("/usr/bin/node")
+# A pipe would be open as long as the server is.
+UNSEEN: dict[str, Any] = {"stdin": subprocess.DEVNULL, "stdout": subprocess.DEVNULL, "stderr": subprocess.DEVNULL}
 
 
 @dataclass(frozen=True)
@@ -47,9 +50,11 @@ def started(name: str, port: Path, folder: Path) -> Path:
     source = str(HERE / "tests" / "launch.c")
     subprocess.run(["gcc", "-static", "-O1", *settings, "-o", str(target), source], check=True)
     if runner.program == WINE:
-        # One server for all starts. The first start makes the folder of settings; later ones run at the same time.
-        subprocess.run([str(WINE_SERVER), "-p"], env=settings_of(folder), capture_output=True)
-        subprocess.run([str(target)], cwd=folder, capture_output=True, timeout=120)
+        # One server for all starts, each of which would take seconds without. The first start makes the folder of
+        # settings; later ones run at the same time.
+        (folder / "wine").mkdir(exist_ok=True)
+        subprocess.run([str(WINE_SERVER), "-p"], env=settings_of(folder), **UNSEEN)
+        subprocess.run([str(target)], cwd=folder, timeout=120, **UNSEEN)
     return target
 
 
@@ -60,4 +65,4 @@ def settings_of(folder: Path) -> dict[str, str]:
 def stop(folder: Path) -> None:
     """Ends the server that wine started for this folder."""
     if (folder / "wine").exists():
-        subprocess.run([str(WINE_SERVER), "-k"], env=settings_of(folder), capture_output=True)
+        subprocess.run([str(WINE_SERVER), "-k"], env=settings_of(folder), **UNSEEN)

@@ -213,7 +213,6 @@ def test_words_that_are_taken_have_no_fault():
 
 
 BROKEN = {
-    "CRLF": (lambda text: text.replace("\n", "\r\n"), "its lines end with CR LF"),
     "nan": (lambda text: text.replace("HEAD 1 2 3 ", "HEAD 1 2 3 nan ", 1), "`nan` is no number"),
     "an empty line": (lambda text: text.replace("\nIN", "\n\nIN", 1), "it is empty, and a listing has no empty lines"),
     "a word too many": (lambda text: text.replace("HEAD 1 2 3 ", "HEAD 1 2 3 3 ", 1), "isn't of the form of a line HEAD"),
@@ -230,10 +229,9 @@ def test_what_is_wrong_in_a_listing_is_named_with_its_line(name, tmp_path, tool)
     (tmp_path / "m.heads").write_bytes(change(text).encode())
     status, out, err = tool("look", tmp_path / "m.heads", tmp_path / "look", "--name", nam)
     assert status == 2 and part in err and not (tmp_path / "look").exists(), err
-    if name != "CRLF":
-        lines = zip(change(text).split("\n"), text.split("\n"))
-        first = next(n for n, (now, was) in enumerate(lines, 1) if now != was)
-        assert f"m.heads, line {first}: " in err
+    lines = zip(change(text).split("\n"), text.split("\n"))
+    first = next(n for n, (now, was) in enumerate(lines, 1) if now != was)
+    assert f"m.heads, line {first}: " in err
 
 
 def test_a_name_with_a_blank_in_a_batchs_list_is_told(tmp_path, tool):
