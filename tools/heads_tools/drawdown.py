@@ -154,6 +154,11 @@ class Drawdown:
         low, high = change.low[places], change.high[places]
         return int(places[high.argmin() if (high < 0).any() else np.maximum(-low, high).argmax()])
 
+    def cell(self, at: int) -> Cell:
+        """Layer, row and column of a place."""
+        layer, row, col = self.plan.cells[at].tolist()
+        return layer, row, col
+
     @cached_property
     def without_wells(self) -> np.ndarray:
         """The places of the cells without an entry of the plan's WEL; none where its model isn't named, or has no
@@ -199,9 +204,7 @@ class Drawdown:
     def most(self, change: Change, among: np.ndarray | None = None) -> str:
         """What the plan does at the end of a step to the cell, of all or of some, whose head it changes most."""
         at = self.deepest(change, among)
-        return told(
-            int(change.low[at]), int(change.high[at]), self.unit, where=place_of(self.plan.cell(at))
-        )
+        return told(int(change.low[at]), int(change.high[at]), self.unit, where=place_of(self.cell(at)))
 
     def term_sentences(self) -> list[str]:
         last = self.changes[-1]

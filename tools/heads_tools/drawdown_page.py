@@ -1,7 +1,6 @@
-"""Pictures and pages of differences: one plan against a base, and all plans of a batch beside each other."""
+"""Pictures and the page of what one plan does against a base."""
 from __future__ import annotations
 
-from dataclasses import dataclass
 from pathlib import Path
 
 import numpy as np
@@ -12,18 +11,20 @@ from .looking import plan_for, title_of
 from .page import Page, write_page
 from .page_facts import Facts, facts_of, facts_of_making
 from .pictures import Album
-from .text import Problem, decimal_text, down, up
+from .text import decimal_text, down, up
 from .verdict import Verdict
 
-MOST_MAPS, MOST_PANELS = 12, 24
-RIVER = "RIVER LEAKAGE"
+MOST_MAPS = 12
 ALL_BETWEEN = "Each change from an exact solution of the base to one of the plan lies between its bounds."
 
 
 def fall(it: Drawdown, change: Change) -> np.ndarray:
     """The middle of base less plan on the grid, in length units: for pictures alone."""
-    shape = it.model.shape if it.model else it.plan.shape
-    return it.plan.grid(-(change.low / 2 + change.high / 2) / 1e9, shape)
+    return it.plan.grid(-(change.low / 2 + change.high / 2) / 1e9, shape_of(it))
+
+
+def shape_of(it: Drawdown) -> tuple[int, int, int]:
+    return it.model.shape if it.model else it.plan.shape
 
 
 def scale_of(falls: list[np.ndarray]) -> maps.Scale:
@@ -45,14 +46,14 @@ def set_verdict(page: Page, seen: list[Verdict]) -> None:
     page.verdict = f"{told}: {names}. The changes hold only where the pairs are bounds."
 
 
-def title(it: Drawdown) -> str:
-    told = f"{it.plan.path.stem} against {it.base.path.stem}"
-    return f"{title_of(it.model.deck.path)}: {told}" if it.model else f"Drawdown: {told}"
+def title(it: Drawdown, told: str) -> str:
+    """The model's title, if it is known, and what a page compares."""
+    return f"{title_of(it.model.deck.path) if it.model else 'Drawdown'}: {told}"
 
 
 def facts(it: Drawdown) -> Facts:
-    made = facts_of_making(any(each.status is not None for each in it.verdicts))
-    return [*facts_of(it.plan, it.unit, it.model, "Plan"), *facts_of(it.base, it.unit, None, "Base"), *made]
+    about = [*facts_of(it.plan, it.unit, it.model, "Plan"), *facts_of(it.base, it.unit, None, "Base")]
+    return about + facts_of_making(it.verdicts)
 
 
 def draw_maps(it: Drawdown, album: Album, page: Page) -> None:
@@ -61,7 +62,7 @@ def draw_maps(it: Drawdown, album: Album, page: Page) -> None:
     falls = {"": fall(it, last), **({"_deepest": fall(it, worst)} if worst is not last else {})}
     if min(falls[""].shape[1:]) == 1:
         return
-    plan, scale = plan_for(it.model, falls[""].shape, it.unit), scale_of(list(falls.values()))
+    plan, scale = plan_for(it.model, shape_of(it), it.unit), scale_of(list(falls.values()))
     for change, (more, values) in zip((last, worst), falls.items()):
         width = decimal_text(int((change.high - change.low).max()), 9)
         for k in [k for k in range(len(values)) if np.isfinite(values[k]).any()][:MOST_MAPS]:
@@ -85,8 +86,8 @@ def draw_curves(it: Drawdown, album: Album, page: Page, cells: list[Cell]) -> No
     has_times = all(t is not None for t in ends)
     x = np.array(ends if has_times else range(1, len(ends) + 1), dtype=float)
     label = f"time, {it.model.time}" if has_times and it.model else "step"
-    greatest = np.array([it.greatest(c) for c in it.changes]).T / 1e9
-    lines: list[curves.Curve] = [("greatest of all cells", greatest[0], greatest[1])]
+    least, most = np.array([it.greatest(c) for c in it.changes]).T / 1e9
+    lines: list[curves.Curve] = [("greatest of all cells", least, most)]
     for cell in cells:
         at = it.plan.at(cell)
         low, high = (np.array([-getattr(c, side)[at] for c in it.changes]) / 1e9 for side in ("high", "low"))
@@ -96,7 +97,7 @@ def draw_curves(it: Drawdown, album: Album, page: Page, cells: list[Cell]) -> No
         "Curves", "drawdown_curves.png", "Drawdown over time, bands between its bounds; down is a lower head"
     )
     names = [name for name in it.changes[-1].nets if any(any(c.nets.get(name, (0, 0))) for c in it.changes)]
-    terms = [(name.lower(), rates(it, name, 0), rates(it, name, 1)) for name in names]
+    terms: list[curves.Curve] = [(name.lower(), rates(it, name, 0), rates(it, name, 1)) for name in names]
     if terms:
         words = label, f"more into the cells, {it.rate}", "Change of the budget over time"
         curves.bands(album, "budget_curves", np.concatenate([[0.0], x]), terms, *words, is_rate=True)
@@ -115,13 +116,14 @@ def rates(it: Drawdown, name: str, side: int) -> np.ndarray:
 def draw(it: Drawdown, folder: Path, cells: list[Cell], files: list[str]) -> None:
     """Writes pictures and the page of one plan against its base. `files`: the tables beside the page."""
     last = it.changes[-1]
-    page = Page(title(it), facts=facts(it), files=files)
+    told = f"{it.plan.path.stem} against {it.base.path.stem}"
+    page = Page(title(it, told), facts=facts(it), files=files)
     set_verdict(page, it.verdicts)
     for text in it.sentences(cells)[len(it.verdicts) :]:
         page.say(text)
     deepest = [it.deepest(it.worst), it.deepest(last)]
     deepest += [it.deepest(it.worst, it.without_wells)] if len(it.without_wells) else []
-    chosen = cells or [it.plan.cell(at) for at in dict.fromkeys(deepest)]
+    chosen = cells or [it.cell(at) for at in dict.fromkeys(deepest)]
     rows = []
     for cell in chosen:
         at = it.plan.at(cell)
@@ -141,6 +143,11 @@ def draw(it: Drawdown, folder: Path, cells: list[Cell], files: list[str]) -> Non
         page.text("Zones", f"Change of the flow between zones, {it.at(last)}, in {it.rate}.")
         page.table("Zones", ["zones", "from", "to"], flows)
     write_page(page, folder)
+
+
+def fall_pair(change: Change, at: int) -> tuple[str, str]:
+    """The bounds of a cell's drawdown."""
+    return decimal_text(-int(change.high[at]), 9), decimal_text(-int(change.low[at]), 9)
 
 
 def deepest_at(it: Drawdown, at: int) -> Change:
@@ -170,98 +177,3 @@ def add_terms(it: Drawdown, page: Page) -> None:
 
 def middle_size(pair: Pair, places: int) -> float:
     return abs(pair[0] + pair[1]) / 10.0**places
-
-
-@dataclass
-class Plan:
-    """One plan of a batch: its name, how it ended, and its changes against the base (None where it has no listing)."""
-
-    name: str
-    ended: str
-    it: Drawdown | None
-
-    @property
-    def drawdown(self) -> Drawdown:
-        """The changes of a plan that has a listing."""
-        if self.it is None:
-            raise Problem(f"{self.name}: {self.ended}")
-        return self.it
-
-
-def draw_plans(plans: list[Plan], base: Plan, folder: Path, cells: list[Cell]) -> None:
-    """One page for all plans of a batch against their base: a table, maps in one scale, and the terms of each. `base`:
-    the base against itself."""
-    drawn, ground = [p for p in plans if p.it is not None], base.drawdown
-    count = f"{len(plans)} plan{'' if len(plans) == 1 else 's'} against {base.name}"
-    name = title_of(ground.model.deck.path) if ground.model else base.name
-    page = Page(f"{name}: {count}", files=["plans.csv"])
-    page.facts = [*facts_of(ground.plan, ground.unit, ground.model, "Base"), *facts_of_making(True)]
-    set_verdict(page, [ground.verdicts[0], *(p.drawdown.verdicts[0] for p in drawn)])
-    for text in dict.fromkeys(text for p in (base, *drawn) for text in p.drawdown.tops):
-        page.say(text)
-    head, rows = table_of(plans, cells)
-    page.text("Plans", f"Drawdown in {ground.unit}; a click on the head of a column sorts the table.")
-    page.table("Plans", head, rows, is_sorted=True)
-    draw_small_maps(drawn, Album(folder), page)
-    terms = []
-    for plan in drawn:
-        last = plan.drawdown.changes[-1]
-        for name, (low, high) in last.nets.items():
-            if low or high:
-                terms.append([plan.name, name, down(low, last.places), up(high, last.places)])
-    page.text("Budget", f"Change of the net flow into the cells at the end of the last step, in {ground.rate}.")
-    page.table("Budget", ["plan", "term", "from", "to"], terms, is_sorted=True)
-    write_page(page, folder)
-
-
-def table_of(plans: list[Plan], cells: list[Cell]) -> tuple[list[str], list[list[str]]]:
-    """A row for each plan: where and when it lowers the head most, by how much, what it does at some cells and to the
-    river at the end of the last step; of a plan without a listing, why."""
-    drawn = [p for p in plans if p.it is not None]
-    has_river = any(RIVER in p.drawdown.changes[-1].nets for p in drawn)
-    head = ["plan", "greatest drawdown, from", "to", "layer row column", "at the end of"]
-    head += [f"{' '.join(map(str, cell))}, {side}" for cell in cells for side in ("from", "to")]
-    head += ["river into the cells, from", "to"] * has_river + ["heads check"]
-    rows = []
-    for plan in plans:
-        if plan.it is None:
-            rows.append([plan.name, *[""] * (len(head) - 2), plan.ended])
-            continue
-        it, last = plan.it, plan.it.changes[-1]
-        worst = it.worst
-        at = it.deepest(worst)
-        row = [plan.name, *fall_pair(worst, at), " ".join(map(str, it.plan.cells[at].tolist())), it.at(worst)]
-        row += [text for cell in cells for text in fall_pair(last, it.plan.at(cell))]
-        if has_river:
-            low, high = last.nets.get(RIVER, (0, 0))
-            row += [down(low, last.places), up(high, last.places)]
-        rows.append([*row, it.verdicts[0].last])
-    return head, rows
-
-
-def fall_pair(change: Change, at: int) -> tuple[str, str]:
-    """The bounds of a cell's drawdown."""
-    return decimal_text(-int(change.high[at]), 9), decimal_text(-int(change.low[at]), 9)
-
-
-def draw_small_maps(plans: list[Plan], album: Album, page: Page) -> None:
-    """The topmost layer with flow of each plan, all in one scale."""
-    falls = [fall(p.drawdown, p.drawdown.changes[-1]) for p in plans]
-    if not falls or min(falls[0].shape[1:]) == 1:
-        return
-    plan = plan_for(plans[0].drawdown.model, falls[0].shape, plans[0].drawdown.unit)
-    label, scale = f"drawdown, {plans[0].drawdown.unit}", scale_of(falls)
-    for first in range(0, len(plans), MOST_PANELS):
-        panels = []
-        for one, values in list(zip(plans, falls))[first : first + MOST_PANELS]:
-            k = next(k for k in range(len(values)) if np.isfinite(values[k]).any())
-            panels.append((one.name, values[k]))
-        name = f"plans{first // MOST_PANELS + 1}"
-        maps.small_maps(album, name, plan, panels, label, *scale)
-        page.picture(
-            "Maps",
-            f"{name}.png",
-            "Drawdown of each plan in its topmost layer with flow, at the end of the last step, in one scale: above 0"
-            " (red) the plan lowers the head",
-            f"Maps of plans {first + 1} to {first + len(panels)}" if first else "",
-        )

@@ -168,7 +168,8 @@ def add_verdicts(told: Exhibit, folder: Path, name: str, listing: str, options: 
     told.facts.append(("check", f"{checked.last} (status {checked.status})"))
     count = sum(len(step.low) for step in read.steps)
     add_recheck(told, folder, shlex.join([name, "../" + listing, *named, *wide, *to]), count)
-    verdict = Verdict(checked.status, checked.last, listing, has_zones(read), bool(named), read.is_span)
+    seen = has_zones(read), bool(named), read.is_span
+    verdict = Verdict(checked.status, checked.last, listing, *seen, program=sha256(program_file()))
     told.verdict = verdict.sentence
     told.words = words_of(read, model.length, differing(folder / "deck", name, to), wells_of(model))
     if verdict.is_certified and known.is_recorded is not False:

@@ -76,12 +76,9 @@ class Flows(OverTime):
         label = self.times()[1]
         nets = [{n[0]: n[1:3] for n in budget_of(s).nets} for s in self.listing.steps]
         unit = 10.0**-self.listing.flow_places
-        values = lambda name, side: np.array([float(n.get(name, (0, 0))[side]) * unit for n in nets])
-        lines = [
-            (name.lower(), values(name, 0), values(name, 1))
-            for name in nets[-1]
-            if any(any(n.get(name, ())) for n in nets)
-        ]
+        rates = lambda name, side: np.array([float(n.get(name, (0, 0))[side]) * unit for n in nets])
+        names = [name for name in nets[-1] if any(any(n.get(name, ())) for n in nets)]
+        lines: list[curves.Curve] = [(name.lower(), rates(name, 0), rates(name, 1)) for name in names]
         if lines:
             words = label, f"in less out, {self.rate}", "Terms of the budget over time"
             curves.bands(self.album, "terms", self.step_edges(), lines, *words, is_rate=True)

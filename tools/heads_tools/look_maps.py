@@ -109,8 +109,8 @@ class Maps(Looking):
     def dots_below(self, step: Step, along: np.ndarray, layers: list[int]) -> tuple[np.ndarray, np.ndarray] | None:
         """Where in these layers of a model of one row or column heads lie below the tops of their cells: distances and
         heads."""
-        if self.below_top is None or not self.below_top.is_below(step).any():
+        if not self.is_below(step).any():
             return None
-        below, heads = (self.listing.grid(v, self.shape) for v in (self.below_top.is_below(step) * 1.0, step.low / 1e9))
+        below, heads = (self.listing.grid(v, self.shape) for v in (self.is_below(step) * 1.0, step.low / 1e9))
         k, at = np.nonzero(below.reshape(self.shape[0], -1)[layers] == 1)
         return along[at], heads.reshape(self.shape[0], -1)[layers][k, at]

@@ -36,12 +36,6 @@ class Sections(Ranges):
                 partial(self.draw_section, step, f"section_column{col}", title, np.s_[:, :, col - 1], 2, col)
             )
 
-    def where_below(self, step: Step) -> np.ndarray:
-        """The cells of the grid whose every exact head lies below the cell's top."""
-        if self.below_top is None:
-            return np.zeros(self.shape, bool)
-        return self.listing.grid(self.below_top.is_below(step) * 1.0, self.shape) == 1
-
     def draw_section(self, step: Step, name: str, title: str, where: tuple, axis: int, number: int) -> None:
         other, top, bottom = 3 - axis, self.plan.top, self.plan.bottom
         if top is None or bottom is None:
@@ -53,16 +47,11 @@ class Sections(Ranges):
             if cell[axis] == number
         ]
         edges = self.plan.x if axis == 1 else self.plan.y
-        cut = curves.Cut(
-            f"{title}\n{self.when(step)}",
-            edges,
-            self.grid(step.low)[where],
-            top[where],
-            bottom[where],
-            met,
-            self.grid(step.high)[where] if self.listing.is_span else None,
-            self.where_below(step)[where],
-        )
+        low, high, below = (self.grid(v)[where] for v in (step.low, step.high, self.is_below(step) * 1e9))
+        top, bottom = self.plan.levels()
+        upper = high if self.listing.is_span else None
+        names = f"{title}\n{self.when(step)}"
+        cut = curves.Cut(names, edges, low, top[where], bottom[where], met, upper, below == 1)
         if self.shape[0] == 1:
             curves.head_section(self.album, name, self.plan, cut)
         else:

@@ -25,7 +25,8 @@ class OverTime(Looking):
         chosen = list(dict.fromkeys(sorted(wells, key=lambda c: -moves[self.listing.at(c)])))[:LEAST_CURVES]
         apart = max(self.shape[1:]) / 5
         for at in np.argsort(-moves, kind="stable").tolist():
-            cell = self.listing.cell(at)
+            k, i, j = self.listing.cells[at].tolist()
+            cell = k, i, j
             if len(chosen) >= min(MOST_CURVES, max(LEAST_CURVES, len(wells) + 2)) or not moves[at]:
                 break
             if all(max(abs(cell[1] - c[1]), abs(cell[2] - c[2])) >= apart for c in chosen):
@@ -55,13 +56,11 @@ class OverTime(Looking):
 
     def draw_hydrographs(self, cells: list[Cell]) -> None:
         x, label = self.times()
-        lines, pairs = [], [(s.low, s.high) for s in self.listing.steps]
+        wells, lines = [cell for cell, _ in self.elements.get("WEL", [])], []
         for cell in cells:
             at = self.listing.at(cell)
-            name = "layer {} row {} column {}".format(*cell) + (
-                " (well)" if any(cell == c for c, _ in self.elements.get("WEL", [])) else ""
-            )
-            low, high = (np.array([pair[side][at] for pair in pairs]) / 1e9 for side in (0, 1))
+            name = "layer {} row {} column {}".format(*cell) + " (well)" * (cell in wells)
+            low, high = np.array([(s.low[at], s.high[at]) for s in self.listing.steps]).T / 1e9
             lines.append((name, low, high))
         curves.bands(self.album, "hydrographs", x, lines, label, f"head, {self.unit}", "Hydrographs")
         self.page.picture(

@@ -6,7 +6,7 @@ from functools import partial
 import numpy as np
 
 from . import maps
-from .below_top import Layer
+from .below_top import BelowTop, Layer
 from .looking import TOPS, Looking
 
 MOST_LAYERS = 20
@@ -22,12 +22,10 @@ class Tops(Looking):
             self.page.say(text)
         if min(self.shape[1:]) > 1:
             layers = self.below_top.layers[:MOST_LAYERS]
-            self.jobs += [partial(self.draw_below_top, layer, layer is not layers[0]) for layer in layers]
+            self.jobs += [partial(self.draw_below_top, self.below_top, each, each is not layers[0]) for each in layers]
 
-    def draw_below_top(self, layer: Layer, is_folded: bool) -> None:
-        last, tops = self.listing.steps[-1], self.below_top
-        if tops is None:
-            return
+    def draw_below_top(self, tops: BelowTop, layer: Layer, is_folded: bool) -> None:
+        last = self.listing.steps[-1]
         cases = tops.is_below(last), tops.below > 0, tops.perhaps > 0
         kinds = np.select(cases, [maps.BELOW, maps.BELOW_ONCE, maps.PERHAPS], maps.FULL)
         name, title = f"below_top_layer{layer.number}", f"Layer {layer.number}: heads below the tops of their cells"

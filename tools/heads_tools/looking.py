@@ -76,6 +76,11 @@ class Looking:
     def grid(self, values: np.ndarray) -> np.ndarray:
         return self.listing.grid(values / 1e9, self.shape)
 
+    def is_below(self, step: Step) -> np.ndarray:
+        """For each cell whether every exact head lies below its top at the end of a step; nowhere where no top is
+        known."""
+        return self.below_top.is_below(step) if self.below_top else np.zeros(len(step.low), bool)
+
     def draw(self) -> None:
         """Does what is still to be drawn."""
         for job in bar(self.jobs, "pictures", "picture"):
@@ -104,16 +109,15 @@ class Looking:
             facts.append(("Tops of cells", NO_TOPS))
         elif not self.below_top.layers:
             facts.append(("Tops of cells", ALL_FULL if self.verdict.is_certified else ALL_LISTED_FULL))
-        self.page.facts = facts + facts_of_making(self.verdict.status is not None)
+        self.page.facts = facts + facts_of_making([self.verdict])
 
 
 def elements(model: Model) -> dict[str, list[tuple[Cell, list[float]]]]:
     """The entries of each list in the last period that has new ones: cell and elevations (stage, bottom, drain)."""
-    columns = {"WEL": (), "RIV": (0, 2), "DRN": (0,), "GHB": (0,), "CHD": (1,)}
+    columns: dict[str, tuple[int, ...]] = {"WEL": (), "RIV": (0, 2), "DRN": (0,), "GHB": (0,), "CHD": (1,)}
     out = {}
     for kind, places in columns.items():
-        none: list[Entry] = []
-        entries = next((p for p in reversed(model.deck.lists.get(kind, [])) if p is not None), none)
+        entries: list[Entry] = next((p for p in reversed(model.deck.lists.get(kind, [])) if p is not None), [])
         out[kind] = [(e.cell, [value(e.words[n]) for n in places]) for e in entries]
     return out
 

@@ -7,8 +7,7 @@ from . import __version__
 from .listing import Listing
 from .made_by import made_by
 from .model import Model
-from .text import sha256
-from .verdict import program_name
+from .verdict import Verdict
 
 Facts = list[tuple[str, str]]
 
@@ -16,17 +15,16 @@ Facts = list[tuple[str, str]]
 def facts_of(listing: Listing, unit: str, model: Model | None, name: str = "Listing") -> Facts:
     """What a listing is, and its model. `name`: what the page calls it."""
     about = f"{listing.path.name}, --digits {listing.digits}: {listing.summary()} in\u00a0{unit}"
-    if listing.path.is_file():
-        about += f"; sha256 {sha256(listing.path)}"
-    made = made_by(listing.path)
-    facts = [(name, about)] + ([(f"{name}'s pairs", made)] if made else [])
+    made, digest = made_by(listing), f"; sha256 {listing.sha256}" if listing.sha256 else ""
+    facts = [(name, about + digest)] + ([(f"{name}'s pairs", made)] if made else [])
     if model:
         size = " x ".join(map(str, model.shape))
         facts.append((f"{name}'s model", f"{model.deck.path.name}: {size} cells (layers, rows, columns)"))
     return facts
 
 
-def facts_of_making(is_checked: bool) -> Facts:
-    """The program that checked, and when the page was made."""
-    checked = [("Checked by", program_name())] if is_checked else []
+def facts_of_making(seen: list[Verdict]) -> Facts:
+    """The program that checked, by its hash, and when the page was made."""
+    programs = dict.fromkeys(each.program for each in seen if each.program)
+    checked = [("Checked by", ", ".join(f"heads, sha256 {program}" for program in programs))] if programs else []
     return [*checked, ("Made by", f"heads-tools {__version__}, {time.strftime('%Y-%m-%d %H:%M UTC', time.gmtime())}")]

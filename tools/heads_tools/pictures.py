@@ -73,8 +73,13 @@ class Plan:
         _, rows, cols = cells[cells[:, 0] == layer].T
         spots = np.unique(rows * len(self.x) + cols)
         is_map = len(spots) <= (len(self.x) - 1) * (len(self.y) - 1) / 3
-        row, column = np.divmod(spots if is_map else spots[:0], len(self.x))
-        return row, column
+        rows, cols = np.divmod(spots if is_map else spots[:0], len(self.x))
+        return rows, cols
+
+    def levels(self) -> tuple[np.ndarray, np.ndarray]:
+        """Tops and bottoms of layers."""
+        assert self.top is not None and self.bottom is not None
+        return self.top, self.bottom
 
 
 def plan_of(delr: np.ndarray, delc: np.ndarray, unit: str, axis: str, **more) -> Plan:

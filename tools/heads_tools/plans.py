@@ -5,10 +5,11 @@ from pathlib import Path
 
 from .batch import Job, read_jobs
 from .drawdown import Cell, Drawdown, difference, said_of, tops_of, verdict_of
-from .drawdown_page import Plan, draw_plans, fall_pair
+from .drawdown_page import fall_pair
 from .explain import explain_output
 from .listing import Listing, read_listing
 from .model import read_model
+from .plans_page import Plan, draw_plans, drawn
 from .text import Problem, counted
 from .verdict import Verdict, status_of
 from .whole_files import whole_file
@@ -30,12 +31,11 @@ def compare_plans(path: Path, folder: Path, base_name: str | None, cells: list[C
     plans = [plan_of(job, ground, seen) for job in jobs if job is not base]
     folder.mkdir(parents=True, exist_ok=True)
     write_table(plans, folder)
-    draw_plans(plans, against(base, ground, ground, seen, seen), folder, cells)
-    told = said_of(seen)
+    draw_plans(plans, base.name, against(base, ground, ground, seen, seen), folder, cells)
+    told = [said_of(seen), *(f"{plan.name}: {plan.ended}" for plan in plans)]
     checks = [seen, *(plan.it.verdicts[0] for plan in plans if plan.it)]
     status = next((status for each in checks if (status := status_of(base.nam, each))), 0)
-    said = [told] + [f"{p.name}: {p.ended}" for p in plans]
-    return said + [f"{counted(len(plans), 'plan')} against {base.name}"], status
+    return [*told, f"{counted(len(plans), 'plan')} against {base.name}"], status
 
 
 def plan_of(job: Job, ground: Listing, seen: Verdict) -> Plan:
@@ -48,25 +48,26 @@ def plan_of(job: Job, ground: Listing, seen: Verdict) -> Plan:
         return Plan(job.name, meaning.lines[0], None)
     listing = read_listing(job.listing)
     try:
-        return against(job, listing, ground, verdict_of(listing, job.nam), seen)
+        it = against(job, listing, ground, verdict_of(listing, job.nam), seen)
     except Problem as error:
         return Plan(job.name, str(error), None)
+    last = 3 + (it.worst is not it.changes[-1])
+    return Plan(job.name, " ".join([said_of(it.verdicts[0]), *it.sentences([])[2:last]]), it)
 
 
-def against(job: Job, listing: Listing, ground: Listing, seen: Verdict, base_seen: Verdict) -> Plan:
+def against(job: Job, listing: Listing, ground: Listing, seen: Verdict, base_seen: Verdict) -> Drawdown:
     """The changes from the base to a model of the list."""
     model = read_model(job.nam)
     changes, tops = difference(listing, ground), tops_of(listing, model, seen)
-    it = Drawdown(listing, ground, changes, model.length, model, [seen, base_seen], tops)
-    return Plan(job.name, " ".join([said_of(seen), *it.sentences([])[2 : 3 + (it.worst is not changes[-1])]]), it)
+    return Drawdown(listing, ground, changes, model.length, model, [seen, base_seen], tops)
 
 
 def write_table(plans: list[Plan], folder: Path) -> None:
     """plans.csv: for each plan the step and the cell of its greatest drawdown, with its bounds."""
     with whole_file(folder / "plans.csv") as file:
         file.write("plan,period,step,layer,row,col,drawdown_lower,drawdown_upper\n")
-        for plan in (plan for plan in plans if plan.it is not None):
-            worst = plan.drawdown.worst
-            at = plan.drawdown.deepest(worst)
-            cell = ",".join(map(str, plan.drawdown.plan.cells[at].tolist()))
-            file.write(f"{plan.name},{worst.period},{worst.step},{cell},{','.join(fall_pair(worst, at))}\n")
+        for name, it in drawn(plans):
+            worst = it.worst
+            at = it.deepest(worst)
+            cell = ",".join(map(str, it.cell(at)))
+            file.write(f"{name},{worst.period},{worst.step},{cell},{','.join(fall_pair(worst, at))}\n")

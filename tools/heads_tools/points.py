@@ -2,6 +2,7 @@
 from __future__ import annotations
 
 import csv
+import math
 from dataclasses import dataclass, field
 from fractions import Fraction
 from pathlib import Path
@@ -70,7 +71,7 @@ class Points:
         number = lambda name: exact_value(text(name)) if text(name) else None
         try:
             layer = int(number("layer") or 1)
-            x, y = (float(text(name)) for name in "xy") if text("x") else (0.0, 0.0)
+            x, y = (float(text(name)) if text("x") else math.nan for name in "xy")
             cell = None if text("x") else (layer, int(text("row")), int(text("col")))
             name, time, measured = (row.get("name") or f"point {n - 1}").strip(), number("time"), number("measured")
         except (ValueError, TypeError, KeyError):

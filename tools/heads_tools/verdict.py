@@ -188,9 +188,3 @@ def program_sha256() -> str:
 @functools.lru_cache
 def hash_of(path: Path, time: int, size: int) -> str:
     return sha256(path)
-
-
-def program_name() -> str:
-    """The program by its name and hash: a page says nothing of its maker's folders."""
-    path = program_file()
-    return f"{path.name}, sha256 {sha256(path)}"

@@ -5,7 +5,10 @@ import re
 import pytest
 from conftest import TOP
 
+import heads_tools
+from heads_tools import read_listing
 from heads_tools.page import Page, bare, shown, write_page
+from heads_tools.text import sha256
 
 STEPS = """HEADS 2 DIGITS 0 UNIT 2
 STEP 1 1
@@ -60,7 +63,7 @@ def test_no_page_shows_a_folder_of_the_machine_or_a_backtick(plans, tool, tmp_pa
     assert tool("look", two, tmp_path / "look", *names[:2], "--minus", none)[0] == 0
     assert tool("exhibit", plans / "two_wells.nam", tmp_path / "exhibit")[0] == 0
     pages = [*tmp_path.rglob("*.html"), tmp_path / "exhibit" / "EXHIBIT.txt"]
-    assert len(pages) == 6
+    assert len(pages) == 8
     for path in pages:
         text = path.read_text()
         for folder in (str(tmp_path), str(TOP), os.path.dirname(os.environ["HEADS"])):
@@ -124,3 +127,14 @@ def test_the_judges_page_names_each_fact_apart(example, tool, tmp_path):
     text = (tmp_path / "exhibit" / "judge.html").read_text()
     names = re.findall("<dt>(.*?)</dt>", text)
     assert len(names) == len(set(names)) and {"program", "its sha256", "its sources", "its kit", "made"} <= set(names)
+
+
+def test_a_page_names_the_bytes_of_the_listing_that_it_shows(tmp_path):
+    """A listing in memory keeps its own hash where its file was written anew."""
+    path = tmp_path / "m.heads"
+    path.write_text(STEPS.format(0, 9, 0, 5))
+    shown_digest, listing = sha256(path), read_listing(path)
+    path.write_text(STEPS.format(2, 6, 7, 4))
+    assert heads_tools.look(listing, tmp_path / "look").is_good
+    text = (tmp_path / "look" / "index.html").read_text()
+    assert shown_digest in text and sha256(path) not in text
