@@ -100,10 +100,19 @@ class BelowTop:
             out.append(Layer(k, int(here.sum()), below, counts, dry, others))
         return out
 
+    @property
+    def count(self) -> int:
+        """How many cells are below their tops at the end of some step."""
+        return int((self.below > 0).sum())
+
     def sentences(self, is_certified: bool = True) -> list[str]:
         """What a reader has to know, layer by layer, and what it means; nothing where each cell is full."""
-        lines = [line for layer in self.layers for line in self.of_layer(layer, is_certified)]
-        return [*lines, THINNER] if any(layer.below for layer in self.layers) else lines
+        lines = self.lines(is_certified)
+        return [*lines, THINNER] if self.count else lines
+
+    def lines(self, is_certified: bool = True) -> list[str]:
+        """The same without what it means."""
+        return [line for layer in self.layers for line in self.of_layer(layer, is_certified)]
 
     def of_layer(self, layer: Layer, is_certified: bool) -> list[str]:
         out, has_steps = [], len(self.listing.steps) > 1

@@ -9,7 +9,7 @@ from pathlib import Path
 
 import numpy as np
 
-from .below_top import BelowTop
+from .below_top import THINNER, BelowTop
 from .cell_lines import write_cells
 from .listing import Cell, Listing, Step
 from .model import Model
@@ -260,11 +260,11 @@ def said_of(seen: Verdict) -> str:
     return f"{seen.name}: {why}; the differences hold only if its pairs are bounds."
 
 
-def tops_of(listing: Listing, model: Model | None, seen: Verdict) -> list[str]:
-    """What a listing's heads say of the tops of their cells, each sentence with the listing's name."""
-    if model is None:
-        return []
-    return [f"{listing.path.name}: {line}" for line in BelowTop(model.deck, listing).sentences(seen.is_certified)]
+def tops_lines(named: list[tuple[Verdict, BelowTop]]) -> list[str]:
+    """What the heads of some listings say of the tops of their cells, each sentence with the listing's name, and once
+    what it means."""
+    lines = [f"{seen.name}: {line}" for seen, tops in named for line in tops.lines(seen.is_certified)]
+    return [*lines, THINNER] if any(tops.count for _, tops in named) else lines
 
 
 def drawdown(
@@ -291,7 +291,7 @@ def drawdown(
     if base_model and model and base_model.times != model.times:
         raise Problem(f"{base_nam} has other times at the ends of its steps than {nam}")
     seen = [verdict_of(listing, name, zones, has_wide) for listing, name in ((plan, nam), (base, base_nam))]
-    tops = [tops_of(*each) for each in zip((plan, base), (model, base_model), seen)]
+    known = [(one, BelowTop(m.deck, each)) for one, m, each in zip(seen, (model, base_model), (plan, base)) if m]
     it = Drawdown(
         plan,
         base,
@@ -299,7 +299,7 @@ def drawdown(
         model.length if model else LENGTHS.get(plan.unit, "length units"),
         model,
         seen,
-        [*tops[0], *tops[1]],
+        tops_lines(known),
     )
     folder.mkdir(parents=True, exist_ok=True)
     draw(it, folder, cells, write_changes(it, folder))

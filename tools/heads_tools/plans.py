@@ -4,12 +4,13 @@ from __future__ import annotations
 from pathlib import Path
 
 from .batch import Job, read_jobs
-from .drawdown import Cell, Drawdown, difference, said_of, tops_of, verdict_of
+from .below_top import BelowTop
+from .drawdown import Cell, Drawdown, difference, said_of, verdict_of
 from .drawdown_page import fall_pair
 from .explain import explain_output
 from .listing import Listing, read_listing
 from .model import read_model
-from .plans_page import Plan, draw_plans, drawn
+from .plans_page import Change, Plan, draw_plans, drawn
 from .text import Problem, counted
 from .verdict import Verdict, status_of
 from .whole_files import whole_file
@@ -31,7 +32,7 @@ def compare_plans(path: Path, folder: Path, base_name: str | None, cells: list[C
     plans = [plan_of(job, ground, seen) for job in jobs if job is not base]
     folder.mkdir(parents=True, exist_ok=True)
     write_table(plans, folder)
-    draw_plans(plans, base.name, against(base, ground, ground, seen, seen), folder, cells)
+    draw_plans(plans, plan_against(base, ground, ground, seen, seen), folder, cells)
     told = [said_of(seen), *(f"{plan.name}: {plan.ended}" for plan in plans)]
     checks = [seen, *(plan.it.verdicts[0] for plan in plans if plan.it)]
     status = next((status for each in checks if (status := status_of(base.nam, each))), 0)
@@ -42,31 +43,32 @@ def plan_of(job: Job, ground: Listing, seen: Verdict) -> Plan:
     """A model of the list against the base, of which `seen` says what was checked: how it ended, and where it ended
     well its changes."""
     if not job.listing.is_file():
-        return Plan(job.name, f"it has no listing {job.listing.name}", None)
+        return Plan(job.name, f"it has no listing {job.listing.name}")
     meaning = explain_output(job.listing, job.nam.parent)
     if not meaning.is_good:
-        return Plan(job.name, meaning.lines[0], None)
+        return Plan(job.name, meaning.lines[0])
     listing = read_listing(job.listing)
     try:
-        it = against(job, listing, ground, verdict_of(listing, job.nam), seen)
+        return plan_against(job, listing, ground, verdict_of(listing, job.nam), seen)
     except Problem as error:
-        return Plan(job.name, str(error), None)
-    last = 3 + (it.worst is not it.changes[-1])
-    return Plan(job.name, " ".join([said_of(it.verdicts[0]), *it.sentences([])[2:last]]), it)
+        return Plan(job.name, str(error))
 
 
-def against(job: Job, listing: Listing, ground: Listing, seen: Verdict, base_seen: Verdict) -> Drawdown:
+def plan_against(job: Job, listing: Listing, ground: Listing, seen: Verdict, base_seen: Verdict) -> Plan:
     """The changes from the base to a model of the list."""
     model = read_model(job.nam)
-    changes, tops = difference(listing, ground), tops_of(listing, model, seen)
-    return Drawdown(listing, ground, changes, model.length, model, [seen, base_seen], tops)
+    it = Drawdown(listing, ground, difference(listing, ground), model.length, model, [seen, base_seen])
+    last = 3 + (it.worst is not it.changes[-1])
+    told = " ".join([said_of(seen), *it.sentences([])[2:last]])
+    return Plan(job.name, told, Change(it, BelowTop(model.deck, listing)))
 
 
 def write_table(plans: list[Plan], folder: Path) -> None:
     """plans.csv: for each plan the step and the cell of its greatest drawdown, with its bounds."""
     with whole_file(folder / "plans.csv") as file:
         file.write("plan,period,step,layer,row,col,drawdown_lower,drawdown_upper\n")
-        for name, it in drawn(plans):
+        for name, change in drawn(plans):
+            it = change.it
             worst = it.worst
             at = it.deepest(worst)
             cell = ",".join(map(str, it.cell(at)))

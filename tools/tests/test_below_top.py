@@ -208,8 +208,12 @@ def test_pages_of_changes_say_it_of_both_listings(example, tool, tmp_path):
     out = tool("drawdown", *words)[1]
     for name in ("two_wells", "no_well"):
         assert f"{name}.heads: In 200 of 200 cells of layer 1 every exact head lies below" in out
+    assert out.count("draws down more") == 1
     tool("plans", nam.with_name("plans.list"), tmp_path / "page")
-    assert "In 200 of 200 cells of layer 1" in (tmp_path / "page" / "index.html").read_text()
+    text = (tmp_path / "page" / "index.html").read_text()
+    assert "no_well.heads: In 200 of 200 cells of layer 1" in text and text.count("draws down more") == 1
+    assert "In 2 of 2 plans heads lie below the tops of their cells: one_well.nam, two_wells.nam." in text
+    assert text.count("<td>200</td><td>CERTIFIED</td>") == 2
 
 
 def test_a_listing_of_a_larger_grid_is_refused(tmp_path):
