@@ -234,6 +234,14 @@ def test_what_is_wrong_in_a_listing_is_named_with_its_line(name, tmp_path, tool)
     assert f"m.heads, line {first}: " in err
 
 
+@pytest.mark.program
+def test_a_listing_that_was_sent_by_mail_is_named(tmp_path, tool):
+    nam = deck(tmp_path / "deck", "m.wel", "-50", "-50")
+    (tmp_path / "m.heads").write_bytes(end_of(nam).stdout.replace("\n", "\r\n").encode())
+    status, out, err = tool("look", tmp_path / "m.heads", tmp_path / "look", "--name", nam)
+    assert status == 0 and "m.heads has lines that end with CR LF" in err and "heads check: CERTIFIED" in out
+
+
 def test_a_name_with_a_blank_in_a_batchs_list_is_told(tmp_path, tool):
     (tmp_path / "plan one.nam").write_text("\n")
     (tmp_path / "list.txt").write_text("plan one.nam\n")
