@@ -140,6 +140,19 @@ def drawdown(plan: str | Path | Listing, base: str | Path | Listing, folder: str
     return call("drawdown", {"plan": plan, "base": base, "folder": folder}, options)
 
 
+def drawdown_whatever(
+    base: str | Path, plan: str | Path, folder: str | Path, to: str | Path | None = None, **options: Any
+) -> Answer:
+    """What a plan does to a base deck in every weather between it and the deck `to`, in any weather (any=True), or in
+    its own. `plan`: a file of WEL or a name file. `.listing` is that of the difference decks. cell, at, digits, quick,
+    wide."""
+    from .listing import read_listing
+
+    answer = call("drawdown", {"plan": base, "base": plan, "folder": folder}, {"to": to} | options)
+    answer.written = read_listing(Path(folder) / "difference.heads")
+    return answer
+
+
 def export(listing: str | Path | Listing, folder: str | Path, name: str | Path, **options: Any) -> Answer:
     """Writes NetCDF, GeoTIFF, VTK and CSV of a listing of the model `name`, after its check: at, start, minus."""
     return call("export", {"listing": listing, "folder": folder}, {"name": name} | options)

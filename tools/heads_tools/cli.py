@@ -63,6 +63,15 @@ def add_zones(sub: argparse.ArgumentParser) -> None:
     )
 
 
+DRAWDOWN = """\
+Of two listings: their differences with bounds, into FOLDER. Of a base deck and a plan: what the plan does in the weather
+of the deck, in every weather between it and a second deck (--to), or in any weather at all (--any), the same with the
+plan as without it. The plan is a file of WEL, whose wells are added, or a name file of the base deck with other wells.
+Two listings bound where the heads of both plans stand; by these two difference decks are written, and the listing of all
+that lies between them bounds what the plan does to each head, and where its water comes from. `heads run` makes and
+`heads check` certifies each listing. That the two difference decks enclose every pair of plans isn't proved by machine."""
+
+
 BETWEEN = """\
 Writes two decks of one shape, from.nam and to.nam, for `heads run from.nam --to to.nam`, whose listing holds for every
 deck between the two. The first deck has the first number of each range, the second one the second: factors of the
@@ -124,6 +133,17 @@ def cell(text: str) -> tuple[int, int, int]:
         raise argparse.ArgumentTypeError("a cell is K,I,J: layer, row, column")
     layer, row, column = map(int, parts)
     return layer, row, column
+
+
+def named_point(text: str) -> tuple[str, float, float, int]:
+    """A point of the map: its name, x, y and layer."""
+    name, *rest = text.split(",")
+    try:
+        if not 2 <= len(rest) <= 3:
+            raise ValueError
+        return name, float(rest[0]), float(rest[1]), int(rest[2]) if len(rest) == 3 else 1
+    except ValueError:
+        raise argparse.ArgumentTypeError(f"a point is NAME,X,Y or NAME,X,Y,LAYER, and not {text}") from None
 
 
 class Wrong(Problem):
@@ -263,11 +283,29 @@ def parser() -> argparse.ArgumentParser:
     add_force(s)
     s = add(
         "drawdown",
-        "what a plan does: the differences of two listings with bounds, as tables, map, curves and sentences",
-        ("plan", "the plan's listing"),
-        ("base", "the listing without the plan"),
-        ("folder", "the folder to write into"),
+        "what a plan does: the differences of two listings; or of a base deck and a plan, whatever the weather",
+        ("plan", "the plan's listing; or the base deck's name file"),
+        ("base", "the listing without the plan; or the plan: a file of WEL, or a name file"),
     )
+    s.description = DRAWDOWN
+    s.add_argument(
+        "folder",
+        nargs="?",
+        type=Path,
+        help="the folder to write into; of a base deck and a plan BASE-PLAN.drawdown where left out",
+    )
+    add_to(s, "the base deck at the other end of the weather: what the plan does in every weather between the two")
+    s.add_argument("--any", action="store_true", help="what the plan does in any weather at all, by no heads")
+    s.add_argument(
+        "--at",
+        type=named_point,
+        action="append",
+        default=[],
+        metavar="NAME,X,Y[,LAYER]",
+        help="the drawdown at the cell of this point of the map; may stand again",
+    )
+    s.add_argument("--digits", type=int, metavar="N", help="the digits of the runs, from 0 to 18 (12)")
+    add_quick(s)
     s.add_argument(
         "--name",
         type=Path,
@@ -276,7 +314,7 @@ def parser() -> argparse.ArgumentParser:
     )
     s.add_argument("--base-name", type=Path, metavar="BASE.NAM", help="the base's model: its listing is checked")
     add_zones(s)
-    add_wide(s, "the checks have the wide limits and cut floors")
+    add_wide(s, "the checks, and the runs of decks, have the wide limits and cut floors")
     s.add_argument(
         "--cell", type=cell, action="append", default=[], metavar="K,I,J", help="a curve of this cell; may stand again"
     )
@@ -444,6 +482,12 @@ def joined(words: list[str]) -> list[str]:
     return out
 
 
+def take_folder(args: argparse.Namespace, rest: list[str]) -> None:
+    """Takes a folder that stands after options: argparse has filled it with nothing by then."""
+    if args.command == "drawdown" and args.folder is None and len(rest) == 1 and not rest[0].startswith("-"):
+        args.folder = Path(rest.pop())
+
+
 def main(words: list[str] | None = None) -> int:
     """Does what the words say; the status."""
     top = parser()
@@ -455,6 +499,7 @@ def main(words: list[str] | None = None) -> int:
 
     try:
         args, rest = top.parse_known_args(joined(sys.argv[1:] if words is None else words))
+        take_folder(args, rest)
         if rest and args.command not in PASSING:
             top.error(f"unknown words: {' '.join(rest)}")
         if threading.current_thread() is threading.main_thread():

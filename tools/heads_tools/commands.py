@@ -283,6 +283,12 @@ def do_compare(args: argparse.Namespace, _: list[str], out: IO[str]) -> int:
 def do_drawdown(args: argparse.Namespace, _: list[str], out: IO[str]) -> int:
     from .drawdown import drawdown
 
+    if args.to or args.any or not is_listing(args.plan):
+        return drawdown_of_decks(args, out)
+    if args.at or args.digits is not None or args.quick:
+        raise Problem("--at, --digits and --quick go with a base deck and a plan, and not with two listings")
+    if args.folder is None:
+        raise Problem("drawdown of two listings needs the folder to write into as its third word")
     if args.zones and not (args.name or args.base_name):
         raise Problem("--zones needs a model, too: --name PLAN.NAM, --base-name BASE.NAM")
     plan, base = (listing_of(each) for each in (args.plan, args.base))
@@ -290,6 +296,33 @@ def do_drawdown(args: argparse.Namespace, _: list[str], out: IO[str]) -> int:
     with page_folder(args.folder) as folder:
         said, status = drawdown(plan, base, folder, name, base_name, args.cell, zones, args.wide)
     say(said + [f"open {args.folder / 'index.html'}"], out)
+    return status
+
+
+def is_listing(given: Path | Listing) -> bool:
+    """Whether this is a listing, or the output of a run without one, and not a deck."""
+    from .kept_files import ENDS
+    from .text import read_text
+
+    return isinstance(given, Listing) or read_text(existing(given)).encode("latin-1").startswith(ENDS)
+
+
+def drawdown_of_decks(args: argparse.Namespace, out: IO[str]) -> int:
+    """What a plan does whatever the weather: `args.plan` is the base deck, `args.base` the plan."""
+    from .weather_page import NOTES, Asked, drawdown_weather, folder_of
+    from .whole_files import whole_folder
+
+    if args.name or args.base_name or args.zones:
+        raise Problem("--name, --base-name and --zones go with two listings, and not with a base deck and a plan")
+    if isinstance(args.base, Listing) or is_listing(args.plan) or is_listing(args.base):
+        raise Problem("with --to or --any the words are the base deck's name file and the plan: no listings")
+    cells = {each: "" for each in args.cell}
+    words = existing(args.plan), existing(args.base), args.to, args.any, cells, args.at, args.digits
+    asked = Asked(*words, is_quick=args.quick, has_wide=args.wide)
+    target = folder_of(asked, args.folder).resolve()
+    with whole_folder(target, "index.html", is_own=(target / NOTES).is_file()) as folder:
+        said, status = drawdown_weather(asked, folder)
+    say(said + [f"open {target / 'index.html'}; the decks and the listings lie beside it"], out)
     return status
 
 

@@ -38,7 +38,7 @@ class Keep:
 
     @property
     def decks(self) -> list[Path]:
-        return [path for path in self.inputs if path.suffix.lower() in NAME_FILES]
+        return [path for path in self.inputs if path.suffix.lower() in NAME_FILES and path.is_file()]
 
 
 KEEP: ContextVar[Keep] = ContextVar("keep", default=Keep())
