@@ -64,12 +64,13 @@ def add_zones(sub: argparse.ArgumentParser) -> None:
 
 
 DRAWDOWN = """\
-Of two listings: their differences with bounds, into FOLDER. Of a base deck and a plan: what the plan does in the weather
-of the deck, in every weather between it and a second deck (--to), or in any weather at all (--any), the same with the
-plan as without it. The plan is a file of WEL, whose wells are added, or a name file of the base deck with other wells.
-Two listings bound where the heads of both plans stand; by these two difference decks are written, and the listing of all
-that lies between them bounds what the plan does to each head, and where its water comes from. `heads run` makes and
-`heads check` certifies each listing. That the two difference decks enclose every pair of plans isn't proved by machine."""
+Of two listings: their differences with bounds, into FOLDER. Of a base deck and a plan: what the plan does in the
+weather of the deck, in every weather between it and a second deck (--to), or in any weather at all (--any), the same
+with the plan as without it. The plan is a file of WEL, whose wells are added, or a name file of the base deck with
+other wells. Two listings bound where the heads of both plans stand; by these two difference decks are written, and the
+listing of all that lies between them bounds what the plan does to each head, and where its water comes from. `heads
+run` makes and `heads check` certifies each listing. That the two difference decks enclose every pair of plans isn't
+proved by machine."""
 
 
 BETWEEN = """\

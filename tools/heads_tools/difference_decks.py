@@ -1,5 +1,5 @@
-"""The decks of a drawdown whatever the weather: base and plan at both ends of the weather, and the two difference decks,
-between which the difference of the plans' heads lies. They share files: IBOUND, DIS and LPF are the base deck's own."""
+"""The decks of a drawdown whatever the weather: base and plan at both ends of the weather, and the two difference
+decks, between which the difference of the plans' heads lies. They share files: DIS and LPF are the base deck's own."""
 from __future__ import annotations
 
 from pathlib import Path
@@ -44,7 +44,9 @@ def write_plan_decks(folder: Path, base: Spelled, high: Spelled, plan: Plan) -> 
         write_names(folder, stem, {kind: own for kind in deck.texts} | {"WEL": stem})
 
 
-def write_difference_decks(folder: Path, base: Spelled, plan: Plan, branches: list[list[Branch]], has_wide: bool) -> None:
+def write_difference_decks(
+    folder: Path, base: Spelled, plan: Plan, branches: list[list[Branch]], has_wide: bool
+) -> None:
     """The two difference decks: the plan's wells turned round, every branch to a head of 0, which STRT and all given
     heads are, too; in the one deck with the least conductances, in the other with the greatest."""
     held = [[each for each in period if each.high] for period in branches]

@@ -1,6 +1,6 @@
-"""drawdown of a plan whatever the weather: two listings bound where the heads of both plans stand, their shares make two
-difference decks, and the listing of these bounds what the plan does. The program runs and checks each listing; that the
-two difference decks enclose every pair of plans isn't proved."""
+"""What a plan does whatever the weather: two listings bound where the heads of both plans stand, their shares make two
+difference decks, and the listing of these bounds what the plan does. The program runs and checks each listing; that
+the two difference decks enclose every pair of plans isn't proved."""
 from __future__ import annotations
 
 from dataclasses import dataclass, field
@@ -31,8 +31,8 @@ Point = tuple[str, float, float, int]
 
 @dataclass
 class Asked:
-    """What is asked for: the decks, whether the weather is any at all, cells with the names that they are said by, points
-    of the map (name, x, y, layer), and words for the program."""
+    """What is asked for: the decks, whether the weather is any at all, cells with the names that they are said by,
+    points of the map (name, x, y, layer), and words for the program."""
 
     base: Path
     plan: Path
@@ -199,7 +199,7 @@ def effects_of(
             subtracted = one.low - two.high, one.high - two.low
             low, high = np.maximum(low, subtracted[0]), np.minimum(high, subtracted[1])
             if (low > high).any():
-                raise Problem("the difference decks and the listings of heads leave no drawdown: a fault of heads-tools")
+                raise Problem("difference decks and listings of heads leave no drawdown: a fault of heads-tools")
         sources = sources_of(step, difference.flow_places, held[step.period], (low, high), difference.places)
         out.append(Effect(step.period, step.step, low, high, sources, subtracted))
     return out

@@ -127,7 +127,7 @@ def read_plan(path: Path, base: Spelled, folder: Path, has_wide: bool) -> Plan:
         demand_plan(base, other)
         plan = Plan(path.name, [more(a, b) for a, b in zip(base.entries("WEL"), other.entries("WEL"))])
         said = f"{path.name} is a name file: the plan is what its wells are more than those of {base.name}"
-    if not any(plan.wells):
+    if not any(exact(entry.words[0]) for entries in plan.wells for entry in entries):
         raise Problem(f"{path.name} has no well that {base.name} hasn't: there is no plan to look at")
     plan.said = [said, *plan.said, *idle(plan.wells, base)]
     return plan
@@ -154,8 +154,8 @@ def added_in(path: Path, base: Spelled, folder: Path) -> tuple[Wells, list[str]]
     demand_read(path.name, reader.report)
     rest = [line for line in reader.now.lines[reader.now.at :] if quoted_words(line)]
     if rest:
-        raise Problem(f"{path.name} goes on with `{rest[0][:60]}` after the {counted(len(base.deck.periods), 'period')}"
-                      f" of {base.name}")
+        count = counted(len(base.deck.periods), "period")
+        raise Problem(f"{path.name} goes on with `{rest[0][:60]}` after the {count} of {base.name}")
     return Spelled(path.name, {}, reader.deck).entries("WEL"), [f"CAREFUL: {each}" for each in reader.report.needed]
 
 
@@ -186,8 +186,8 @@ def idle(wells: Wells, base: Spelled) -> list[str]:
     cells = sorted({entry.cell for entries in wells for entry in entries})
     found = [cell for cell in cells if ibound(base.deck, cell) <= 0]
     name = lambda cell: "layer {} row {} column {}".format(*cell)
-    return [f"CAREFUL: the plan's well at {name(cell)} stands in a cell without an equation: it takes nothing"
-            for cell in found]
+    said = "stands in a cell without an equation: it takes nothing"
+    return [f"CAREFUL: the plan's well at {name(cell)} {said}" for cell in found]
 
 
 def ibound(deck: Deck, cell: tuple[int, int, int]) -> int:

@@ -1,5 +1,5 @@
-"""Where a plan's water comes from: what each budget term gives more under the plan, by its sums and by balance, in whole
-numbers. All terms together give what the plan's wells take."""
+"""Where a plan's water comes from: what each budget term gives more under the plan, by its sums and by balance, in
+whole numbers. All terms together give what the plan's wells take."""
 from __future__ import annotations
 
 from dataclasses import dataclass, field

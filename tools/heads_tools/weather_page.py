@@ -48,14 +48,15 @@ def draw_maps(it: Weathered, album: Album, page: Page) -> None:
     values = [grid(it, effect.high if side == "greatest" else effect.low) for _, effect, side in sides]
     if min(it.model.shape[1:]) == 1:
         return
-    plan, scale = plan_for(it.model, values[0].shape, unit(it)), scale_of(values)
+    plan, scale = plan_for(it.model, it.model.shape, unit(it)), scale_of(values)
     for (more, effect, side), layers in zip(sides, values):
         for k in [k for k in range(len(layers)) if np.isfinite(layers[k]).any()][:MOST_MAPS]:
-            name, about = f"{side}_layer{k + 1}{more}", f"{side.capitalize()} drawdown in layer {k + 1}, {when(it, effect)}"
+            name = f"{side}_layer{k + 1}{more}"
+            about = f"{side.capitalize()} drawdown in layer {k + 1}, {when(it, effect)}"
             words = k + 1, about, f"{side} drawdown, {unit(it)}"
             maps.layer_map(album, name, plan, layers[k], *words, *scale)
             end = "upper" if side == "greatest" else "lower"
-            caption = f"{about}: the {end} ends of the bounds; above 0 (red) the head is lowered. One scale for all maps"
+            caption = f"{about}: the {end} ends of the bounds, one scale for all; above 0 (red) the head is lowered"
             page.picture("Maps", f"{name}.png", caption, about if more or k else "")
 
 

@@ -78,19 +78,23 @@ def sentences(it: Weathered) -> list[str]:
     last, deep = it.effects[-1], worst(it)
     out = [verdict_of(it), *it.plan.said, *([f"{ANY}."] if it.asked.is_any else [])]
     weather = it.weather[0].upper() + it.weather[1:]
-    out.append(f"{weather}, {SAME}: at the end of {when(it, last)} {change_at(it, last, deepest(last))}, the most of all"
-               " cells.")
+    most = change_at(it, last, deepest(last))
+    out.append(f"{weather}, {SAME}: at the end of {when(it, last)} {most}, the most of all cells.")
     if deep is not last:
-        out.append(f"The deepest of all {len(it.effects)} steps: at the end of {when(it, deep)}"
-                   f" {change_at(it, deep, deepest(deep))}.")
+        most = change_at(it, deep, deepest(deep))
+        out.append(f"The deepest of all {len(it.effects)} steps: at the end of {when(it, deep)} {most}.")
     effect, at = most_of(it)
-    out.append(f"No head is lowered by more than {up(effect.high[at], 9, SHOWN)} {unit(it)} at the end of any step; the"
-               f" bound is greatest {place_of(cell_at(it, at))}, {when(it, effect)}.")
+    out.append(
+        f"No head is lowered by more than {up(effect.high[at], 9, SHOWN)} {unit(it)} at the end of any step; the bound"
+        f" is greatest {place_of(cell_at(it, at))}, {when(it, effect)}."
+    )
     out += subtracted(it, last)
     sure, dry, between = it.ramps
     if sure + dry + between:
-        out.append(f"Of {sure + dry + between} rivers, drains and evapotranspirations, period by period: {sure} surely"
-                   f" connected in both plans, {dry} surely not, {between} neither.")
+        out.append(
+            f"Of {sure + dry + between} rivers, drains and evapotranspirations, period by period: {sure} surely"
+            f" connected in both plans, {dry} surely not, {between} neither."
+        )
     shown = int(((last.low > 0) | (last.high < 0)).sum())
     out.append(f"At {counted(shown, 'cell')} of {len(last.low)} the bounds show that the plan changes the head.")
     for cell, name in it.asked.cells.items():
@@ -129,7 +133,8 @@ def source_rows(it: Weathered, effect: Effect, shown: int | None = None) -> list
     """What each term gives more under the plan, by sums and by balance, and what the plan's wells take of all."""
     places = it.listing.flow_places if shown is None else shown
     pairs = {name: pair for name, pair in effect.sources.terms.items() if any(pair)} | {"ALL": effect.sources.takes}
-    return [[name, down(low, FLOW_PLACES, places), up(high, FLOW_PLACES, places)] for name, (low, high) in pairs.items()]
+    text = lambda pair: [side(n, FLOW_PLACES, places) for side, n in zip((down, up), pair)]
+    return [[name, *text(pair)] for name, pair in pairs.items()]
 
 
 def write_tables(it: Weathered, folder: Path) -> list[str]:
@@ -164,7 +169,7 @@ def may_be_said(it: Weathered) -> list[str]:
         f"May be said: 'In the equations of {it.base.name}, {said}, and no head by more than"
         f" {up(most.high[greatest], 9, SHOWN)} {unit(it)} at the end of any step. The numbers are certified by `heads"
         " check`; that they bound the plan's effect is argued and tested, and isn't proved by machine.'",
-        f"May not be said: 'The well will lower the groundwater by {up(effect.high[at], 9, SHOWN)} {unit(it)}', 'this is"
-        " proved', 'the uncertainty of the drawdown'. The conductivities, the storage and the grid are taken as they"
+        f"May not be said: 'The well will lower the groundwater by {up(effect.high[at], 9, SHOWN)} {unit(it)}', 'this"
+        " is proved', 'the uncertainty of the drawdown'. The conductivities, the storage and the grid are taken as they"
         " stand in the deck, and nothing is said of the aquifer itself, nor of weather outside what is named.",
     ]
