@@ -166,8 +166,6 @@ def why_none(name: str, asked: Asked) -> str:
 def branches_of(base: Spelled, high: Spelled, listings: list[Listing]) -> list[list[Branch]]:
     """The branches of each period, by the heads of both plans where they are listed."""
     weather = Weather(base, high)
-    if listings and not np.array_equal(listings[0].cells, listings[1].cells):
-        raise Problem("the listings of base and plan have other cells: a fault of heads-tools")
     return [
         weather.branches(n, heads_of(listings[0], listings[1], n + 1) if listings else None)
         for n in range(len(base.deck.periods))
@@ -187,6 +185,8 @@ def effects_of(
 ) -> list[Effect]:
     """What the plan does in each step: the tighter of the difference listing's bounds and those of the two listings of
     heads, subtracted."""
+    if not all(np.array_equal(each.cells, difference.cells) for each in listings):
+        raise Problem("the listings of base, plan and differences have other cells: a fault of heads-tools")
     held: dict[int, list[Branch]] = {}
     out = []
     for n, step in enumerate(difference.steps):

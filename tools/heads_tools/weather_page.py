@@ -123,6 +123,11 @@ def commands(it: Weathered) -> list[str]:
     return lines
 
 
+def spelled_as(it: Weathered) -> str:
+    other = f", base_high.nam is {it.high.name}" if it.high is not it.base else ""
+    return f"base.nam is {it.base.name}{other}, as `heads write` puts it."
+
+
 def draw(it: Weathered, folder: Path, tables: list[str], named: str) -> None:
     page = Page(f"{named}: what {it.plan.name} does, {it.weather}", files=[*tables, "difference.heads", NOTES])
     page.verdict, page.is_good = verdict_of(it), None if it.is_certified else False
@@ -143,7 +148,7 @@ def draw(it: Weathered, folder: Path, tables: list[str], named: str) -> None:
     draw_curves(it, album, page, cells)
     last, deep = it.effects[-1], worst(it)
     add_sources(it, page, [last] + ([deep] if deep is not last else []))
-    page.text("Once more", "In this folder, with the program whose sha256 stands above:")
+    page.text("Once more", f"{spelled_as(it)} In this folder, with the program whose sha256 stands above:")
     for line in commands(it):
         page.text("Once more", f"`{line}`")
     write_page(page, folder)
@@ -155,7 +160,7 @@ def drawdown_weather(asked: Asked, folder: Path) -> tuple[list[str], int]:
     it = weathered(asked, folder)
     draw(it, folder, write_tables(it, folder), asked.base.name)
     said = [*sentences(it), *lines(it), *may_be_said(it)]
-    write_text(folder / NOTES, ("\n".join([*said, *commands(it)]) + "\n").encode("utf-8"))
+    write_text(folder / NOTES, ("\n".join([*said, spelled_as(it), *commands(it)]) + "\n").encode("utf-8"))
     return said, next((status for seen in it.verdicts if (status := status_of(asked.base, seen))), 0)
 
 
