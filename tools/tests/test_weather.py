@@ -15,7 +15,7 @@ from heads_tools.shares import share, word_of
 pytestmark = [pytest.mark.program, pytest.mark.spans]
 PLANS = int(os.environ.get("PLANS", "30"))
 FIRST = int(os.environ.get("FIRST", "0"))
-WEATHERS = 6
+WEATHERS = int(os.environ.get("WEATHERS", "6"))
 # The example, the plan's well, the recharge of the other deck, whether any weather; the drawdown where it is deepest at
 # the end of the last step, as an independent program lists it.
 KNOWN = [
@@ -125,8 +125,8 @@ def test_no_exact_difference_of_random_plans_lies_outside(tmp_path, monkeypatch)
             why[seen[:60]] = why.get(seen[:60], 0) + 1
         else:
             plans, wrong, looked = plans + 1, wrong + found, looked + seen
-            if found:
-                print("OUTSIDE", seed, found)
+            if found or plans % 50 == 0:
+                print(f"seed {seed}, plan {plans}: {found} outside; {looked} numbers", flush=True)
         seed += 1
     print(f"{plans} plans of seeds {FIRST} to {seed - 1}, {looked} numbers, {wrong} outside; refused {why}")
     assert wrong == 0 and looked > 40 * plans

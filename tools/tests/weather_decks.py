@@ -49,11 +49,12 @@ class Decks:
 
     def layers(self, words):
         """Arrays of all layers."""
-        words = [words() for _ in range(self.cells)]
-        return "".join(
-            "INTERNAL 1 (FREE) -1\n" + " ".join(words[k : k + self.sheet]) + "\n"
-            for k in range(0, self.cells, self.sheet)
-        )
+        return "".join(self.layer(words) for _ in range(self.nlay))
+
+    def layer(self, words):
+        """An array of a layer."""
+        rows = (" ".join(words() for _ in range(self.ncol)) for _ in range(self.nrow))
+        return "INTERNAL 1 (FREE) -1\n" + "".join(f"{row}\n" for row in rows)
 
     def write_grid(self):
         draw, number = self.draw, self.ends.number
@@ -68,8 +69,7 @@ class Decks:
         lpf = "0 -1E30 0\n" + "".join(" ".join([x] * self.nlay) + "\n" for x in "00100")
         is_transient = any(not p[3] for p in self.periods)
         for _ in range(self.nlay):
-            hk = " ".join(draw.choice(["1", "5", "0.2", "20", "0.01"]) for _ in range(self.sheet))
-            lpf += f"INTERNAL 1 (FREE) -1\n{hk}\nCONSTANT {choice('1', '0.1', '0.001')()}\n"
+            lpf += self.layer(choice("1", "5", "0.2", "20", "0.01")) + f"CONSTANT {choice('1', '0.1', '0.001')()}\n"
             lpf += f"CONSTANT {choice('0.001', '0.0001', '0.01', '0')()}\n" * is_transient
         self.files |= {"dis": dis, "bas": bas, "lpf": lpf}
 
@@ -112,15 +112,15 @@ class Decks:
 
     def write_areal(self):
         draw, number = self.draw, self.ends.number
-        sheet = lambda words: "INTERNAL 1 (FREE) -1\n" + " ".join(words() for _ in range(self.sheet)) + "\n"
         if draw.random() < 0.6:
-            self.files["rch"] = "3 0\n" + "".join("0\n" + sheet(lambda: number(0.002, 0.004)) for _ in self.periods)
+            self.files["rch"] = "3 0\n" + "".join("0\n" + self.layer(lambda: number(0.002, 0.004)) for _ in self.periods)
             self.names.append("RCH 31 X.rch")
         if draw.random() < 0.45:
             rate = lambda: "0" if draw.random() < 0.4 else number(0.004, 0.003, 0.001)
             depth = lambda: draw.choice(["1", "2", "4"])
             self.files["evt"] = "3 0\n" + "".join(
-                "0 0 0\n" + sheet(lambda: number(11, 2)) + sheet(rate) + f"CONSTANT {depth()}\n" for _ in self.periods
+                "0 0 0\n" + self.layer(lambda: number(11, 2)) + self.layer(rate) + f"CONSTANT {depth()}\n"
+                for _ in self.periods
             )
             self.names.append("EVT 32 X.evt")
 
