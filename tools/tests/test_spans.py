@@ -75,6 +75,12 @@ def test_run_passes_the_second_deck_on_and_leaves_the_first_decks_listing(valley
     assert (valley / "from-to.heads").read_bytes() == LISTED.read_bytes() and not (valley / "from.heads").exists()
 
 
+def test_a_second_deck_that_is_named_by_its_name_alone_lies_beside_the_first_one(valley, stand_in, tool):
+    (valley / "from-to.heads").unlink()
+    status, out, err = tool("run", valley / "from.nam", "--to", "to.nam")
+    assert status == 0 and "run from.nam --to to.nam" in stand_in.read_text(), out + err
+
+
 def test_check_passes_the_second_deck_on_and_says_what_holds(valley, stand_in, tool):
     status, out, err = tool("check", valley / "from.nam", valley / "from-to.heads", "--to", "to.nam")
     assert status == 0 and "whatever the stresses are between those of the two decks" in out, err

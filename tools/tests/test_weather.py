@@ -61,20 +61,26 @@ def test_the_deepest_drawdown_is_that_of_the_independent_program(
     assert last.high[at] == last.high.max() and it.is_certified
 
 
-def outside(folder, seed, count=WEATHERS):
-    """How many exact differences and sources of a random plan lie outside of their bounds, and how many were looked at;
-    None where the plan has no bounds."""
-    from recheck import Fault, Model
-    from weather_decks import Decks, histories
+def random_plan(folder, seed):
+    """How many exact numbers of a random plan lie outside of their bounds, and how many were looked at; None and why,
+    where the plan has no bounds."""
+    from weather_decks import Decks
 
     folder.mkdir()
     Decks(random.Random(seed)).write(folder)
-    is_any = seed % 4 == 3
     try:
-        asked = Asked(folder / "low.nam", folder / "plan.wel", folder / "high.nam", is_any)
-        it = weathered(asked, folder / "made")
+        return outside(folder, seed, is_any=seed % 4 == 3)
     except Problem as error:
         return None, str(error)
+
+
+def outside(folder, seed, is_any=False, count=WEATHERS):
+    """How many exact differences and sources lie outside of the bounds of the decks and the plan of a folder, and how
+    many were looked at."""
+    from recheck import Fault, Model
+    from weather_decks import histories
+
+    it = weathered(Asked(folder / "low.nam", folder / "plan.wel", folder / "high.nam", is_any), folder / "made")
     assert it.is_certified
     os.chdir(folder)
     low, high = Model("low.nam"), Model("high.nam")
@@ -120,7 +126,7 @@ def test_no_exact_difference_of_random_plans_lies_outside(tmp_path, monkeypatch)
     plans = wrong = looked = 0
     why, seed = {}, FIRST
     while plans < PLANS:
-        found, seen = outside(tmp_path / f"plan{seed}", seed)
+        found, seen = random_plan(tmp_path / f"plan{seed}", seed)
         if found is None:
             why[seen[:60]] = why.get(seen[:60], 0) + 1
         else:
@@ -130,6 +136,28 @@ def test_no_exact_difference_of_random_plans_lies_outside(tmp_path, monkeypatch)
         seed += 1
     print(f"{plans} plans of seeds {FIRST} to {seed - 1}, {looked} numbers, {wrong} outside; refused {why}")
     assert wrong == 0 and looked > 40 * plans
+
+
+def test_a_river_that_falls_dry_within_a_period_counts_in_its_first_steps(tmp_path, monkeypatch):
+    monkeypatch.chdir(tmp_path)
+    texts = {
+        "dis": "1 1 2 1 4 2\n0\nCONSTANT 10\nCONSTANT 10\nCONSTANT 20\nCONSTANT 10\n4 4 1 TR\n",
+        "bas": "FREE\nCONSTANT 1\n-999\nCONSTANT 12\n",
+        "lpf": "0 -1E30 0\n0\n0\n1\n0\n0\nCONSTANT 1\nCONSTANT 1\nCONSTANT 0.01\n",
+        "riv": "1\n1 0\n1 1 1 11.5 5 11\n",
+    }
+    for name, rate in (("low", -32), ("high", -30)):
+        for kind, text in (texts | {"wel": f"1\n1 0\n1 1 2 {rate}\n"}).items():
+            (tmp_path / f"{name}.{kind}").write_text(text)
+        kinds = enumerate(["DIS", "BAS6", "LPF", "RIV", "WEL"], 11)
+        lines = (f"{kind} {unit} {name}.{kind.lower().rstrip('6')}\n" for unit, kind in kinds)
+        (tmp_path / f"{name}.nam").write_text("".join(lines))
+    well_file(tmp_path, "1 1 2 -4")
+    it = weathered(Asked(tmp_path / "low.nam", tmp_path / "plan.wel", tmp_path / "high.nam"), tmp_path / "first")
+    uppers = [int(listing.steps[n].high[0]) for listing in it.heads for n in (0, 3)]
+    lowers = [int(listing.steps[n].low[0]) for listing in it.heads for n in (0, 3)]
+    assert lowers[0] > 11 * 10**9 > uppers[1] and uppers[3] < 11 * 10**9, (lowers, uppers)
+    assert outside(tmp_path, 1)[0] == 0
 
 
 def test_a_share_lies_above_the_foot_and_a_conductance_is_written_whole():
