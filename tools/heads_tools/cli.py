@@ -63,6 +63,11 @@ def add_zones(sub: argparse.ArgumentParser) -> None:
     )
 
 
+DRAWDOWN_USAGE = """\
+heads-tools drawdown BASE.NAM PLAN [FOLDER] [--to HIGH.NAM | --any] [--cell K,I,J] [--at NAME,X,Y] [--digits N] [..]
+       heads-tools drawdown PLAN.HEADS BASE.HEADS FOLDER [--name PLAN.NAM] [--base-name BASE.NAM] [..]"""
+
+
 DRAWDOWN = """\
 Of two listings: their differences with bounds, into FOLDER. Of a base deck and a plan: what the plan does in the
 weather of the deck, in every weather between it and a second deck (--to), or in any weather at all (--any), the same
@@ -288,7 +293,7 @@ def parser() -> argparse.ArgumentParser:
         ("plan", "the plan's listing; or the base deck's name file"),
         ("base", "the listing without the plan; or the plan: a file of WEL, or a name file"),
     )
-    s.description = DRAWDOWN
+    s.description, s.usage = DRAWDOWN, DRAWDOWN_USAGE
     s.add_argument(
         "folder",
         nargs="?",
@@ -304,6 +309,13 @@ def parser() -> argparse.ArgumentParser:
         default=[],
         metavar="NAME,X,Y[,LAYER]",
         help="the drawdown at the cell of this point of the map; may stand again",
+    )
+    s.add_argument(
+        "--hk",
+        type=stress_range,
+        metavar="LOW..HIGH",
+        help="with --any, of one well in steady periods: the drawdown at the well itself for every HK between these"
+        " factors of the deck's, cell by cell (not proved)",
     )
     s.add_argument("--digits", type=int, metavar="N", help="the digits of the runs, from 0 to 18 (12)")
     add_quick(s)

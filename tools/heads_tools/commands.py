@@ -285,8 +285,8 @@ def do_drawdown(args: argparse.Namespace, _: list[str], out: IO[str]) -> int:
 
     if args.to or args.any or not is_listing(args.plan):
         return drawdown_of_decks(args, out)
-    if args.at or args.digits is not None or args.quick:
-        raise Problem("--at, --digits and --quick go with a base deck and a plan, and not with two listings")
+    if args.at or args.digits is not None or args.quick or args.hk:
+        raise Problem("--at, --digits, --quick and --hk go with a base deck and a plan, and not with two listings")
     if args.folder is None:
         raise Problem("drawdown of two listings needs the folder to write into as its third word")
     if args.zones and not (args.name or args.base_name):
@@ -302,9 +302,12 @@ def do_drawdown(args: argparse.Namespace, _: list[str], out: IO[str]) -> int:
 def is_listing(given: Path | Listing) -> bool:
     """Whether this is a listing, or the output of a run without one, and not a deck."""
     from .kept_files import ENDS
-    from .text import read_text
+    from .marks import plain
 
-    return isinstance(given, Listing) or read_text(existing(given)).encode("latin-1").startswith(ENDS)
+    if isinstance(given, Listing):
+        return True
+    with open(existing(given), "rb") as file:
+        return plain(file.read(400))[0].startswith(ENDS)
 
 
 def drawdown_of_decks(args: argparse.Namespace, out: IO[str]) -> int:
@@ -321,7 +324,7 @@ def drawdown_of_decks(args: argparse.Namespace, out: IO[str]) -> int:
     asked = Asked(*words, is_quick=args.quick, has_wide=args.wide)
     target = folder_of(asked, args.folder).resolve()
     with whole_folder(target, "index.html", is_own=(target / NOTES).is_file()) as folder:
-        said, status = drawdown_weather(asked, folder)
+        said, status = drawdown_weather(asked, folder, args.hk)
     say(said + [f"open {target / 'index.html'}; the decks and the listings lie beside it"], out)
     return status
 

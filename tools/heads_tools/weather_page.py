@@ -16,6 +16,7 @@ from .page import Page, write_page
 from .page_facts import facts_of, facts_of_making
 from .pictures import Album
 from .plan_decks import BASE, PLAN, write_text
+from .ranges import Range
 from .text import Problem, decimal_text
 from .verdict import status_of
 from .weather_words import (
@@ -32,6 +33,7 @@ from .weather_words import (
     worst,
     write_tables,
 )
+from .well_ranges import at_the_well, demand_hk, well_lines
 
 NOTES = "drawdown.txt"
 
@@ -128,7 +130,7 @@ def spelled_as(it: Weathered) -> str:
     return f"base.nam is {it.base.name}{other}, as `heads write` puts it."
 
 
-def draw(it: Weathered, folder: Path, tables: list[str], named: str) -> None:
+def draw(it: Weathered, folder: Path, tables: list[str], named: str, at_well: list[str]) -> None:
     page = Page(f"{named}: what {it.plan.name} does, {it.weather}", files=[*tables, "difference.heads", NOTES])
     page.verdict, page.is_good = verdict_of(it), None if it.is_certified else False
     page.facts = [
@@ -143,6 +145,8 @@ def draw(it: Weathered, folder: Path, tables: list[str], named: str) -> None:
     cells = chosen(it)
     page.text("Drawdown", f"Base less plan in {unit(it)}: above 0 where the plan lowers the head.")
     page.table("Drawdown", ["place", "layer row column", "at the end of", "from", "to"], rows_of(it, cells))
+    for text in at_well:
+        page.text("HK within ranges", text)
     album = Album(folder)
     draw_maps(it, album, page)
     draw_curves(it, album, page, cells)
@@ -154,14 +158,19 @@ def draw(it: Weathered, folder: Path, tables: list[str], named: str) -> None:
     write_page(page, folder)
 
 
-def drawdown_weather(asked: Asked, folder: Path) -> tuple[list[str], int]:
+def drawdown_weather(asked: Asked, folder: Path, hk: Range | None = None) -> tuple[list[str], int]:
     """Decks, listings, tables and a page of what a plan does whatever the weather; what there is to say, and the first
-    status of a check that isn't 0."""
+    status of a check that isn't 0. `hk`: factors of HK between which the drawdown at the plan's well is asked for."""
+    if hk:
+        demand_hk(asked, hk)
     it = weathered(asked, folder)
-    draw(it, folder, write_tables(it, folder), asked.base.name)
-    said = [*sentences(it), *lines(it), *may_be_said(it)]
+    found = at_the_well(it, hk, folder) if hk else None
+    at_well = well_lines(found) if found else []
+    draw(it, folder, write_tables(it, folder), asked.base.name, at_well)
+    said = [*sentences(it), *lines(it), *at_well, *may_be_said(it)]
     write_text(folder / NOTES, ("\n".join([*said, spelled_as(it), *commands(it)]) + "\n").encode("utf-8"))
-    return said, next((status for seen in it.verdicts if (status := status_of(asked.base, seen))), 0)
+    verdicts = it.verdicts + (found.verdicts if found else [])
+    return said, next((status for seen in verdicts if (status := status_of(asked.base, seen))), 0)
 
 
 def folder_of(asked: Asked, folder: Path | None) -> Path:

@@ -2,13 +2,16 @@
 import csv
 import os
 import random
+import re
 from fractions import Fraction
 
 import pytest
-from conftest import TOP
+from conftest import heads
 
 from heads_tools import Problem
 from heads_tools.drawdown_weather import Asked, weathered
+from heads_tools.packages import read_deck
+from heads_tools.plain import package_lines
 from heads_tools.plan_sources import FLOW_PLACES
 from heads_tools.shares import share, word_of
 
@@ -294,3 +297,43 @@ def test_the_call_has_the_listing_of_the_differences(valley, tmp_path):
     with pytest.raises(Problem, match="has no flow"):
         heads_tools.drawdown_whatever(nam, wells, tmp_path / "out2", cell=(1, 99, 15))
     assert not (tmp_path / "out2").exists()
+
+
+def test_hk_within_ranges_bounds_the_drawdown_at_the_well_of_random_fields(example, tool, tmp_path):
+    from heads_tools import read_listing
+    from heads_tools.ranges import scaled
+
+    nam, made = example("three_aquifers"), tmp_path / "made"
+    wells = well_file(tmp_path, "3 5 5 -100")
+    status, out, err = tool("drawdown", nam, wells, "--any", "--hk", "0.8..1.2", made)
+    said = re.search(r"DRAWDOWN 3 5 5 (\S+) (\S+) at the end of period 1 step 1", out)
+    assert status == 0 and said and "falls as any conductance grows" in out, out + err
+    low, high = (round(Fraction(word) * 10**9) for word in said.groups())
+    middle = re.search(r"DRAWDOWN 3 5 5 (0.32\d+) (0.32\d+)\n", out)
+    assert middle and low < 0.32 * 10**9 < high and high - low < 0.2 * 10**9
+    draw = random.Random(7)
+    for _ in range(5):
+        deck = read_deck(made / "base.nam")[0]
+        for layer in deck.properties:
+            words = scaled(layer["HK"], "1").words
+            layer["HK"].words = [f"{float(word) * draw.uniform(0.8, 1.2):.6f}" for word in words]
+        (made / "field.lpf").write_text("\n".join(package_lines(deck, "LPF")) + "\n")
+        (made / "field.nam").write_text((made / "difference_low.nam").read_text().replace("base.lpf", "field.lpf"))
+        (made / "field.heads").write_text(heads(["run", "field.nam"], made).stdout)
+        listing = read_listing(made / "field.heads")
+        at = listing.at((3, 5, 5))
+        assert low < listing.steps[0].low[at] and listing.steps[0].high[at] < high
+
+
+@pytest.mark.parametrize(
+    "name, entries, words, said",
+    [
+        ("three_aquifers", ["3 5 5 -100"], [], "--hk goes with --any"),
+        ("three_aquifers", ["3 5 5 -100", "3 4 5 -1"], ["--any"], "has wells at 2 cells"),
+        ("pumping_test", ["1 10 10 -50"], ["--any"], "has a transient period"),
+    ],
+)
+def test_hk_within_ranges_is_refused_where_the_law_doesnt_hold(example, tool, tmp_path, name, entries, words, said):
+    plan = well_file(tmp_path, *entries)
+    status, out, err = tool("drawdown", example(name), plan, *words, "--hk", "0.8..1.2", tmp_path / "made")
+    assert status == 2 and said in err and not (tmp_path / "made").exists(), out + err
