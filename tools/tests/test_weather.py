@@ -3,6 +3,7 @@ import csv
 import os
 import random
 import re
+from decimal import Decimal
 from fractions import Fraction
 
 import pytest
@@ -62,6 +63,37 @@ def test_the_deepest_drawdown_is_that_of_the_independent_program(
     low, high_ = (round(Fraction(word) * 10**9) for word in expected.split())
     assert low <= last.low[at] <= low + 2 and high_ - 2 <= last.high[at] <= high_
     assert last.high[at] == last.high.max() and it.is_certified
+
+
+# The plan's rate, how much higher the river's bottoms are, how many of its 20 cells are surely connected; the drawdown
+# at the well in every weather: recharge 80 to 120 %, stages 0.2 up or down, the other well from 0 to 1,500.
+VALLEYS = [
+    (1500, "0", 20, "5.378731 5.378732"),
+    (1500, "1", 15, "5.378731 5.435910"),
+    (2500, "0.8", 10, "8.964552 9.513221"),
+    (2500, "1", 2, "8.964552 11.562937"),
+]
+
+
+@pytest.mark.parametrize("rate, higher, connected, expected", VALLEYS)
+def test_a_river_that_falls_dry_in_some_weathers_widens_the_drawdown(
+    example, tmp_path, rate, higher, connected, expected
+):
+    nam = example("valley_between").with_name("from.nam")
+    rows = [line.split() for line in nam.with_name("both.riv").read_text().splitlines() if len(line.split()) == 6]
+    for word, shift, rain, other in (("low", "-0.2", "0.00048", -1500), ("high", "0.2", "0.00072", 0)):
+        text = nam.read_text().replace("both.riv", f"{word}.riv").replace("from.", f"{word}.")
+        nam.with_name(f"{word}.nam").write_text(text)
+        moved = [[*r[:3], str(Decimal(r[3]) + Decimal(shift)), r[4], str(Decimal(r[5]) + Decimal(higher))] for r in rows]
+        nam.with_name(f"{word}.riv").write_text("20\n20 0\n" + "".join(" ".join(row) + "\n" for row in moved))
+        nam.with_name(f"{word}.rch").write_text(f"3\n0\nCONSTANT {rain}\n")
+        nam.with_name(f"{word}.wel").write_text(f"2\n1 0\n1 14 17 {other}\n")
+    asked = Asked(nam.with_name("low.nam"), well_file(tmp_path, f"1 8 17 -{rate}"), nam.with_name("high.nam"))
+    it = weathered(asked, tmp_path / "made")
+    at, effect = it.listing.at((1, 8, 17)), it.effects[0]
+    low, high = (round(Fraction(word) * 10**9) for word in expected.split())
+    assert it.ramps[0] == connected and it.is_certified
+    assert abs(int(effect.low[at]) - low) <= 1000 and abs(int(effect.high[at]) - high) <= 1000
 
 
 def random_plan(folder, seed):

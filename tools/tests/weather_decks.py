@@ -113,7 +113,8 @@ class Decks:
     def write_areal(self):
         draw, number = self.draw, self.ends.number
         if draw.random() < 0.6:
-            self.files["rch"] = "3 0\n" + "".join("0\n" + self.layer(lambda: number(0.002, 0.004)) for _ in self.periods)
+            rates = ("0\n" + self.layer(lambda: number(0.002, 0.004)) for _ in self.periods)
+            self.files["rch"] = "3 0\n" + "".join(rates)
             self.names.append("RCH 31 X.rch")
         if draw.random() < 0.45:
             rate = lambda: "0" if draw.random() < 0.4 else number(0.004, 0.003, 0.001)
