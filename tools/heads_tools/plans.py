@@ -34,7 +34,7 @@ def compare_plans(path: Path, folder: Path, base_name: str | None, cells: list[C
     write_table(plans, folder)
     draw_plans(plans, plan_against(base, ground, ground, seen, seen), folder, cells)
     told = [said_of(seen), *(f"{plan.name}: {plan.ended}" for plan in plans)]
-    checks = [seen, *(plan.it.verdicts[0] for plan in plans if plan.it)]
+    checks = [seen, *(change.it.verdicts[0] for _, change in drawn(plans))]
     status = next((status for each in checks if (status := status_of(base.nam, each))), 0)
     return [*told, f"{counted(len(plans), 'plan')} against {base.name}"], status
 
