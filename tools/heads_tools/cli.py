@@ -517,6 +517,8 @@ def main(words: list[str] | None = None) -> int:
             top.error(f"unknown words: {' '.join(rest)}")
         if threading.current_thread() is threading.main_thread():
             signal.signal(signal.SIGTERM, stop)
+            if signal.getsignal(signal.SIGINT) is signal.SIG_DFL:
+                signal.signal(signal.SIGINT, stop)
         with commands.guarded(args, rest):
             status = getattr(commands, "do_" + args.command)(args, rest, sys.stdout)
         sys.stdout.flush()

@@ -146,9 +146,20 @@ def test_after_ctrl_c_nothing_is_left_half(words, valley):
         time.sleep(seconds)
         ended.send_signal(signal.SIGINT)
         out, err = ended.communicate(timeout=60)
-        if ended.returncode == 0:
-            break
+        if ended.returncode == 0 or "\nwritten: " in out or "\nopen " in out:
+            break  # all was done, and the process about to end
         assert contents(valley) == before, (seconds, err)
+
+
+def test_ctrl_c_while_the_modules_are_loaded_says_nothing(tmp_path):
+    """The first library that is loaded presses the keys."""
+    for package in ("numpy", "scipy", "matplotlib"):
+        (tmp_path / package).mkdir()
+        code = "import os, signal, time\nos.kill(os.getpid(), signal.SIGINT)\ntime.sleep(5)\n"
+        (tmp_path / package / "__init__.py").write_text(code)
+    env = os.environ | {"PYTHON": sys.executable, "PYTHONPATH": str(tmp_path)}
+    ended = subprocess.run([TOOLS / "heads-tools", "version"], env=env, capture_output=True, text=True)
+    assert (ended.returncode, ended.stdout, ended.stderr) == (-signal.SIGINT, "", "")
 
 
 @pytest.mark.parametrize("kind", ["nc", "tif", "vtu"])
