@@ -1,5 +1,6 @@
 """What is written is whole or not there: on a full disk, under a limit of files' sizes, in a folder that may not be
 written, after Ctrl-C. What was there before stays as it was."""
+import importlib
 import importlib.util
 import os
 import resource
@@ -191,7 +192,7 @@ def test_a_page_is_replaced_as_a_whole(valley, tool, monkeypatch):
     def fails(page, folder):
         raise Problem(f"{folder / 'index.html'} can't be written: no reason")
 
-    monkeypatch.setattr(sys.modules["heads_tools.look"], "write_page", fails)
+    monkeypatch.setattr(importlib.import_module("heads_tools.look"), "write_page", fails)
     status, out, err = tool(*words, "--cell", "1,1,1")
     assert status == 2 and f"{valley / 'look' / 'index.html'} can't be written" in err
     assert contents(valley / "look") == before
