@@ -7,6 +7,7 @@ from pathlib import Path
 from .limits import PLAIN, WIDE
 from .plan_decks import BASE, HIGH, PLAN, Plan, Spelled, Wells, file_of, turned, write_names, write_text
 from .shares import Branch, word_of
+from .stretches import Stretch, dis_lines
 from .text import Problem, counted
 
 PLAN_HIGH, LOW_DIFFERENCE, HIGH_DIFFERENCE = "plan_high", "difference_low", "difference_high"
@@ -45,10 +46,11 @@ def write_plan_decks(folder: Path, base: Spelled, high: Spelled, plan: Plan) -> 
 
 
 def write_difference_decks(
-    folder: Path, base: Spelled, plan: Plan, branches: list[list[Branch]], has_wide: bool
+    folder: Path, base: Spelled, plan: Plan, stretches: list[Stretch], branches: list[list[Branch]], has_wide: bool
 ) -> None:
-    """The two difference decks: the plan's wells turned round, every branch to a head of 0, which STRT and all given
-    heads are, too; in the one deck with the least conductances, in the other with the greatest."""
+    """The two difference decks, whose periods are the stretches: the plan's wells turned round, every branch to a head
+    of 0, which STRT and all given heads are, too; in the one deck with the least conductances, in the other with the
+    greatest."""
     held = [[each for each in period if each.high] for period in branches]
     most = max(map(len, held))
     if most > (WIDE if has_wide else PLAIN).entries:
@@ -57,9 +59,14 @@ def write_difference_decks(
     ibound = [line for array in base.deck.ibound for line in array.lines()]
     kinds = {"DIS": BASE, "LPF": BASE, "BAS6": LOW_DIFFERENCE, "WEL": LOW_DIFFERENCE}
     write_lines(folder, LOW_DIFFERENCE, "BAS6", ["FREE", *ibound, "-999.99", *zero])
-    write_lines(folder, LOW_DIFFERENCE, "WEL", well_lines(plan.wells, is_turned=True))
+    wells = [plan.wells[each.period] for each in stretches]
+    write_lines(folder, LOW_DIFFERENCE, "WEL", well_lines(wells, is_turned=True))
+    if len(stretches) > len(base.deck.periods):
+        write_lines(folder, LOW_DIFFERENCE, "DIS", dis_lines(base, stretches))
+        kinds["DIS"] = LOW_DIFFERENCE
     if "CHD" in base.texts:
-        given = [[f"{at(entry.cell)} 0 0" for entry in entries] for entries in base.entries("CHD")]
+        entries = base.entries("CHD")
+        given = [[f"{at(entry.cell)} 0 0" for entry in entries[each.period]] for each in stretches]
         write_lines(folder, LOW_DIFFERENCE, "CHD", list_lines(given))
         kinds["CHD"] = LOW_DIFFERENCE
     for stem, side in ((LOW_DIFFERENCE, "low"), (HIGH_DIFFERENCE, "high")):

@@ -22,6 +22,7 @@ from .points import spot_at
 from .program import DEFAULT_DIGITS, call, run
 from .shares import Branch, Weather, heads_of
 from .spans import second_deck, what_differs
+from .stretches import Stretch, stretches_of
 from .text import Problem
 from .verdict import Verdict, check_listing
 
@@ -111,10 +112,12 @@ def weathered(asked: Asked, folder: Path) -> Weathered:
         ends = (HIGH, PLAN_HIGH) if high is not base else ("", "")
         runs = [listed(folder, stem, end, stem, asked) for stem, end in zip((BASE, PLAN), ends)]
     heads = [listing for listing, _ in runs]
-    branches = branches_of(base, high, heads)
-    write_difference_decks(folder, base, plan, branches, asked.has_wide)
+    stretches = stretches_of(base, is_split=bool(heads))
+    branches = branches_of(base, high, stretches, heads)
+    write_difference_decks(folder, base, plan, stretches, branches, asked.has_wide)
     difference, verdict = listed(folder, LOW_DIFFERENCE, HIGH_DIFFERENCE, "difference", asked)
-    effects, verdicts = effects_of(base, branches, heads, difference), [verdict, *(seen for _, seen in runs)]
+    effects = effects_of(base, stretches, branches, heads, difference)
+    verdicts = [verdict, *(seen for _, seen in runs)]
     model, ramps = read_model(folder / f"{PLAN}.nam"), ramps_of(branches)
     return Weathered(asked, base, high, plan, difference, heads, verdicts, effects, model, ramps)
 
@@ -163,17 +166,17 @@ def why_none(name: str, asked: Asked) -> str:
     return "There are no bounds of the drawdown by the difference decks, though both plans' heads have some."
 
 
-def branches_of(base: Spelled, high: Spelled, listings: list[Listing]) -> list[list[Branch]]:
-    """The branches of each period, by the heads of both plans where they are listed."""
+def branches_of(
+    base: Spelled, high: Spelled, stretches: list[Stretch], listings: list[Listing]
+) -> list[list[Branch]]:
+    """The branches of each stretch, by the heads of both plans where they are listed."""
     weather = Weather(base, high)
-    return [
-        weather.branches(n, heads_of(listings[0], listings[1], n + 1) if listings else None)
-        for n in range(len(base.deck.periods))
-    ]
+    heads = lambda each: heads_of(listings[0], listings[1], each.period + 1, each.steps) if listings else None
+    return [weather.branches(each.period, heads(each)) for each in stretches]
 
 
 def ramps_of(branches: list[list[Branch]]) -> tuple[int, int, int]:
-    """How many rivers, drains and evapotranspirations, over all periods, are surely connected in both plans, surely
+    """How many rivers, drains and evapotranspirations, over all stretches, are surely connected in both plans, surely
     not, and neither."""
     parts = [each.part for period in branches for each in period if each.term != "HEAD DEP BOUNDS"]
     sure, dry = sum(low == 1 for low, _ in parts), sum(high == 0 for _, high in parts)
@@ -181,25 +184,29 @@ def ramps_of(branches: list[list[Branch]]) -> tuple[int, int, int]:
 
 
 def effects_of(
-    base: Spelled, branches: list[list[Branch]], listings: list[Listing], difference: Listing
+    base: Spelled,
+    stretches: list[Stretch],
+    branches: list[list[Branch]],
+    listings: list[Listing],
+    difference: Listing,
 ) -> list[Effect]:
-    """What the plan does in each step: the tighter of the difference listing's bounds and those of the two listings of
-    heads, subtracted."""
+    """What the plan does in each step of the base deck: the tighter of the difference listing's bounds and those of the
+    two listings of heads, subtracted."""
     if not all(np.array_equal(each.cells, difference.cells) for each in listings):
         raise Problem("the listings of base, plan and differences have other cells: a fault of heads-tools")
-    held: dict[int, list[Branch]] = {}
-    out = []
-    for n, step in enumerate(difference.steps):
-        if step.period not in held:
-            idle = without_equation(base, step.period - 1)
-            held[step.period] = [b for b in branches[step.period - 1] if not idle[tuple(x - 1 for x in b.cell)]]
-        low, high, subtracted = step.low, step.high, None
-        if listings:
-            one, two = (listing.steps[n] for listing in listings)
-            subtracted = one.low - two.high, one.high - two.low
-            low, high = np.maximum(low, subtracted[0]), np.minimum(high, subtracted[1])
-            if (low > high).any():
-                raise Problem("difference decks and listings of heads leave no drawdown: a fault of heads-tools")
-        sources = sources_of(step, difference.flow_places, held[step.period], (low, high), difference.places)
-        out.append(Effect(step.period, step.step, low, high, sources, subtracted))
+    at, steps, out = difference.places, iter(difference.steps), []
+    for stretch, all_branches in zip(stretches, branches):
+        idle = without_equation(base, stretch.period)
+        held = [each for each in all_branches if not idle[tuple(n - 1 for n in each.cell)]]
+        for number in stretch.steps:
+            step = next(steps)
+            low, high, subtracted = step.low, step.high, None
+            if listings:
+                one, two = (each.steps[len(out)] for each in listings)
+                subtracted = one.low - two.high, one.high - two.low
+                low, high = np.maximum(low, subtracted[0]), np.minimum(high, subtracted[1])
+                if (low > high).any():
+                    raise Problem("difference decks and listings of heads leave no drawdown: a fault of heads-tools")
+            sources = sources_of(step, difference.flow_places, held, (low, high), at)
+            out.append(Effect(stretch.period + 1, number, low, high, sources, subtracted))
     return out

@@ -38,7 +38,7 @@ class Branch:
 
 @dataclass
 class Heads:
-    """The least and the greatest head of each cell with flow over the steps of a period, in both plans."""
+    """The least and the greatest head of each cell with flow over some steps, in both plans."""
 
     base: tuple[np.ndarray, np.ndarray]
     plan: tuple[np.ndarray, np.ndarray]
@@ -51,11 +51,11 @@ class Heads:
         return low, high
 
 
-def heads_of(base: Listing, plan: Listing, period: int) -> Heads:
-    """The heads of a period, counted from 1, of two listings of the same steps and cells."""
+def heads_of(base: Listing, plan: Listing, period: int, numbers: tuple[int, ...]) -> Heads:
+    """The heads at the ends of some steps of a period, all counted from 1, of two listings of the same cells."""
     hulls = []
     for listing in (base, plan):
-        steps = [step for step in listing.steps if step.period == period]
+        steps = [step for step in listing.steps if step.period == period and step.step in numbers]
         hulls.append((np.min([s.low for s in steps], axis=0), np.max([s.high for s in steps], axis=0)))
     return Heads(hulls[0], hulls[1], base.places)
 

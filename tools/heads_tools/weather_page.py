@@ -127,7 +127,8 @@ def commands(it: Weathered) -> list[str]:
 
 def spelled_as(it: Weathered) -> str:
     other = f", base_high.nam is {it.high.name}" if it.high is not it.base else ""
-    return f"base.nam is {it.base.name}{other}, as `heads write` puts it."
+    steps = " Each step is a period of the difference decks where its length can be written exactly." * bool(it.heads)
+    return f"base.nam is {it.base.name}{other}, as `heads write` puts it.{steps}"
 
 
 def draw(it: Weathered, folder: Path, tables: list[str], named: str, at_well: list[str]) -> None:

@@ -173,10 +173,11 @@ def test_no_exact_difference_of_random_plans_lies_outside(tmp_path, monkeypatch)
     assert wrong == 0 and looked > 40 * plans
 
 
-def test_a_river_that_falls_dry_within_a_period_counts_in_its_first_steps(tmp_path, monkeypatch):
+@pytest.mark.parametrize("mult, periods", [("1", 4), ("1.5", 1)])
+def test_a_river_that_falls_dry_within_a_period_counts_in_its_first_steps(tmp_path, monkeypatch, mult, periods):
     monkeypatch.chdir(tmp_path)
     texts = {
-        "dis": "1 1 2 1 4 2\n0\nCONSTANT 10\nCONSTANT 10\nCONSTANT 20\nCONSTANT 10\n4 4 1 TR\n",
+        "dis": "1 1 2 1 4 2\n0\nCONSTANT 10\nCONSTANT 10\nCONSTANT 20\nCONSTANT 10\n4 4 X TR\n".replace("X", mult),
         "bas": "FREE\nCONSTANT 1\n-999\nCONSTANT 12\n",
         "lpf": "0 -1E30 0\n0\n0\n1\n0\n0\nCONSTANT 1\nCONSTANT 1\nCONSTANT 0.01\n",
         "riv": "1\n1 0\n1 1 1 11.5 5 11\n",
@@ -192,6 +193,7 @@ def test_a_river_that_falls_dry_within_a_period_counts_in_its_first_steps(tmp_pa
     uppers = [int(listing.steps[n].high[0]) for listing in it.heads for n in (0, 3)]
     lowers = [int(listing.steps[n].low[0]) for listing in it.heads for n in (0, 3)]
     assert lowers[0] > 11 * 10**9 > uppers[1] and uppers[3] < 11 * 10**9, (lowers, uppers)
+    assert it.listing.steps[-1].period == periods and [effect.step for effect in it.effects] == [1, 2, 3, 4]
     assert outside(tmp_path, 1)[0] == 0
 
 
