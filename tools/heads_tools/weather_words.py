@@ -92,8 +92,8 @@ def sentences(it: Weathered) -> list[str]:
     sure, dry, between = it.ramps
     if sure + dry + between:
         out.append(
-            f"Of {sure + dry + between} rivers, drains and evapotranspirations, period by period: {sure} surely"
-            f" connected in both plans, {dry} surely not, {between} neither."
+            f"Of {sure + dry + between} rivers, drains and evapotranspirations, counted anew in each period of the"
+            f" difference decks: {sure} surely connected in both plans, {dry} surely not, {between} neither."
         )
     shown = int(((last.low > 0) | (last.high < 0)).sum())
     out.append(f"At {counted(shown, 'cell')} of {len(last.low)} the bounds show that the plan changes the head.")
