@@ -165,10 +165,11 @@ def may_be_said(it: Weathered) -> list[str]:
         return ["Nothing may be said of the drawdown: a listing isn't certified."]
     said = f"{it.weather}, {SAME}, {change_at(it, effect, at)} at the end of {when(it, effect)}"
     most, greatest = most_of(it)
+    more = f" {ANY}." if it.asked.is_any else ""
     return [
         f"May be said: 'In the equations of {it.base.name}, {said}, and no head by more than"
         f" {up(most.high[greatest], 9, SHOWN)} {unit(it)} at the end of any step. The numbers are certified by `heads"
-        " check`; that they bound the plan's effect is argued and tested, and isn't proved by machine.'",
+        f" check`; that they bound the plan's effect is argued and tested, and isn't proved by machine.{more}'",
         f"May not be said: 'The well will lower the groundwater by {up(effect.high[at], 9, SHOWN)} {unit(it)}', 'this"
         " is proved', 'the uncertainty of the drawdown'. The conductivities, the storage and the grid are taken as they"
         " stand in the deck, and nothing is said of the aquifer itself, nor of weather outside what is named.",
