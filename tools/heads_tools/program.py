@@ -88,9 +88,16 @@ def windows_port(path: Path) -> Path | None:
 @functools.lru_cache
 def direct(found: Path) -> Path:
     kept, check = TOP / "dist" / "heads", TOP / "scripts" / "check_dist"
+    if found != TOP / "heads" or not check.is_file():
+        return found
+    done = subprocess.run([check, "--kept"], capture_output=True, text=True)
     is_here = platform.system() == "Linux" and platform.machine() == "x86_64"
-    is_script = is_here and found == TOP / "heads" and kept.is_file() and check.is_file()
-    return kept if is_script and subprocess.run([check, "--kept"], capture_output=True).returncode == 0 else found
+    if done.returncode == 0 and is_here:
+        return kept
+    if not shutil.which("rt"):
+        why = done.stderr.strip() or "dist/heads is for Linux on x86-64"
+        raise Problem(f"{why}; there is no rt to build it with. Set HEADS to a program heads")
+    return found
 
 
 def look_again() -> None:

@@ -6,7 +6,7 @@ import subprocess
 import pytest
 from conftest import TOP
 
-from heads_tools import program
+from heads_tools import Problem, program
 
 PATH = "/usr/bin:/bin"
 KEPT = "#!/bin/sh\necho ran\n"
@@ -148,10 +148,17 @@ def test_the_tools_call_the_program_itself(checkout, tools_there, tmp_path):
     assert program.program_file.__doc__ and program.call([], tmp_path).last == "ran"
 
 
-def test_the_tools_look_again_as_a_command_begins(checkout, tools_there):
+def test_the_tools_look_again_as_a_command_begins(checkout, tools_there, monkeypatch, tmp_path):
+    """Of other sources only the script runs a program, which builds it; without rt that is told at once."""
     assert program.direct_program() == checkout / "dist/heads"
     (checkout / "crates/heads/src/main.rt").write_text("changed\n")
     program.look_again()
+    monkeypatch.setenv("PATH", PATH)
+    with pytest.raises(Problem, match="was built from other sources than these; there is no rt to build it with"):
+        program.direct_program()
+    (tmp_path / "rt").write_text("#!/bin/sh\n")
+    (tmp_path / "rt").chmod(0o755)
+    monkeypatch.setenv("PATH", f"{tmp_path}:{PATH}")
     assert program.direct_program() == checkout / "heads"
 
 
