@@ -108,9 +108,9 @@ def inside(nam: str | Path, **options: Any) -> Answer:
     return call("inside", {"nam": nam}, options)
 
 
-def plain(nam: str | Path, folder: str | Path) -> Answer:
-    """Writes the deck in the spelling that heads reads."""
-    return call("plain", {"nam": nam, "folder": folder}, {})
+def plain(nam: str | Path, folder: str | Path, **options: Any) -> Answer:
+    """Writes the deck in the spelling that heads reads: dry, as_confined."""
+    return call("plain", {"nam": nam, "folder": folder}, options)
 
 
 def between(nam: str | Path, folder: str | Path, **options: Any) -> Answer:

@@ -339,7 +339,8 @@ def write_listing(listing: Listing, model: Model) -> None:
     """Writes a listing in the form that `heads check` reads."""
     places = listing.flow_places
     with whole_file(listing.path) as file:
-        file.write(f"HEADS 2 DIGITS {listing.digits} UNIT {listing.unit}\n")
+        word = " CONVERTIBLE" if listing.is_convertible else ""
+        file.write(f"HEADS 2 DIGITS {listing.digits} UNIT {listing.unit}{word}\n")
         for step in listing.steps:
             file.write(f"STEP {step.period} {step.step}\n")
             write_cells(file, "HEAD ", " ", listing.cells, step.low, step.high)

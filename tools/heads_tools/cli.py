@@ -202,11 +202,28 @@ def parser() -> argparse.ArgumentParser:
         nam,
     )
     s.add_argument("--most", type=int, default=12, help="the reasons of a kind to show (12)")
-    add(
+    s.add_argument(
+        "--heads",
+        type=Path,
+        metavar="RUN.HDS",
+        help="a run's heads (hds or CSV), where a layer is convertible: are they gentle, are the layers full",
+    )
+    s = add(
         "plain",
         "the deck in the one spelling of heads write, or rewritten so that heads reads it, with notes",
         nam,
         ("folder", "the folder to write into"),
+    )
+    s.add_argument(
+        "--dry",
+        type=Path,
+        metavar="RUN.HDS",
+        help="a run's heads (hds or CSV): cells that it dried (HDRY) get IBOUND 0",
+    )
+    s.add_argument(
+        "--as-confined",
+        action="store_true",
+        help="convertible layers get LAYTYP 0 where a run of the written deck shows that they are full",
     )
     s = add(
         "between",
@@ -360,6 +377,12 @@ def parser() -> argparse.ArgumentParser:
         "--theta", type=float, help="the margin, in roundings of a head; 0.5 and more are tried where left out"
     )
     s.add_argument("--zones", type=Path, metavar="M.ZON", help="a zone file: the flows between its zones, too")
+    s.add_argument(
+        "--convertible",
+        action="store_true",
+        help="layers may be convertible (LAYTYP other than 0): bounds for gentle heads, those whose fall from cell to "
+        "cell is no more than the saturated thickness of the lower one; tested and not proved",
+    )
     add_wide(s, "one check with the wide limits and cut floors, and not one by parts, of up to 4,194,304 cells")
     add_force(s)
     s = add("check", "certify a listing by heads check, or piece by piece", nam, ("listing", "the listing"))

@@ -169,15 +169,20 @@ def do_explain(args: argparse.Namespace, _: list[str], out: IO[str]) -> int:
 def do_inside(args: argparse.Namespace, _: list[str], out: IO[str]) -> int:
     from .inside import inside
 
-    verdict = inside(existing(args.nam), args.most)
+    verdict = inside(existing(args.nam), args.most, existing(args.heads) if args.heads else None)
     say(verdict.lines, out)
     return 0 if verdict.is_inside else 1
 
 
 def do_plain(args: argparse.Namespace, _: list[str], out: IO[str]) -> int:
     from .plain import plain
+    from .plain_water import plain_water
 
-    written = plain(existing(args.nam), args.folder)
+    if args.dry or args.as_confined:
+        dried = existing(args.dry) if args.dry else None
+        written = plain_water(existing(args.nam), args.folder, dried, args.as_confined)
+    else:
+        written = plain(existing(args.nam), args.folder)
     lines = written.notes()
     say([f"  {line}" for line in lines[:20]] + ([f"  and {len(lines) - 20} more"] if len(lines) > 20 else []), out)
     say([f"written: {written.path}; each change stands in {args.folder / 'plain.txt'}"], out)
@@ -349,6 +354,14 @@ def certify_heads(args: argparse.Namespace, out: IO[str]) -> Ran:
         raise Problem("--digits is from 0 to 18")
     nam = existing(args.nam)
     target = (args.out or nam.with_suffix(".certified.heads")).resolve()
+    if args.convertible:
+        from .certify_convertible import certify_convertible
+
+        if args.zones:
+            raise Problem("--convertible bounds no flows between zones: leave --zones out")
+        ended = certify_convertible(nam, existing(args.heads), args.digits, target, args.theta, args.wide)
+        say(ended.lines, out)
+        return Ran(ended.status, ended.last, ended.lines, ended.listing)
     zones = existing(args.zones) if args.zones else None
     ended = certify(nam, existing(args.heads), args.digits, target, args.theta, zones, args.wide)
     say(ended.lines, out)

@@ -19,9 +19,10 @@ ANY_STEP = (0, 0)
 NO_HEAD = 1e20
 
 
-def read_heads(path: str | Path, shape: tuple[int, int, int] | None = None) -> Heads:
+def read_heads(path: str | Path, shape: tuple[int, int, int] | None = None, most: float = NO_HEAD) -> Heads:
     """Heads by (period, step), each of shape (layers, rows, cols), nan where none stands. From MODFLOW's binary file,
-    or from a table of lines `[period,step,]layer,row,col,head`, whose heads without period hold for any step."""
+    or from a table of lines `[period,step,]layer,row,col,head`, whose heads without period hold for any step. Of a
+    binary file numbers from `most` up are no heads."""
     path = Path(path)
     raw = read_raw(path)
     if raw.startswith(b"HEADS "):
@@ -29,7 +30,7 @@ def read_heads(path: str | Path, shape: tuple[int, int, int] | None = None) -> H
     for marks in (0, 4):
         for real, size in (("f", 4), ("d", 8)):
             if raw[marks + 8 + 2 * size : marks + 24 + 2 * size].strip().upper() == b"HEAD":
-                return _binary(path, raw, marks, real, size, shape)
+                return _binary(path, raw, marks, real, size, shape, most)
     text, said = plain(raw)
     if all(32 <= b < 127 or b in b"\t\n\r" for b in text[:400]) and text:
         tell(path, said)
@@ -37,7 +38,9 @@ def read_heads(path: str | Path, shape: tuple[int, int, int] | None = None) -> H
     raise Problem(f"{path} is neither a head file of MODFLOW nor a table layer,row,col,head")
 
 
-def _binary(path: Path, raw: bytes, marks: int, real: str, size: int, shape: tuple[int, int, int] | None) -> Heads:
+def _binary(
+    path: Path, raw: bytes, marks: int, real: str, size: int, shape: tuple[int, int, int] | None, most: float
+) -> Heads:
     layers: dict[tuple[int, int], dict[int, np.ndarray]] = {}
     head, at = struct.Struct(f"<2i2{real}16s3i"), 0
     while at < len(raw):
@@ -49,7 +52,7 @@ def _binary(path: Path, raw: bytes, marks: int, real: str, size: int, shape: tup
             raise Problem(f"{path} ends within the heads of period {period}, step {step}, layer {layer}")
         if what.strip().upper() == b"HEAD":
             values = np.frombuffer(raw, f"<f{size}", ncol * nrow, at).astype(float).reshape(nrow, ncol)
-            layers.setdefault((period, step), {})[layer] = np.where(np.abs(values) < NO_HEAD, values, np.nan)
+            layers.setdefault((period, step), {})[layer] = np.where(np.abs(values) < most, values, np.nan)
         at += ncol * nrow * size + marks
     out = {}
     for key, by_layer in layers.items():

@@ -40,8 +40,14 @@ class Told:
     is_read: bool
 
 
-def inside(nam: Path, most: int = 12) -> Verdict:
+def inside(nam: Path, most: int = 12, heads: Path | None = None) -> Verdict:
+    """`heads`: those of a run, of which is said whether they are gentle where a layer is convertible."""
+    from .inside_water import water_lines
+
     deck, report = read_deck(nam, as_modflow=True)
+    has_convertible = any(float(word) for word in deck.layer_words[0]) if deck.layer_words else False
+    if heads and not has_convertible:
+        raise Problem("--heads is for decks with a convertible layer (LAYTYP other than 0): every layer is confined here")
     model = None
     if not report.refusals:
         model = model_of(deck)
@@ -72,6 +78,8 @@ def inside(nam: Path, most: int = 12) -> Verdict:
     if is_inside and report.wide:
         out += ["give --wide (`heads-tools run` does it by itself):", *listed(report.wide, most)]
     more = digits_lines(model) + tops_lines(nam, model) + told.lines if model and is_inside else []
+    if has_convertible:
+        more = water_lines(nam, heads)
     return Verdict(out + more, is_inside)
 
 

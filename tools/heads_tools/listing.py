@@ -46,7 +46,8 @@ class Step:
 class Listing:
     """A listing. `cells`: layer, row and column of each cell with flow, from 1, shape (cells, 3); `end`: its last
     line; `is_change`: its heads are those of one run less those of another (`changes_of` in drawdown.py); `is_span`: it
-    was made of two decks and holds for every deck between them; `sha256`: that of the bytes that were read."""
+    was made of two decks and holds for every deck between them; `sha256`: that of the bytes that were read;
+    `is_convertible`: it is of a model with convertible layers, and holds for gentle heads (gentle.py)."""
 
     path: Path
     digits: int
@@ -57,6 +58,7 @@ class Listing:
     is_change: bool = False
     is_span: bool = False
     sha256: str = ""
+    is_convertible: bool = False
 
     def __repr__(self) -> str:
         size = f"{counted(len(self.steps), 'step')} of {counted(len(self.cells), 'cell')}"
@@ -161,8 +163,8 @@ def listing_bytes(path: Path) -> bytes:
     return content
 
 
-def read_listing(path: str | Path) -> Listing:
-    """Reads a listing. One that ended early is read as far as its steps are whole; `end` is its last line. One that a
+def read_listing(path: str | Path, has_convertible: bool = False) -> Listing:
+    """Reads a listing; one of a model with convertible layers only where that is asked for. One that ended early is read as far as its steps are whole; `end` is its last line. One that a
     shell or a mail program has written in UTF-16 or with CR LF is read as `heads` wrote it; `sha256` is of that."""
     content = listing_bytes(Path(path))
     lines = content.decode("latin-1").split("\n")
@@ -171,9 +173,14 @@ def read_listing(path: str | Path) -> Listing:
         raise Problem(f"{path} is empty: the write failed, or the run was stopped")
     if first[0] in NO_LISTING:
         raise Problem(f"{path} has no listing, it ended with: {lines[0][:100]}")
-    is_span = first[6:] == ["TO"]
+    is_span, is_convertible = first[6:] == ["TO"], first[6:] == ["CONVERTIBLE"]
+    if is_convertible and not has_convertible:
+        raise Problem(
+            f"{path} is of a model with convertible layers: it holds for gentle heads alone, and this command takes"
+            " listings of confined models"
+        )
     if (
-        len(first) != 6 + is_span
+        len(first) != 6 + is_span + is_convertible
         or first[0] != "HEADS"
         or first[2] != "DIGITS"
         or not (first[3] + first[5].lstrip("-")).isdigit()
@@ -181,6 +188,7 @@ def read_listing(path: str | Path) -> Listing:
         raise Problem(f"{path}, line 1: no listing of `heads` begins with {lines[0][:60]!r}")
     digest = hashlib.sha256(content).hexdigest()
     listing = Listing(Path(path), int(first[3]), int(first[5]), is_span=is_span, sha256=digest)
+    listing.is_convertible = is_convertible
     starts = [n for n, line in enumerate(lines) if line.startswith("STEP ")]
     tail = next((n for n in range(len(lines) - 1, -1, -1) if lines[n].strip()), 0)
     listing.end = lines[tail].strip() if not lines[tail].startswith(("HEAD", "STEP", "IN ", "OUT ", "ZONE")) else ""

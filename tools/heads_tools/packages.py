@@ -15,16 +15,25 @@ from .text import Problem, words
 
 MOST_LETTERS = 200
 EVT_ARRAYS = ("SURF", "EVTR", "EXDP")
+OPTIONS_OF_CONVERTIBLE = {
+    "CONSTANTCV": "with convertible layers it keeps the vertical conductance of full cells, which isn't read",
+    "NOCVCORRECTION": "with convertible layers it leaves vertical conductances uncorrected, which isn't read",
+    "NOVFC": "with convertible layers it leaves out a correction of the flow down to a cell that isn't full",
+}
 
 
 def read_deck(
-    nam: str | Path, as_modflow: bool = False, any_size: bool = False, others: dict[str, str] | None = None
+    nam: str | Path,
+    as_modflow: bool = False,
+    any_size: bool = False,
+    others: dict[str, str] | None = None,
+    has_convertible: bool = False,
 ) -> tuple[Deck, Report]:
     """Reads all files of a name file. What can't be read stands under the report's refusals. A blank line where
     counts or flags are due is passed over, as `heads` does, or read `as_modflow`, which takes it as zeros.
     `any_size`: more cells than the program takes with --wide are no refusal. `others`: files of packages that are read
-    in place of the deck's own."""
-    reader = Reader(Path(nam), as_modflow, any_size)
+    in place of the deck's own. `has_convertible`: LAYTYP other than 0 is read, too."""
+    reader = Reader(Path(nam), as_modflow, any_size, has_convertible)
     reader.read_names()
     reader.deck.files.update(others or {})
     for kind in KINDS:
@@ -71,8 +80,8 @@ def layer_word_refused(name: str, row: list[str], by_start: bool) -> str:
 class Reader:
     """The reading of one deck."""
 
-    def __init__(self, nam: Path, as_modflow: bool = False, any_size: bool = False):
-        self.any_size = any_size
+    def __init__(self, nam: Path, as_modflow: bool = False, any_size: bool = False, has_convertible: bool = False):
+        self.any_size, self.has_convertible = any_size, has_convertible
         self.report, self.deck, self.folder, self.as_modflow = Report(), Deck(nam), nam.parent, as_modflow
         self.sources: dict[str, Source] = {}
         self.binary_at: dict[str, int] = {}
@@ -391,7 +400,7 @@ class Reader:
 
     def read_lpf(self) -> None:
         s, deck = self.start("LPF"), self.deck
-        line = s.line()
+        line, first = s.line(), s.at
         w = quoted_words(line)
         if s.integer(w[2], "NPLPF") > 0:
             raise Problem("LPF has parameters: load the model in FloPy and write it again, which writes their values")
@@ -411,11 +420,26 @@ class Reader:
             rows[at] = s.free_values(deck.nlay)
             if name != "CHANI" and (wrong := [x for x in rows[at] if not re.fullmatch(r"[+-]?\d+", x)]):
                 self.refuse_count(name, wrong[0], s.at)
-            if at in (0, 1, 4) and any(float(x) for x in rows[at]):
+            if at == 0 and self.has_convertible and any(float(x) for x in rows[at]):
+                self.refuse_convertible(line, first, rows[at], by_start)
+            elif at in (0, 1, 4) and any(float(x) for x in rows[at]):
                 self.refuse(layer_word_refused(name, rows[at], by_start))
         if any(float(x) for x in rows[4]):
             s.line()
         deck.properties = [self._layer(k, by_start) for k in range(deck.nlay)]
+
+    def refuse_convertible(self, line: str, first: int, row: list[str], by_start: bool) -> None:
+        """Refuses what isn't read of convertible layers. `first`: the line of the options."""
+        if by_start and any(float(x) < 0 for x in row):
+            self.refuse(layer_word_refused("LAYTYP", [x if float(x) < 0 else "0" for x in row], by_start))
+        for word in quoted_words(line)[3:]:
+            if text := OPTIONS_OF_CONVERTIBLE.get(word.upper()):
+                self.report.add("refusals", self.now.name, first, f"{word.upper()}: {text}")
+        if "UPW" in self.deck.options:
+            self.refuse(
+                "UPW with LAYTYP other than 0: MODFLOW-NWT weights such layers upstream, which are other equations than"
+                " LPF's"
+            )
 
     def _layer(self, k: int, by_start: bool) -> dict[str, Array]:
         """The arrays of a layer. `by_start`: LAYTYP below 0 is a confined layer as thick as its starting head says."""
@@ -439,7 +463,10 @@ class Reader:
         deck.options[kind] = line if deck.is_free else " ".join(self.fields(s, line, 2))
         if kind == "WEL" and s.at < len(s.lines) and s.lines[s.at].strip().upper().startswith("SPECIFY"):
             s.line()
-            self.need("SPECIFY dropped: this option of MODFLOW-NWT acts in convertible layers alone")
+            if self.has_convertible and any(float(x) for x in deck.layer_words[0]):
+                self.refuse("SPECIFY is an option of MODFLOW-NWT, which lessens pumping in convertible layers")
+            else:
+                self.need("SPECIFY dropped: this option of MODFLOW-NWT acts in convertible layers alone")
         deck.lists[kind] = []
         for period in range(len(deck.periods)):
             w = self.counts(s, 2, f"ITMP of period {period + 1}")

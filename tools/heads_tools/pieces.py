@@ -177,13 +177,20 @@ class Slabs:
         can be."""
         listing, part, held = self.listing, piece.part, self.is_held(piece.part)
         names = list(TERMS)[: 8 if "EVT" in self.model.deck.areal else 7]
-        zero, wide = (decimal_text(units, listing.flow_places) for units in (0, WIDE))
         rows = slice(part.begin, part.end)
         pairs = [np.where(held, self.now[piece.side][:, rows], now[:, rows]) for now in self.now]
         cells = np.argwhere(self.model.ibound[:, rows] != 0)
         units = [side[tuple(cells.T)] for side in pairs]
-        with whole_file(path, is_own=True) as file:
-            file.write(f"HEADS 2 DIGITS {listing.digits} UNIT {listing.unit}\nSTEP 1 1\n")
-            write_cells(file, "HEAD ", " ", cells + 1, *units)
-            file.writelines(f"{word} {zero} {wide} {name}\n" for word in ("IN", "OUT") for name in names)
-            file.write("END\n")
+        write_wide_listing(path, listing.digits, listing.unit, cells + 1, units[0], units[1], names)
+
+
+def write_wide_listing(
+    path: Path, digits: int, unit: int, cells: np.ndarray, low: np.ndarray, high: np.ndarray, names: list[str]
+) -> None:
+    """A listing of one step, in a folder of heads-tools' own, with terms as wide as they can be."""
+    zero, wide = (decimal_text(units, digits + 9) for units in (0, WIDE))
+    with whole_file(path, is_own=True) as file:
+        file.write(f"HEADS 2 DIGITS {digits} UNIT {unit}\nSTEP 1 1\n")
+        write_cells(file, "HEAD ", " ", cells, low, high)
+        file.writelines(f"{word} {zero} {wide} {name}\n" for word in ("IN", "OUT") for name in names)
+        file.write("END\n")
