@@ -9,7 +9,7 @@ from dataclasses import dataclass, field
 from pathlib import Path
 from typing import IO, TYPE_CHECKING, ContextManager, Iterator
 
-from .listing import Listing, read_listing
+from .listing import Listing, read_listing, refuse_convertible
 from .text import Problem, counted
 
 if TYPE_CHECKING:
@@ -49,7 +49,9 @@ def guarded(args: argparse.Namespace, rest: list[str]) -> Iterator[None]:
 
 
 def listing_of(given: Path | Listing) -> Listing:
-    """A listing that is in memory, or that of a file."""
+    """A listing that is in memory, or that of a file; of a confined model."""
+    if isinstance(given, Listing) and given.is_convertible:
+        refuse_convertible(given.path)
     return given if isinstance(given, Listing) else read_listing(existing(given))
 
 
@@ -175,9 +177,10 @@ def do_inside(args: argparse.Namespace, _: list[str], out: IO[str]) -> int:
 
 
 def do_plain(args: argparse.Namespace, _: list[str], out: IO[str]) -> int:
-    from .plain import plain
-    from .plain_water import plain_water
+    from .plain import Written, plain
+    from .plain_water import WrittenWater, plain_water
 
+    written: Written | WrittenWater
     if args.dry or args.as_confined:
         dried = existing(args.dry) if args.dry else None
         written = plain_water(existing(args.nam), args.folder, dried, args.as_confined)

@@ -156,6 +156,13 @@ def head_floor(units: np.ndarray) -> np.ndarray:
     return np.where(units % FIFTHS == 0, units // FIFTHS / 512, np.nextafter(near, -np.inf))
 
 
+def refuse_convertible(path: Path) -> None:
+    raise Problem(
+        f"{path} is of a model with convertible layers: it holds for gentle heads alone, and this command takes listings"
+        " of confined models"
+    )
+
+
 def listing_bytes(path: Path) -> bytes:
     """The bytes of a listing as `heads` writes them; it is said where the file has others."""
     content, said = plain_listing(read_raw(path))
@@ -175,10 +182,7 @@ def read_listing(path: str | Path, has_convertible: bool = False) -> Listing:
         raise Problem(f"{path} has no listing, it ended with: {lines[0][:100]}")
     is_span, is_convertible = first[6:] == ["TO"], first[6:] == ["CONVERTIBLE"]
     if is_convertible and not has_convertible:
-        raise Problem(
-            f"{path} is of a model with convertible layers: it holds for gentle heads alone, and this command takes"
-            " listings of confined models"
-        )
+        refuse_convertible(Path(path))
     if (
         len(first) != 6 + is_span + is_convertible
         or first[0] != "HEADS"

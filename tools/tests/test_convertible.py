@@ -5,14 +5,16 @@ from decimal import Decimal
 import numpy as np
 import pytest
 from conftest import TOP
-from water_reference import Small, draw, pumped, tank
+from water_reference import HOLE, LOWER_HOLE, Small, draw, pumped, tank
 
+import heads_tools
 from heads_tools.certify_convertible import Bounds, Found, Refused
 from heads_tools.convertible import read_convertible
 from heads_tools.frozen import Frozen
 from heads_tools.gentle import first_not_gentle
 from heads_tools.listing import read_listing
 from heads_tools.run_heads import RunHeads
+from heads_tools.text import Problem
 from heads_tools.water_steps import steps_of
 
 D = Decimal
@@ -136,6 +138,48 @@ def test_water_comes_from_both_sides_of_a_top(tmp_path, tool):
     assert storage[0] <= 1000.5 * 10**21 <= storage[1] and storage[2] == 0
 
 
+def test_constant_heads_may_lie_between_two_units(tmp_path, tool):
+    """Heads that CHD brings from 10 to 11 m in three steps: h solves 40 H h (H - h) = 600 (H + h)."""
+    model = pumped("-600")
+    model.ibound, model.periods = [1, 1, 1], [("3", 3, "SS")]
+    nam = model.write(tmp_path)
+    nam.write_text(nam.read_text() + "CHD 30 m.chd\n")
+    nam.with_name("m.chd").write_text("2 0\n2 0\n1 1 1 10 11\n1 1 3 10 11\n")
+    listing, _ = certified(tool, nam, table(nam, {(1, 1, 2): 6}))
+    for n, step in enumerate(listing.steps, 1):
+        known = 10 + D(n) / 3
+        half = (40 * known**2 - 600) / (80 * known)
+        low, high = step.low.tolist(), step.high.tolist()
+        assert low[0] <= known * ONE <= high[0] <= low[0] + 1
+        assert low[1] <= (half + (half**2 - 15).sqrt()) * ONE <= high[1] <= low[1] + 100
+
+
+def test_a_model_of_known_heads_alone_is_certified(tmp_path, tool):
+    model = pumped("0")
+    model.ibound = [-1, -1, -1]
+    nam = model.write(tmp_path)
+    listing, _ = certified(tool, nam, table(nam, {(1, 1, 1): 10}))
+    assert listing.steps[0].low.tolist() == [10 * ONE] * 3
+
+
+def test_a_model_that_nothing_holds_has_no_bounds(tmp_path, tool):
+    model = pumped("-1")
+    model.ibound = [1, 1, 1]
+    nam = model.write(tmp_path)
+    status, out, err = tool("certify", nam, table(nam, {(1, 1, 1): 10}), "--convertible")
+    assert status != 0 and "CERTIFIED for" not in out, out + err
+    assert not nam.with_suffix(".certified.heads").exists()
+
+
+def test_a_layer_whose_laytyp_is_below_0_is_convertible_without_thickstrt(tmp_path, tool):
+    model = pumped("-600")
+    nam = model.write(tmp_path)
+    lpf = nam.with_name("m.lpf")
+    lpf.write_text(lpf.read_text().replace("0 -1E+30 0\n1\n", "0 -1E+30 0\n-1\n", 1))
+    listing, _ = certified(tool, nam, whole_table(nam, model, [10, 6, 10]))
+    assert listing.steps[0].low[1] < 6 * ONE < listing.steps[0].high[1]
+
+
 def test_a_bed_lies_below_the_water_table(tmp_path, tool):
     """12 m over the bed: resistances 12/2, 2 and 2 under a fall of 10 m carry the recharge of 1 m/d."""
     model = Small((2, 1, 1), [D(20), D(-1)], [D(0), D(-5)], [D(1)] * 2, [1, -1], [D(12), D(2)], [True, True], {0})
@@ -251,7 +295,8 @@ def test_each_side_has_the_stored_water_of_its_own_old_heads(tmp_path):
     assert isinstance(low, Refused) and low.ended.last == "NOT CERTIFIED 1 1 1 1 1 LOW"
     high = tried(tank(["0"]), tmp_path, [2.5], [3.5], old)
     assert isinstance(high, Refused) and high.ended.last == "NOT CERTIFIED 1 1 1 1 1 HIGH"
-    assert isinstance(tried(tank(["0"]), tmp_path, [2.9], [4.1], old), Found)
+    found = tried(tank(["0"]), tmp_path, [2.9], [4.1], old)
+    assert isinstance(found, Found) and found.terms["STORAGE"] == [0, 1100 * 10**21, 0, 1100 * 10**21]
 
 
 @pytest.mark.parametrize("side", (0, 1))
@@ -282,14 +327,16 @@ def test_the_greatest_head_of_a_neighbour_counts_for_gentle(tmp_path):
     variable = np.array([True, True, False])
     assert first_not_gentle(water, low, low, variable) is None and first_not_gentle(water, high, high, variable) is None
     assert first_not_gentle(water, low, high, variable).cell == 1
+    ended = tried(model, tmp_path, low / ONE, high / ONE)
+    assert isinstance(ended, Refused) and ended.ended.last == "NOT CERTIFIED 1 1 1 1 2 GENTLE"
 
 
 def test_the_first_cell_with_flow_of_a_column_has_the_water_table(tmp_path):
     model = draw(5, 3, 2)
     water, _ = read_convertible(model.write(tmp_path))
     size = model.size
-    assert not water.has_table[7] and water.has_table[size + 7] and water.has_table[6]
-    assert water.has_table[2 * size + 12] and not water.has_table[2 * size + 7]
+    assert not water.has_table[HOLE] and water.has_table[size + HOLE] and water.has_table[HOLE - 1]
+    assert water.has_table[2 * size + LOWER_HOLE] and not water.has_table[2 * size + HOLE]
 
 
 @pytest.mark.parametrize("seed, layers", [(11, 1), (12, 2), (13, 3)])
@@ -392,6 +439,9 @@ def test_commands_for_confined_models_refuse_the_listing(tmp_path, tool):
     nam = model.write(tmp_path)
     certified(tool, nam, whole_table(nam, model, [10, 6, 10]))
     path = nam.with_suffix(".certified.heads")
+    with pytest.raises(Problem, match="gentle"):
+        made = heads_tools.certify(nam, nam.with_name("run.csv"), convertible=True)
+        heads_tools.look(made.listing, tmp_path / "look")
     for words in (("look", path, tmp_path / "look"), ("check", nam, path), ("hds", path, tmp_path / "m.hds")):
         status, out, err = tool(*words)
         assert status == 2 and "holds for gentle heads alone" in err, out + err

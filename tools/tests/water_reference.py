@@ -172,15 +172,21 @@ class Small:
         return np.array(columns).T
 
 
+HOLE, LOWER_HOLE = 7, 12
+
+
 def draw(seed, layers=1, steps=0):
     """A random model: rough bottoms, K of sigma ln 1, known heads at both ends, wells, rivers, drains, a general head,
-    recharge; of several layers a bed, and holes in the first and the second one."""
+    recharge; of several layers a bed, and holes in the first and the second one. Below the first hole the water table
+    is in the second layer."""
     r = random.Random(seed)
     rows, cols = 4, 5
     size = rows * cols
     cells = range(size * layers)
     number = lambda a, b, places: D(round(r.uniform(a, b) * 10**places)) / 10**places
     bottom = [number(0, 4, 2) for _ in range(size)]
+    if layers > 1:
+        bottom[HOLE] = D(24)
     top = [b + 50 for b in bottom]
     bed = {0} if layers > 1 else set()
     for k in range(1, layers):
@@ -188,9 +194,9 @@ def draw(seed, layers=1, steps=0):
         bottom += [b - 10 for b in top[-size:]]
     ibound = [1 if 0 < c % cols < cols - 1 else -1 for c in cells]
     if layers > 1:
-        ibound[7] = 0
+        ibound[HOLE] = 0
     if layers > 2:
-        ibound[size + 12] = 0
+        ibound[size + LOWER_HOLE] = 0
     strt = [D(16) if c % cols == 0 else D("19.5") if c % cols == cols - 1 else D(18) for c in cells]
     k = [number(0.3, 20, 2) for _ in cells]
     m = Small((layers, rows, cols), top, bottom, k, ibound, strt, [True] * layers, bed)
