@@ -47,6 +47,11 @@ class Refused(Exception):
         super().__init__(last)
         self.ended = Certified(status, last, [last, *lines])
 
+    @property
+    def is_narrow(self) -> bool:
+        """Whether wider margins may help: a sign is missing."""
+        return self.ended.last.endswith(SIDES)
+
 
 def certify_convertible(
     nam: Path, heads: Path, digits: int, out: Path, factor: float | None = None, has_wide: bool = False
@@ -133,7 +138,7 @@ class Bounds:
         middle = solver.solve(begin, before, 0.0)
         ended = self.tried(data, solver, old, middle, self.margins[0])
         for factor in self.margins[1:]:
-            if isinstance(ended, Found):
+            if isinstance(ended, Found) or not ended.is_narrow:
                 break
             ended = self.tried(data, solver, old, middle, factor)
         if fault is not None:

@@ -2,9 +2,9 @@
 confined model do.
 
 Heads are gentle where each convertible cell's head is above its bottom; where along each branch of a row or a column
-the head falls by no more than the saturated thickness of the lower cell, or that cell is full; and where below a cell
-with flow the head isn't below that cell's bottom, if one of the two is convertible. Elsewhere LPF's equations may have
-several solutions."""
+the head falls by no more than the saturated thickness of the lower cell, unless that cell is full or its head is given;
+and where below a cell with flow the head isn't below that cell's bottom, if one of the two is convertible. Elsewhere
+LPF's equations may have several solutions."""
 from __future__ import annotations
 
 from dataclasses import dataclass
@@ -15,9 +15,10 @@ from .convertible import Convertible, Heads
 from .text import decimal_text
 
 GENTLE = (
-    "Heads are gentle where each cell of a convertible layer has its head above its bottom, where from cell to cell of"
-    " a layer the head falls by no more than the saturated thickness of the lower cell (or that cell is full), and"
-    " where no head lies below the bottom of the cell above it. Elsewhere LPF's equations may have several solutions."
+    "Heads are gentle where each cell of a convertible layer has its head above its bottom; where from cell to cell of"
+    " such a layer the head falls by no more than the saturated thickness of the lower cell (unless that cell is full,"
+    " or its head is given); and where no head lies below the bottom of the cell above it (if one of the two is"
+    " convertible). Elsewhere LPF's equations may have several solutions."
 )
 DRY, STEEP, PERCHED, DRIED = 1, 2, 3, 4
 

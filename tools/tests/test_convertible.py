@@ -79,6 +79,14 @@ def test_the_other_one_is_refused_and_both_are_named(tmp_path, tool):
     assert not nam.with_suffix(".certified.heads").exists()
 
 
+def test_a_call_that_is_refused_raises(tmp_path):
+    model = pumped("-600")
+    nam = model.write(tmp_path)
+    with pytest.raises(heads_tools.RunFailed) as failed:
+        heads_tools.certify(nam, whole_table(nam, model, [10, 2.5, 10]), convertible=True)
+    assert failed.value.status == 8 and failed.value.last == "NOT CERTIFIED 1 1 1 1 2 GENTLE"
+
+
 def test_the_example_is_the_pumped_cell(tool, tmp_path):
     for file in (TOP / "tools" / "tests" / "pumped_cell").iterdir():
         (tmp_path / file.name).write_bytes(file.read_bytes())
