@@ -194,7 +194,8 @@ def effects_of(
     two listings of heads, subtracted."""
     if not all(np.array_equal(each.cells, difference.cells) for each in listings):
         raise Problem("the listings of base, plan and differences have other cells: a fault of heads-tools")
-    at, steps, out = difference.places, iter(difference.steps), []
+    out: list[Effect] = []
+    at, steps = difference.places, iter(difference.steps)
     for stretch, all_branches in zip(stretches, branches):
         idle = without_equation(base, stretch.period)
         held = [each for each in all_branches if not idle[tuple(n - 1 for n in each.cell)]]

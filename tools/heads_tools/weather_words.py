@@ -5,8 +5,9 @@ from pathlib import Path
 
 import numpy as np
 
+from .below_top import BelowTop
 from .cell_lines import write_cells
-from .drawdown import place_of, told, tops_of
+from .drawdown import place_of, told, tops_lines
 from .drawdown_weather import Cell, Effect, Weathered
 from .plan_sources import FLOW_PLACES
 from .text import counted, decimal_text, down, up
@@ -100,9 +101,10 @@ def sentences(it: Weathered) -> list[str]:
     for cell, name in it.asked.cells.items():
         head = f"{name}: " if name else ""
         out.append(f"{head}at the end of {when(it, last)} {change_at(it, last, it.listing.at(cell))}.")
-    for listing, seen in zip(it.heads[1:], it.verdicts[2:]):
-        out += tops_of(listing, it.model, seen)
-    return out
+    if it.model is None:
+        return out
+    listed = [(seen, BelowTop(it.model.deck, listing)) for listing, seen in zip(it.heads[1:], it.verdicts[2:])]
+    return [*out, *tops_lines(listed)]
 
 
 def subtracted(it: Weathered, effect: Effect) -> list[str]:

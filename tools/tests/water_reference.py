@@ -161,7 +161,7 @@ class Small:
 
     def slopes(self, h, old, period, length, free):
         """The slopes of the balances in doubles, by small differences."""
-        base, columns = None, []
+        columns = []
         for c in free:
             ends = []
             for sign in (1e-6, -1e-6):
