@@ -49,8 +49,8 @@ def add_place(sub: argparse.ArgumentParser, is_needed: bool) -> None:
     sub.add_argument(
         "--at",
         metavar="X0,Y0[,ANGLE[,EPSG]]",
-        help="the grid's lower left corner, degrees against the clock, a code of EPSG; that of the name file's comments "
-        "(xll, yll, rotation, EPSG) where left out",
+        help="the grid's lower left corner, degrees against the clock, a code of EPSG; that of the name file's "
+        "comments (xll, yll, rotation, EPSG) where left out",
     )
 
 
@@ -122,8 +122,8 @@ def add_force(sub: argparse.ArgumentParser) -> None:
     sub.add_argument(
         "--force",
         action="store_true",
-        help="write over results that heads-tools didn't make, too; never over a file of a deck, or one that a name file"
-        " names",
+        help="write over results that heads-tools didn't make, too; never over a file of a deck, or one that a name "
+        "file names",
     )
 
 

@@ -114,7 +114,8 @@ def write_series(path: Path, files: list[tuple[Path, float]]) -> None:
     """ParaView's list of the files of all steps with their times."""
     lines = [f'<DataSet timestep="{time!r}" file={quoteattr(file.name)}/>' for file, time in files]
     with whole_file(path) as out:
-        head = '<?xml version="1.0"?>\n<!-- made by heads-tools -->\n<VTKFile type="Collection" version="0.1">\n<Collection>\n'
+        head = '<?xml version="1.0"?>\n<!-- made by heads-tools -->\n'
+        head += '<VTKFile type="Collection" version="0.1">\n<Collection>\n'
         out.write(head + "\n".join(lines) + "\n</Collection>\n</VTKFile>\n")
 
 

@@ -14,8 +14,8 @@ def demand_whole(listing: Listing) -> None:
         raise Problem(f"{listing.path} has no whole step: it ends with `{listing.end or 'a part of a step'}`")
     if not listing.is_whole:
         raise Problem(
-            f"{listing.path} isn't whole: it ends with `{listing.end or 'a part of a step'}`, and a run that went well ends"
-            " with END"
+            f"{listing.path} isn't whole: it ends with `{listing.end or 'a part of a step'}`, and a run that went well"
+            " ends with END"
         )
 
 
@@ -38,4 +38,5 @@ def demand_fit(listing: Listing, model: Model) -> None:
         pairs = zip([*steps, None], [*model.times, None])
         at, (listed, due) = next((n, pair) for n, pair in enumerate(pairs, 1) if pair[0] != pair[1])
         told = ["no step" if each is None else "period {} step {}".format(*each) for each in (listed, due)]
-        raise Problem(f"{listing.path} is of another model: its time step {at} is {told[0]}, and the model's is {told[1]}")
+        differs = f"its time step {at} is {told[0]}, and the model's is {told[1]}"
+        raise Problem(f"{listing.path} is of another model: {differs}")

@@ -26,7 +26,7 @@ def read_heads(path: str | Path, shape: tuple[int, int, int] | None = None, most
     path = Path(path)
     raw = read_raw(path)
     if raw.startswith(b"HEADS "):
-        raise Problem(f"{path} is a listing of `heads`, and a head file or a table is due: `heads-tools hds` makes one of it")
+        raise Problem(f"{path} is a listing of `heads`, and a head file or a table is due: `heads-tools hds` makes one")
     for marks in (0, 4):
         for real, size in (("f", 4), ("d", 8)):
             if raw[marks + 8 + 2 * size : marks + 24 + 2 * size].strip().upper() == b"HEAD":

@@ -1,7 +1,8 @@
 """mf2005: runs `heads` as MODFLOW-2005 is called, for FloPy, ModelMuse and scripts: the name file as the one word,
 head file at the unit of the name file, a list file with the budget, and the words 'Normal termination of simulation'.
 Written from the documented call and files; the heads are the middles of the pairs, which lie beside the head file in
-NAME.heads. As MODFLOW-2005 opens its outputs anew, those of the run before go first: nobody reads them for this run's."""
+NAME.heads. As MODFLOW-2005 opens its outputs anew, those of the run before go first, so that nobody takes them for
+those of this run."""
 from __future__ import annotations
 
 import re
@@ -202,7 +203,8 @@ def write_failure(output: Output, nam: Path, lines: list[str]) -> None:
         return
     with suppress(Problem), whole_file(output.list_file) as file:
         told = "\n".join(f" {line}" for text in lines for line in text.split("\n"))
-        file.write(f"{BEGIN}; NAME FILE {nam.name}\n\n THE RUN DID NOT END WELL, AND THERE ARE NO HEADS OF IT:\n{told}\n")
+        failed = "THE RUN DID NOT END WELL, AND THERE ARE NO HEADS OF IT:"
+        file.write(f"{BEGIN}; NAME FILE {nam.name}\n\n {failed}\n{told}\n")
 
 
 def main() -> int:

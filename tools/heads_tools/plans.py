@@ -17,8 +17,8 @@ from .whole_files import whole_file
 
 
 def compare_plans(path: Path, folder: Path, base_name: str | None, cells: list[Cell]) -> tuple[list[str], int]:
-    """Writes the page and plans.csv of a batch's list, whose models have run; what there is to say, and the first status
-    of a check that isn't 0."""
+    """Writes the page and plans.csv of a batch's list, whose models have run; what there is to say, and the first
+    status of a check that isn't 0."""
     jobs = read_jobs(path)
     base = next((j for j in jobs if base_name in (None, j.name, j.nam.name)), None)
     if base is None:

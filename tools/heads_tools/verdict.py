@@ -153,8 +153,8 @@ def demand_same(listing: Listing) -> None:
     """Refuses a listing in memory whose file has other bytes by now."""
     if not listing.path.is_file() or hashlib.sha256(listing_bytes(listing.path)).hexdigest() != listing.sha256:
         raise Problem(
-            f"{listing.path} isn't the file any more that this listing was read from, so it can't be checked: write each"
-            " run that is still needed to a file of its own (--out), or leave the model's name out"
+            f"{listing.path} isn't the file any more that this listing was read from, so it can't be checked: write"
+            " each run that is still needed to a file of its own (--out), or leave the model's name out"
         )
 
 

@@ -43,7 +43,8 @@ def test_a_run_without_bounds_raises_and_hands_over_no_older_listing(valley):
         heads_tools.run(valley)
     last = heads(["run", valley.name], valley.parent).stdout.rstrip("\n").split("\n")[-1]
     error = raised.value
-    assert f"NOBOUND {error.code} {error.word} {error.period} {error.step} {' '.join(error.place)}" == last == error.last
+    words = "NOBOUND", error.code, error.word, error.period, error.step, *error.place
+    assert " ".join(map(str, words)) == last == error.last
     assert error.status == 3 and error.cell == tuple(map(int, last.split()[5:8])) and "  -> " in str(error)
     assert valley.with_suffix(".heads").is_file(), "the older listing stays where it was"
 

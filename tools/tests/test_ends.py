@@ -215,7 +215,7 @@ def test_words_that_are_taken_have_no_fault():
 BROKEN = {
     "nan": (lambda text: text.replace("HEAD 1 2 3 ", "HEAD 1 2 3 nan ", 1), "`nan` is no number"),
     "an empty line": (lambda text: text.replace("\nIN", "\n\nIN", 1), "it is empty, and a listing has no empty lines"),
-    "a word too many": (lambda text: text.replace("HEAD 1 2 3 ", "HEAD 1 2 3 3 ", 1), "isn't of the form of a line HEAD"),
+    "a word too many": (lambda text: text.replace("HEAD 1 2 3 ", "HEAD 1 2 3 3 ", 1), "the form of a line HEAD"),
     "another word": (lambda text: text.replace("OUT ", "AUS ", 1), "no line of a step begins with `AUS`"),
 }
 

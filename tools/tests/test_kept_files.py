@@ -46,7 +46,7 @@ def contents(folder):
         (["compare", "m.heads", "middle.hds", "--csv", "middle.hds"], "middle.hds", "the command reads it"),
         (["hds", "m.heads", "m.dis"], "m.dis", "m.nam names it (DIS)"),
         (["hds", "m.heads", "m.heads"], "m.heads", "the command reads it"),
-        (["observe", "m.heads", "points.txt", "--name", "m.nam", "--out", "points.txt"], "points.txt", "the command reads"),
+        (["observe", "m.heads", "points.txt", "--name", "m.nam", "--out", "points.txt"], "points.txt", "reads it"),
         (["observe", "m.heads", "points.txt", "--name", "m.nam", "--out", "m.bas"], "m.bas", "m.nam names it (BAS6)"),
     ],
 )
