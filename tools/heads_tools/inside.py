@@ -14,6 +14,7 @@ from .equations import Network, given_heads
 from .explain import explain
 from .inside_tops import tops_lines
 from .model import Model, model_of
+from .modflow6 import is_simulation, read_simulation
 from .packages import read_deck
 from .plain import write_deck
 from .program import DEFAULT_DIGITS, read_alone
@@ -44,7 +45,10 @@ def inside(nam: Path, most: int = 12, heads: Path | None = None) -> Verdict:
     """`heads`: those of a run, of which is said whether they are gentle where a layer is convertible."""
     from .inside_water import water_lines
 
-    deck, report = read_deck(nam, as_modflow=True)
+    if is_simulation(nam):
+        deck, report, _ = read_simulation(nam)
+    else:
+        deck, report = read_deck(nam, as_modflow=True)
     has_convertible = any(float(word) for word in deck.layer_words[0]) if deck.layer_words else False
     if heads and not has_convertible:
         raise Problem("--heads is for decks with a convertible layer (LAYTYP other than 0): every layer is confined here")
@@ -224,7 +228,7 @@ def confirmed(nam: Path, model: Model, is_rewritten: bool, has_wide: bool) -> To
         with tempfile.TemporaryDirectory() as folder:
             if is_rewritten:
                 write_deck(model.deck, Path(folder))
-                nam = Path(folder) / nam.name
+                nam = Path(folder) / model.deck.path.name
             last = read_alone(nam.resolve(), has_wide)
             if last is None:
                 how = (" so rewritten" if is_rewritten else "") + (" with --wide" if has_wide else "")

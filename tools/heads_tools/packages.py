@@ -9,6 +9,7 @@ from .advice import OTHER_PACKAGES, UNKNOWN_PACKAGE
 from .deck import COLUMNS, KINDS, ONLY_PRINTS, PASSED, SCALED, Areal, Deck, Entry, Period
 from .explain import missing
 from .limits import PLAIN, WIDE
+from .modflow6.which import is_simulation
 from .sources import Array, Report, Source, binary_words, find_file, read_binary
 from .spelling import fortran, number, product, quoted_words, record_words
 from .text import Problem, words
@@ -137,6 +138,8 @@ class Reader:
 
     def read_names(self) -> None:
         deck, name = self.deck, self.deck.path.name
+        if is_simulation(deck.path):
+            raise Problem(f"{name} is of MODFLOW 6: `heads-tools plain mfsim.nam FOLDER` writes its model as a deck")
         source = self.at = Source(self.deck.path, name, self.report)
         for n, line in enumerate(source.lines, 1):
             source.at = n

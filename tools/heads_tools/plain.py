@@ -1,5 +1,6 @@
 """plain: writes a deck in a spelling that `heads` reads: the one of `heads write` where the deck is read as it is, else
-as few changes as it takes. Each number keeps its value, but where a note says `rounded`."""
+as few changes as it takes; of a MODFLOW 6 simulation the deck with its equations. Each number keeps its value, but
+where a note says `rounded`."""
 from __future__ import annotations
 
 from dataclasses import dataclass
@@ -7,6 +8,7 @@ from pathlib import Path
 
 from .deck import KINDS, Deck, Entry
 from .explain import explain
+from .modflow6 import is_simulation, read_simulation
 from .packages import EVT_ARRAYS, plain_name, read_deck
 from .program import one_spelling, read_alone
 from .sources import Report
@@ -45,12 +47,16 @@ class Written:
 def plain(nam: Path, folder: Path) -> Written:
     """Writes the deck into a folder, with a file of notes, and has the program read what was written. Writes nothing
     where there is a thing that it can't say exactly."""
-    deck, report = read_deck(nam, as_modflow=True)
+    if is_simulation(nam):
+        deck, report, read = read_simulation(nam)
+    else:
+        deck, report = read_deck(nam, as_modflow=True)
+        read = [nam]
     wrong = report.blocking + report.refusals
     if wrong:
         more = f" (and {len(wrong) - 1} more: `heads-tools inside`)" if len(wrong) > 1 else ""
         raise Problem(f"{wrong[0]}{more}")
-    if folder.resolve() == nam.resolve().parent:
+    if any(folder.resolve() == path.resolve().parent for path in [nam, *read]):
         raise Problem("the plain deck goes into another folder than the deck's own")
     files = {} if report.needed else one_spelling(nam.resolve(), bool(report.wide))
     name = "p.nam" if files else deck.path.name
