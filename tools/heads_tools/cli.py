@@ -21,6 +21,13 @@ Statuses: those of heads where it ran; 2 for bad input; 1 where the answer is no
 in WSL (Debian or Ubuntu)."""
 
 
+PLAIN = """\
+Writes the deck so that heads reads it, with each change in plain.txt. Of a MODFLOW 6 simulation (mfsim.nam) whose cells
+are confined it writes a MODFLOW-2005 deck, p.nam, with the same equations; what no such deck says exactly is refused
+with file, line and cell (heads-tools inside mfsim.nam names all). No theorem speaks of the translation: what heads says
+is said of the deck that was written."""
+
+
 LOOK = """\
 Tables, maps, sections, hydrographs, budget and a page. Each net budget term (in less out) has two pairs of bounds:
 the one of its listed in and out, and that narrowed to what the other terms leave, minus the sum of their bounds.
@@ -199,7 +206,7 @@ def parser() -> argparse.ArgumentParser:
     s = add(
         "inside",
         "is the model inside? All reasons at once, the digits it needs, and where MODFLOW reads it otherwise",
-        nam,
+        ("nam", "the model's name file, or mfsim.nam of MODFLOW 6"),
     )
     s.add_argument("--most", type=int, default=12, help="the reasons of a kind to show (12)")
     s.add_argument(
@@ -211,7 +218,7 @@ def parser() -> argparse.ArgumentParser:
     s = add(
         "plain",
         "the deck in the one spelling of heads write, or rewritten so that heads reads it, with notes",
-        nam,
+        ("nam", "the model's name file, or mfsim.nam of MODFLOW 6"),
         ("folder", "the folder to write into"),
     )
     s.add_argument(
@@ -225,6 +232,7 @@ def parser() -> argparse.ArgumentParser:
         action="store_true",
         help="convertible layers get LAYTYP 0 where a run of the written deck shows that they are full",
     )
+    s.description = PLAIN
     s = add(
         "between",
         "two decks of one shape, for bounds that hold for every deck between them",

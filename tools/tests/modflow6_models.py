@@ -125,10 +125,13 @@ class Draw:
         values["k"], k = self.array("K", shape, 1, 50, 2)
         k22, k22_lines = self.array("K22", shape, 0.1, 3, 2)
         k33, k33_lines = self.array("K33", shape, 0.01, 1, 3)
-        has22, has33, over33 = (self.random.random() < x for x in (0.6, 0.7, 0.5))
+        has22, has33, over22, over33 = (self.random.random() < x for x in (0.6, 0.7, 0.5, 0.5))
         values["k22"] = [a * b for a, b in zip(values["k"], k22)] if has22 else values["k"]
         values["k33"] = ([a * b for a, b in zip(values["k"], k33)] if over33 else k33) if has33 else values["k"]
-        options = [" SAVE_FLOWS", *[" K22OVERK"] * has22, *[" K33OVERK"] * (over33 and has33)]
+        if not over22:
+            texts = [f"{int(x * 10**6)}e-6" for x in values["k22"]]
+            k22_lines = [" K22", " INTERNAL", *self.rows_of(texts, m.cols)]
+        options = [" SAVE_FLOWS", *[" K22OVERK"] * (over22 and has22), *[" K33OVERK"] * (over33 and has33)]
         arrays = [" ICELLTYPE", " CONSTANT 0", *k, *k22_lines * has22, *k33_lines * has33]
         self.put("m.npf", "BEGIN OPTIONS", *options, "END OPTIONS", "BEGIN GRIDDATA", *arrays, "END GRIDDATA")
         values["ss"], ss = self.array("SS", shape, 0.00001, 0.001, 6)

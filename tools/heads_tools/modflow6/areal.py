@@ -27,7 +27,8 @@ def read_areal(simulation: Simulation, grid: Grid, kind: str) -> Columns:
     for line in lines:
         file = simulation.file(line, LIST_BLOCKS)
         is_arrays = any(option.words[0].upper() == "READASARRAYS" for option in file.lines("OPTIONS"))
-        lists.append(read_arrays(simulation, grid, kind, file) if is_arrays else read_list(simulation, grid, kind, file))
+        read = read_arrays if is_arrays else read_list
+        lists.append(read(simulation, grid, kind, file))
     return [None if rows is None else by_column(grid, kind, rows) for rows in merged(lists)]
 
 
@@ -45,8 +46,9 @@ def by_column(grid: Grid, kind: str, rows: list[Row]) -> dict[int, Row]:
             out[at] = Row(row.cell, [total], row.line)
         else:
             first = out[at].line
-            text = f"(that of {out[at].cell} stands in {first.file}, line {first.number}): MODFLOW-2005's package has one"
-            grid.folder.add(row.line.fault(f"{kind}: a second entry in the column of layers of {row.cell} {text}"))
+            first_place = f"that of {out[at].cell} stands in {first.file}, line {first.number}"
+            text = f"a second entry in the column of layers of {row.cell} ({first_place})"
+            grid.folder.add(row.line.fault(f"{kind}: {text}: MODFLOW-2005's package has one"))
     return out
 
 

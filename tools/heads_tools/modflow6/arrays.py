@@ -188,12 +188,13 @@ def take_rows(out: Values, lines: list[Line], at: int, shape: tuple[int, int], f
         due = cols
         while due:
             if at >= len(lines):
-                raise record.fault(f"{out.name} ends early: of {rows * cols} values {row * cols + cols - due} are there")
+                found = (row + 1) * cols - due
+                raise record.fault(f"{out.name} ends early: of {rows * cols} values {found} are there")
             line = lines[at]
             at += 1
-            found = spread(line, due, out.name)
-            out.add(found, line, factor)
-            due -= len(found)
+            values = spread(line, due, out.name)
+            out.add(values, line, factor)
+            due -= len(values)
     return at
 
 
@@ -211,7 +212,8 @@ def spread(line: Line, due: int, name: str) -> list[str]:
         if "/" in word:
             raise line.fault(f"{name}: `{word}` ends the line for MODFLOW 6, and leaves values out")
         if len(out) + (int(times) if star else 1) > due:
-            raise line.fault(f"{name}: a row has more numbers than its {due} on this line; each begins on a line of its own")
+            said = f"a row has more numbers than its {due} on this line; each begins on a line of its own"
+            raise line.fault(f"{name}: {said}")
         if value_like(value if star else word):
             out += [value] * int(times) if star else [word]
         else:

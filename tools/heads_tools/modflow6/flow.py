@@ -115,7 +115,8 @@ def read_storage(simulation: Simulation, grid: Grid) -> Storage:
     shapes = {"ICONVERT": grid.shape(True), "SS": grid.shape()}
     arrays = Reading(file, file.block("GRIDDATA"), shapes, ("SY",)).arrays()
     convert = arrays.due("ICONVERT")
-    grid.refuse(convert, [at for at in grid.active() if convert.whole(at)], "isn't 0: its storage changes with the head")
+    convertible = [at for at in grid.active() if convert.whole(at)]
+    grid.refuse(convert, convertible, "isn't 0: its storage changes with the head")
     if all(p.is_steady for p in simulation.periods):
         return Storage(["0"] * grid.cells, "STORAGECOEFFICIENT" in options)
     ss = arrays.due("SS")
@@ -152,5 +153,5 @@ def look_at_length(simulation: Simulation, number: int) -> None:
     if value_of(period.perlen) <= 0:
         simulation.folder.add(Problem(f"TDIS6: PERLEN of the transient period {number} isn't above 0"))
     if mult != 1 and not (LEAST_MULTIPLIER <= mult <= 1000 and period.nstp <= 1000):
-        text = f"TDIS6: TSMULT of the transient period {number}: other than 1 it lies from 0.001 to 1000, with at most 1,000 steps"
-        simulation.folder.add(Problem(text))
+        text = "other than 1 it lies from 0.001 to 1000, with at most 1,000 steps"
+        simulation.folder.add(Problem(f"TDIS6: TSMULT of the transient period {number}: {text}"))

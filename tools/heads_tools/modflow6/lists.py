@@ -145,7 +145,7 @@ def look_at_given_heads(grid: Grid, lists: Lists) -> None:
                 text = f"the cell {row.cell} stands in period {p} twice (line {now[row.cell].line.number}, too)"
                 grid.folder.add(row.line.fault(f"CHD6: {text}"))
             now[row.cell] = row
-        for cell in before.keys() - now.keys():
+        for cell in sorted(before.keys() - now.keys()):
             text = f"CHD6: {cell} leaves the list in period {p}: free again in MODFLOW 6, not in MODFLOW-2005"
             grid.folder.add(before[cell].line.fault(text))
         before = now

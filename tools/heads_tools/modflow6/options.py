@@ -6,17 +6,19 @@ from .blocks import File, Line
 
 # They print, save or describe.
 PRINTS = {
-    "LIST", "PRINT_INPUT", "PRINT_FLOWS", "SAVE_FLOWS", "PRINT_OPTION", "BOUNDNAMES", "NOGRB", "GRB6", "XORIGIN",
-    "YORIGIN", "ANGROT", "CRS", "LENGTH_UNITS", "TIME_UNITS", "START_DATE_TIME", "EXPORT_ARRAY_ASCII",
-    "EXPORT_ARRAY_NETCDF", "OBS6", "CONTINUE", "NOCHECK", "MEMORY_PRINT_OPTION", "MAXERRORS", "PROFILE_OPTION",
-    "SAVE_SPECIFIC_DISCHARGE", "SAVE_SATURATION", "AUXILIARY", "AUTO_FLOW_REDUCE_CSV",
+    "LIST", "PRINT_INPUT", "PRINT_FLOWS", "SAVE_FLOWS", "PRINT_OPTION", "BOUNDNAMES", "NOGRB", "GRB6",
+    "LENGTH_UNITS", "TIME_UNITS", "EXPORT_ARRAY_ASCII", "EXPORT_ARRAY_NETCDF", "CONTINUE", "NOCHECK",
+    "MEMORY_PRINT_OPTION", "MAXERRORS", "PROFILE_OPTION", "SAVE_SPECIFIC_DISCHARGE", "SAVE_SATURATION",
+    "AUXILIARY", "AUTO_FLOW_REDUCE_CSV",
 }  # fmt: skip
 CONVERTIBLE = "dropped: it acts in convertible cells alone, and every cell is confined"
-# They act in convertible cells alone.
+NO_PLACE = "dropped: a deck has no place on the map and no date (`heads-tools export` takes both by --at and --start)"
+# They act in convertible cells alone, or in no equation.
 DROPPED = {
     name: CONVERTIBLE
     for name in ("VARIABLECV", "PERCHED", "REWET", "AUTO_FLOW_REDUCE", "THICKSTRT", "SS_CONFINED_ONLY")
-} | {
+} | {name: NO_PLACE for name in ("XORIGIN", "YORIGIN", "ANGROT", "CRS", "START_DATE_TIME")} | {
+    "OBS6": "OBS6 dropped: it says what is observed alone",
     "NEWTON": "NEWTON dropped: the same equations where every cell is confined",
     "FIXED_CELL": "FIXED_CELL dropped: no cell goes dry where every cell is confined",
 }

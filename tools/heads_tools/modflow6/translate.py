@@ -3,7 +3,7 @@ from __future__ import annotations
 
 from pathlib import Path
 
-from ..deck import Areal, Deck, Entry
+from ..deck import KINDS, Areal, Deck, Entry
 from ..limits import PLAIN, WIDE
 from ..sources import Array, Report
 from ..text import Problem
@@ -19,7 +19,7 @@ TRANSLATED = (
     " said of the deck that was written"
 )
 STEM = "p"
-UNITS = {kind: str(11 + n) for n, kind in enumerate(("DIS", "BAS6", "LPF", "WEL", "RIV", "DRN", "GHB", "RCH", "CHD", "EVT"))}
+UNITS = {kind: str(11 + n) for n, kind in enumerate(KINDS)}
 LIST_KINDS = ("CHD6", "WEL6", "RIV6", "DRN6", "GHB6")
 AREAL_NAMES = {"RCH6": ("RECH",), "EVT6": ("SURF", "EVTR", "EXDP")}
 IDLE = {"RCH6": ("0",), "EVT6": ("0", "0", "1")}
@@ -131,6 +131,7 @@ def fill_areal(deck: Deck, grid: Grid, kind: str, columns: Columns) -> None:
         if at is None:
             areal.periods.append(([-1] * len(names), {}))
             continue
-        words = [[*(at[c].words if c in at else IDLE[kind]), str(at[c].cell[0] if c in at else 1)] for c in range(grid.layer)]
+        rows = (at.get(c) for c in range(grid.layer))
+        words = [[*(row.words if row else IDLE[kind]), str(row.cell[0] if row else 1)] for row in rows]
         arrays = {name: array_of([w[n] for w in words], grid.nrow, grid.ncol) for n, name in enumerate(names)}
         areal.periods.append(([0] * len(names), arrays))
