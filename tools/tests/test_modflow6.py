@@ -1,4 +1,5 @@
 """MODFLOW 6's confined models as decks: the same equations, and each refusal with its place."""
+import random
 import struct
 from fractions import Fraction
 
@@ -54,6 +55,7 @@ REFUSALS = [
      "m.npf, line 6: K: a row has more numbers than its 9"),
     ({"m.npf": (" K\n CONSTANT 3", " K\n INTERNAL\n 1 2 3 4 5 6 7,,9")}, "m.npf, line 6: K: a value is left out"),
     ({"m.npf": (" K\n CONSTANT 3", " K\n INTERNAL FACTOR 0\n 9*1")}, "m.npf, line 5: FACTOR is 0"),
+    ({"m.npf": (" K\n CONSTANT 3", " K\n CONSTANT\\\n 3")}, "m.npf, line 5: a backslash right after a word"),
     ({"m.npf": (" K\n CONSTANT 3\n", "")}, "m.npf, line 1: the array K is missing"),
     ({"m.npf": ("K33\n", "ANGLE1\n CONSTANT 45\n K33\n")},
      "m.npf, line 7: ANGLE1 at (1, 1, 1), and 8 more cells, isn't 0"),
@@ -209,6 +211,70 @@ def test_each_change_is_named(tmp_path, tool):
     for begin in (*begins, "m.npf, line 2: REWET dropped", "m.nam, line 9: 2 packages WEL6 joined into one list"):
         assert any(note.startswith(begin) for note in notes)
     assert (tmp_path / "deck" / "p.wel").read_text().splitlines()[-4:] == ["2 0", "2 1 2 -10.", "2 1 2 -5.", "-1 0"]
+
+
+def notes_of(tmp_path, tool, changes):
+    """The notes of a translation that is written."""
+    status, _, error = tool("plain", put(tmp_path / "m", changes), tmp_path / "deck")
+    assert (status, error) == (0, "")
+    return (tmp_path / "deck" / "plain.txt").read_text().splitlines()
+
+
+@pytest.mark.program
+def test_recharge_of_a_cell_is_summed_over_entries_and_packages(tmp_path, tool):
+    entries = "BEGIN DIMENSIONS\n MAXBOUND 2\nEND DIMENSIONS\nBEGIN PERIOD 1\n 1 1 2 .001\n 1 1 2 .0005\nEND PERIOD\n"
+    changes = {"m.nam": ("END P", " RCH6 m.rch\n RCH6 n.rch\nEND P"), "m.rch": entries, "n.rch": RECHARGE}
+    notes = notes_of(tmp_path, tool, changes)
+    assert any(note.startswith("m.nam, line 9: 2 packages RCH6 joined into one") for note in notes)
+    lines = (tmp_path / "deck" / "p.rch").read_text().splitlines()
+    assert [Fraction(word) for word in lines[3].split()] == [Fraction(x, 10000) for x in (10, 25, 10)]
+
+
+@pytest.mark.program
+def test_recharge_on_columns_without_flow_is_left_out_with_a_note(tmp_path, tool):
+    changes = {
+        "m.nam": ("END P", " RCH6 m.rch\nEND P"),
+        "m.rch": RECHARGE,
+        "m.dis": ("IDOMAIN\n CONSTANT 1", "IDOMAIN\n INTERNAL\n 1 1 0 1 1 0 1 1 0"),
+        "m.chd": ("3 1 3 24.", "3 1 2 24."),
+    }
+    notes = notes_of(tmp_path, tool, changes)
+    assert any(note.startswith("m.rch, line 6: RECHARGE in columns of layers without flow dropped") for note in notes)
+    words = (tmp_path / "deck" / "p.rch").read_text().splitlines()[3].split()
+    assert [float(word) for word in words] == [0.001, 0.001, 0]
+
+
+@pytest.mark.program
+def test_blocks_and_arrays_of_other_files_are_read_from_the_simulations_folder(tmp_path, tool):
+    (tmp_path / "m" / "data").mkdir(parents=True)
+    (tmp_path / "m" / "data" / "w.txt").write_text("# wells\n 2 1 2 -10. # the one\n")
+    (tmp_path / "m" / "data" / "k.txt").write_text("1 2 3 4 5\n6 7 8 9\n10\n")
+    changes = {
+        "m.nam": ("WEL6 m.wel", "WEL6 data\\m.wel"),
+        "m.npf": (" K\n CONSTANT 3", " K\n OPEN/CLOSE 'data/k.txt' factor 2 # doubled"),
+        "data/m.wel": BASE["m.wel"].replace("2 1 2 -10.", "OPEN/CLOSE data/w.txt"),
+    }
+    notes = notes_of(tmp_path, tool, changes)
+    assert any(note.startswith("CAREFUL: data/k.txt, line 3: more lines follow than K has values") for note in notes)
+    assert (tmp_path / "deck" / "p.wel").read_text().splitlines()[-2] == "2 1 2 -10."
+    assert "14 16 18" in (tmp_path / "deck" / "p.lpf").read_text()
+
+
+def test_spoiled_simulations_give_one_sentence(tmp_path, tool):
+    drawn = random.Random(6)
+    words = ["", "#", "'", ",", "\\", "0", "-1", "1e99", "x", "LAYERED", "OPEN/CLOSE", "END", "BEGIN", "*", "3*", "nan"]
+    for n in range(120):
+        nam = put(tmp_path / "m")
+        file = drawn.choice(sorted(nam.parent.iterdir()))
+        lines = file.read_text().split("\n")
+        at = drawn.randrange(len(lines))
+        line = lines[at].split(" ")
+        line[drawn.randrange(len(line))] = drawn.choice(words)
+        lines[at] = " ".join(line)
+        file.write_text("\n".join(lines[:at] if drawn.random() < 0.2 else lines))
+        status, out, error = tool("plain", nam, tmp_path / "deck")
+        good = status in (0, 1) and error == ""
+        assert good or (status, out) == (2, "") and error.count("\n") == 1, (n, out, error)
 
 
 @pytest.mark.program
