@@ -58,6 +58,12 @@ class Line:
         except Problem as error:
             raise self.fault(str(error)) from None
 
+    def demand_end(self, count: int) -> None:
+        """Raises a fault where more words stand here than this count, but for a comment."""
+        found = self.words
+        if len(found) > count and found[count][0] not in "#!":
+            raise self.fault(f"`{found[count]}` isn't read here")
+
     def file_word(self, at: int) -> str:
         """The file that the line names."""
         return self.word(at, "a file's name")
@@ -65,10 +71,9 @@ class Line:
 
 @dataclass
 class Block:
-    """A block: its name, the word after that, its first line, the lines within."""
+    """A block: its name, its first line, the lines within."""
 
     name: str
-    number: str
     begin: Line
     lines: list[Line] = field(default_factory=list)
 
@@ -171,8 +176,8 @@ class File:
             raise line.fault(f"the block {name} isn't read")
         if name not in REPEATED and any(b.name == name for b in self.blocks):
             raise line.fault(f"the block {name} stands here once more")
-        found = line.words
-        return Block(name, found[2] if len(found) > 2 else "", line)
+        line.demand_end(3 if name in REPEATED else 2)
+        return Block(name, line)
 
     def _opened(self, block: Block) -> list[Line]:
         """The lines of a block, which OPEN/CLOSE as its first line takes from another file."""
@@ -181,6 +186,7 @@ class File:
         first = block.lines[0]
         if any(word.upper() == "(BINARY)" for word in first.words[2:]):
             raise first.fault(BINARY)
+        first.demand_end(2)
         if len(block.lines) > 1:
             raise block.lines[1].fault(f"a line after {OPEN}, which stands alone in its block")
         return self.folder.lines(first.file_word(1), first)
@@ -197,13 +203,15 @@ class File:
 
     def dimension(self, name: str) -> int:
         """A whole number of the block DIMENSIONS, 1 or more."""
-        for line in self.lines("DIMENSIONS"):
-            if line.words[0].upper() == name:
-                count = line.whole(1, name)
-                if count < 1:
-                    raise line.fault(f"{name} is {count}; it is 1 or more")
-                return count
-        raise self.fault(f"{name} is missing in the block DIMENSIONS")
+        found = [line for line in self.lines("DIMENSIONS") if line.words[0].upper() == name]
+        if not found:
+            raise self.fault(f"{name} is missing in the block DIMENSIONS")
+        if len(found) > 1:
+            raise found[1].fault(f"{name} stands here once more")
+        count = found[0].whole(1, name)
+        if count < 1:
+            raise found[0].fault(f"{name} is {count}; it is 1 or more")
+        return count
 
     def periods(self, count: int) -> dict[int, Block]:
         """The blocks PERIOD by their numbers, which grow from block to block."""

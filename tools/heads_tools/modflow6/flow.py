@@ -57,6 +57,9 @@ def read_conductivities(simulation: Simulation, grid: Grid) -> tuple[list[str], 
     options = options_of(file, ("K22OVERK", "K33OVERK"))
     shapes = {name: grid.shape() for name in ("K", "K22", "K33", *ANGLES)} | {"ICELLTYPE": grid.shape(True)}
     arrays = Reading(file, file.block("GRIDDATA"), shapes, ("WETDRY",)).arrays()
+    for name in ("K22", "K33"):
+        if f"{name}OVERK" in options and name not in arrays:
+            grid.folder.add(options[f"{name}OVERK"].fault(f"{name}OVERK stands here, and the array {name} doesn't"))
     celltype = arrays.due("ICELLTYPE")
     grid.refuse(celltype, [at for at in grid.active() if celltype.whole(at)], NOT_CONFINED)
     for name in ANGLES:
