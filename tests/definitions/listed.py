@@ -89,3 +89,10 @@ def without_pair(values: Values, draw: Random) -> Values:
     zones = values[place].v_zones
     at = draw.randrange(len(zones))
     return replaced(values, place, changed(values[place], zones=zones[:at] + zones[at + 1 :]))
+
+
+def with_other_digit(content: bytes, draw: Random) -> bytes:
+    """The listing with one digit after its first line exchanged for another one."""
+    first = content.index(b"\n")
+    at = draw.choice([at for at in range(first, len(content)) if content[at : at + 1].isdigit()])
+    return content[:at] + b"%d" % draw.randrange(10) + content[at + 1 :]

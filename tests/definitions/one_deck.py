@@ -6,8 +6,10 @@ from fractions import Fraction
 from random import Random
 from typing import Any, Optional
 
+from spoil import spoilt
+
 from .bench import NOTHING_PUT, OK, Bench, file_set, put
-from .listed import Values, listed, moved_number, other_label, without_pair
+from .listed import Values, listed, moved_number, other_label, with_other_digit, without_pair
 from .random_deck import ZONES, Files
 from .solved import TERM_NAMES, History, Model, Solved, active_cells, model_of, moved, solution, zones_of
 from .values import Made, as_fraction, fraction_of, option, some
@@ -15,6 +17,7 @@ from .values import Made, as_fraction, fraction_of, option, some
 NAME, LISTING, WRITTEN = "a.nam", "l.txt", "p.nam"
 PLACES = 10**9
 MOST_CELLS, MOST_STEPS = 60, 12
+SPOILT_LISTINGS = 0.4
 
 
 def write_files(folder: str, files: Files) -> None:
@@ -30,11 +33,15 @@ class OneDeck:
         self.bench, self.label, self.folder, self.files, self.draw, self.name = bench, label, folder, files, draw, name
         self.set, self.digits = file_set(files), draw.choice([12] * 6 + [3, 3, 6, 9, 0, 18])
         self.zone_file = ZONES if ZONES in files else None
+        self.is_wide, self.is_quick = draw.random() < 0.1, draw.random() < 0.15
 
     def words(self, verb: str, *more: str) -> list[str]:
-        digits = ["--digits", str(self.digits)] if verb != "write" else []
-        zones = ["--zones", self.zone_file] if self.zone_file and verb != "write" else []
-        return [verb, self.name, *more, *digits, *zones]
+        wide = ["--wide"] * self.is_wide
+        if verb == "write":
+            return [verb, self.name, *wide]
+        zones = ["--zones", self.zone_file] if self.zone_file else []
+        quick = ["--quick"] * (self.is_quick and verb == "run")
+        return [verb, self.name, *more, "--digits", str(self.digits), *zones, *wide, *quick]
 
     def compare(self, is_exact: bool = True) -> None:
         """`is_exact`: recheck.py reads this spelling."""
@@ -107,9 +114,8 @@ class OneDeck:
         if history is None:
             self.bench.counts["decks without a solution that is found"] += 1
             return
-        for solved in history.steps:
+        for solved in [*history.steps, self.drawn(history.steps[0])]:
             self.compare_step(model, exact, solved)
-            self.compare_step(model, exact, self.drawn(solved))
         self.compare_history(model, exact, history)
         if values:
             self.compare_listing(model, task, values, history)
@@ -183,16 +189,19 @@ class OneDeck:
             bench.holds(f"Headline{what}: {self.label}", holds, not field, f"Headline.{field}" if field else "")
             stated = bench.Stated(zones, some(()), some(tuple(self.written + content)))
             bench.holds(f"Stated{what}: {self.label}", stated, not field, f"Stated.{field}" if field else "")
-        self.compare_check(history)
+        case, answer = self.compare_check(self.answer[1])
+        bench.agree(f"checks: {self.label}", ("Checking", (0, b"CERTIFIED\n")), (case.name, answer))
+        if self.draw.random() < SPOILT_LISTINGS:
+            self.compare_check(self.draw.choice([spoilt, with_other_digit])(self.answer[1], self.draw))
 
-    def compare_check(self, history: History) -> None:
-        """The promise of a check of the run's own listing."""
-        files = {**self.files, LISTING: self.answer[1]}
-        write_files(self.folder, {LISTING: self.answer[1]})
+    def compare_check(self, content: bytes) -> tuple[Any, tuple[int, bytes]]:
+        """A check of a listing with these bytes: its refusal, and its promise where it is certified."""
+        write_files(self.folder, {LISTING: content})
         words = self.words("check", LISTING)
-        order, all_files = self.bench.order(words), file_set(files)
+        order, all_files = self.bench.order(words), file_set({**self.files, LISTING: content})
         case, answer = self.bench.case_of(order, all_files), self.bench.run(self.folder, words)
-        if self.bench.agree(f"checks: {self.label}", ("Checking", (0, b"CERTIFIED\n")), (case.name, answer)):
+        if not self.refuses("check", words, case, answer) and answer[0] == 0:
             self.bench.take(Certified__steps=case.arguments[3].v_steps)
             holds = self.bench.HeadlineOf(order, all_files, OK, NOTHING_PUT, put(answer[1]))
             self.bench.holds(f"Certified: {self.label}", holds)
+        return case, answer

@@ -6,7 +6,7 @@ import sys
 import pytest
 from conftest import TOP
 
-sys.path.insert(0, str(TOP / "tests"))
+sys.path.append(str(TOP / "tests"))
 
 from definitions.running import Definitions  # noqa: E402
 from definitions.values import Made, Undecided, record  # noqa: E402
