@@ -13,7 +13,7 @@ def spelled(number: str, draw: Random) -> str:
     """The number, at times in another spelling."""
     if draw.random() < 0.8 or "E" in number:
         return number
-    return draw.choice([number + ("0" if "." in number else ".0"), number + "E0", number + "d+00", number + "e-0"])
+    return draw.choice([number + ("0" if "." in number else ".0"), number + "E0", number + "D0", number + "d+00"])
 
 
 # Words on both sides of limits, and words of no form.
