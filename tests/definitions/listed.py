@@ -63,7 +63,9 @@ def moved_number(values: Values, history: History, digits: int, zones: list[int]
         return kind, replaced(values, place, changed(step, heads=replaced(step.v_heads, cell, bound)))
     scale = 10 ** (digits + HEAD_PLACES)
     if kind == "term":
-        term, side = draw.randrange(len(TERMS)), draw.choice(["into", "out"])
+        # A deck without EVT lists no ET.
+        count = len(TERMS) - ("EVT" not in solved.step.model.stresses)
+        term, side = draw.randrange(count), draw.choice(["into", "out"])
         flow = solved.terms()["In" if side == "into" else "Out", TERM_NAMES[term]]
         low = math.floor(flow * scale) + 1
         terms = replaced(getattr(step.v_budget, f"v_{side}"), term, record(lo=low, hi=low + 8))

@@ -17,7 +17,7 @@ from .values import Made, as_fraction, fraction_of, option, some
 NAME, LISTING, WRITTEN = "a.nam", "l.txt", "p.nam"
 PLACES = 10**9
 MOST_CELLS, MOST_STEPS = 60, 12
-SPOILT_LISTINGS = 0.4
+SPOILT_LISTINGS, CERTIFIED = 0.3, b"CERTIFIED\n"
 
 
 def write_files(folder: str, files: Files) -> None:
@@ -189,10 +189,23 @@ class OneDeck:
             bench.holds(f"Headline{what}: {self.label}", holds, not field, f"Headline.{field}" if field else "")
             stated = bench.Stated(zones, some(()), some(tuple(self.written + content)))
             bench.holds(f"Stated{what}: {self.label}", stated, not field, f"Stated.{field}" if field else "")
+            if field == "encloses":
+                self.compare_wrong_check(what, content)
         case, answer = self.compare_check(self.answer[1])
-        bench.agree(f"checks: {self.label}", ("Checking", (0, b"CERTIFIED\n")), (case.name, answer))
+        bench.agree(f"checks: {self.label}", ("Checking", (0, CERTIFIED)), (case.name, answer))
         if self.draw.random() < SPOILT_LISTINGS:
             self.compare_check(self.draw.choice([spoilt, with_other_digit])(self.answer[1], self.draw))
+
+    def compare_wrong_check(self, what: str, content: bytes) -> None:
+        """A listing that doesn't enclose the solution: it isn't certified, and the promise would be False of it."""
+        case, answer = self.compare_check(content)
+        self.bench.agree(f"checks{what}: {self.label}", False, answer[1] == CERTIFIED)
+        if case.name == "Checking":
+            files = file_set({**self.files, LISTING: content})
+            self.bench.take(Certified__steps=case.arguments[3].v_steps)
+            order = self.bench.order(self.words("check", LISTING))
+            holds = self.bench.HeadlineOf(order, files, OK, NOTHING_PUT, put(CERTIFIED))
+            self.bench.holds(f"Certified{what}: {self.label}", holds, False, "Certified.encloses")
 
     def compare_check(self, content: bytes) -> tuple[Any, tuple[int, bytes]]:
         """A check of a listing with these bytes: its refusal, and its promise where it is certified."""
