@@ -9,6 +9,8 @@ from pathlib import Path
 # What only the x86-64 of Linux has: a model of processor, and the probes of its stack, of which there is one for ARM64.
 PROCESSOR = ' "target-cpu"="[^"]*"'
 PROBES = ' "frame-pointer"="all"| "probe-stack"="inline-asm"| "stack-probe-size"="[0-9]*"'
+# Its hint to a processor that waits in a loop. It computes nothing, so it is left out.
+PAUSE = r"^.*void @llvm\.x86\.sse2\.pause\(\).*\n"
 
 
 @dataclass(frozen=True)
@@ -67,6 +69,7 @@ def for_target(text: str, target: Target) -> str:
         # LLVM has no empty list of attributes.
         return kept if re.search(r"{ \S", kept.replace("{ }", "")) else f"{kept.partition('=')[0]}= {{ nounwind }}"
 
+    text = re.sub(PAUSE, "", text, flags=re.M)
     return re.sub(r"^attributes .*", attributes, text, flags=re.M)
 
 
