@@ -5,7 +5,7 @@ from __future__ import annotations
 from pathlib import Path
 
 from .limits import PLAIN, WIDE
-from .plan_decks import BASE, HIGH, PLAN, Plan, Spelled, Wells, file_of, turned, write_names, write_text
+from .plan_decks import BASE, HIGH, PLAN, Plan, Spelled, Wells, file_of, turned, write_names, write_file
 from .shares import Branch, word_of
 from .stretches import Stretch, dis_lines
 from .text import Problem, counted
@@ -14,7 +14,7 @@ PLAN_HIGH, LOW_DIFFERENCE, HIGH_DIFFERENCE = "plan_high", "difference_low", "dif
 
 
 def write_lines(folder: Path, stem: str, kind: str, lines: list[str]) -> None:
-    write_text(folder / file_of(stem, kind), ("\n".join(lines) + "\n").encode())
+    write_file(folder / file_of(stem, kind), ("\n".join(lines) + "\n").encode())
 
 
 def list_lines(periods: list[list[str]]) -> list[str]:

@@ -46,7 +46,7 @@ def spelled(nam: Path, folder: Path, stem: str, has_wide: bool) -> Spelled:
         raise Problem(f"{nam.name}: " + " ".join(said))
     texts = {kind_of(name): text for name, text in files.items() if name != "p.nam"}
     for kind, text in texts.items():
-        write_text(folder / file_of(stem, kind), text)
+        write_file(folder / file_of(stem, kind), text)
     write_names(folder, stem, {kind: stem for kind in texts})
     deck, report = read_deck(folder / f"{stem}.nam")
     demand_read(nam.name, report)
@@ -61,7 +61,7 @@ def file_of(stem: str, kind: str) -> str:
     return f"{stem}.{kind.lower().rstrip('6')}"
 
 
-def write_text(path: Path, text: bytes) -> None:
+def write_file(path: Path, text: bytes) -> None:
     with whole_file(path, binary=True, is_own=True) as file:
         file.write(text)
 
@@ -69,7 +69,7 @@ def write_text(path: Path, text: bytes) -> None:
 def write_names(folder: Path, stem: str, stems: dict[str, str]) -> None:
     """The name file of packages, each of which is the file of some deck."""
     lines = [f"{kind} {11 + n} {file_of(stems[kind], kind)}" for n, kind in enumerate(KINDS) if kind in stems]
-    write_text(folder / f"{stem}.nam", ("\n".join(lines) + "\n").encode())
+    write_file(folder / f"{stem}.nam", ("\n".join(lines) + "\n").encode())
 
 
 def demand_read(name: str, report: Report) -> None:

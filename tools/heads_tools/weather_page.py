@@ -15,7 +15,7 @@ from .looking import plan_for
 from .page import Page, write_page
 from .page_facts import facts_of, facts_of_making
 from .pictures import Album
-from .plan_decks import BASE, PLAN, write_text
+from .plan_decks import BASE, PLAN, write_file
 from .ranges import Range
 from .text import Problem, decimal_text
 from .verdict import status_of
@@ -169,7 +169,7 @@ def drawdown_weather(asked: Asked, folder: Path, hk: Range | None = None) -> tup
     at_well = well_lines(found) if found else []
     draw(it, folder, write_tables(it, folder), asked.base.name, at_well)
     said = [*sentences(it), *lines(it), *at_well, *may_be_said(it)]
-    write_text(folder / NOTES, ("\n".join([*said, spelled_as(it), *commands(it)]) + "\n").encode("utf-8"))
+    write_file(folder / NOTES, ("\n".join([*said, spelled_as(it), *commands(it)]) + "\n").encode("utf-8"))
     verdicts = it.verdicts + (found.verdicts if found else [])
     return said, next((status for seen in verdicts if (status := status_of(asked.base, seen))), 0)
 

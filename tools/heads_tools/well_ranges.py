@@ -9,7 +9,7 @@ from pathlib import Path
 from .difference_decks import HIGH_DIFFERENCE, LOW_DIFFERENCE
 from .drawdown_weather import Asked, Cell, Weathered, listed
 from .plain import package_lines
-from .plan_decks import BASE, Plan, Spelled, file_of, ibound, write_text
+from .plan_decks import BASE, Plan, Spelled, file_of, ibound, write_file
 from .ranges import Range, scaled
 from .spelling import exact
 from .text import Problem, decimal_text, read_text
@@ -69,10 +69,10 @@ def write_decks(base: Spelled, folder: Path, stem: str, factor: str) -> None:
     """The two difference decks with each HK times a factor."""
     properties = [layer | {"HK": scaled(layer["HK"], factor)} for layer in base.deck.properties]
     lines = package_lines(replace(base.deck, properties=properties), "LPF")
-    write_text(folder / file_of(stem, "LPF"), ("\n".join(lines) + "\n").encode())
+    write_file(folder / file_of(stem, "LPF"), ("\n".join(lines) + "\n").encode())
     for n, deck in enumerate((LOW_DIFFERENCE, HIGH_DIFFERENCE), 1):
         names = read_text(folder / f"{deck}.nam").replace(file_of(BASE, "LPF"), file_of(stem, "LPF"))
-        write_text(folder / f"{stem}_{n}.nam", names.encode())
+        write_file(folder / f"{stem}_{n}.nam", names.encode())
 
 
 def well_lines(found: AtWell) -> list[str]:
