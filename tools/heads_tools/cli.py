@@ -538,7 +538,7 @@ def main(words: list[str] | None = None) -> int:
     complete(top)
     from . import commands
 
-    # Where the home can't be written, matplotlib tells of its own folder for a while: nothing that a user can act on.
+    # Where the home can't be written, matplotlib warns of its own folder, which a user can't act on.
     logging.getLogger("matplotlib").setLevel(logging.ERROR)
 
     try:
