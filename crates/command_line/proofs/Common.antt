@@ -9,4 +9,4 @@ pub use Rattle.clap.specs.Words.{is_simple, is_simple_and_free, kind_of, rule_of
 pub use Rattle.command_line.specs.{AskedCheck, Check, HasForm, Wanted, batch_in, check_in, command_in, digits_in, flag_in, is_number, make_in, number_in}
 pub use Rattle.command_line.specs.{number_or, order_of_words, quick_if_unwatched, rounds_in, run_in, wanted_if, watch_in, workers_in, write_in}
 unfoldable pub use Rattle.command_line.specs.{batch_app, check_app, heads_app, make_app, needing, run_app, settling, spanning, with_flag, with_option}
-unfoldable pub use Rattle.command_line.specs.{with_word, write_app}
+unfoldable pub use Rattle.command_line.specs.{with_last_word, with_word, words_app, write_app}

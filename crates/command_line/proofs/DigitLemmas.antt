@@ -3,6 +3,7 @@ use Rattle.command_line.proofs.Common.{◌≡◌, ℕ, ◌≤◌, Bool, true, fa
 use Rattle.command_line.proofs.Common.{digits_value, leb-true, and_parts, Text, Row, Kinds, fault_of, subcommand_of, first_of, heads_app, is_number, number_in}
 use Rattle.command_line.proofs.Common.{number_or, Wanted, AskedCheck, Check, batch_in, write_in, check_in, command_in, digits_in, make_in, rounds_in, run_in}
 use Rattle.command_line.proofs.Common.{wanted_if, order_of_words, watch_in, workers_in, flag_in, quick_if_unwatched}
+use Rattle.command_line.specs.{AskedText, CheckText, Words, listing_check_in, omitted, text_check_in}
 use Rattle.std.specs.Prelude.{◌&&◌, if◌then◌else◌, decimal, nat_le, option_and_then}
 
 -- a number that was taken is one of its range
@@ -22,6 +23,7 @@ few (Some text) n e =
 -- a check has at most 18
 abbrev Fits : Option Wanted → Type 0
 Fits (Some (Check asked to)) = asked.digits ≤ 18
+Fits (Some (CheckText asked)) = asked.digits ≤ 18
 Fits other = Unit {0}
 
 then_fits : {A : Type 0} (x : Option A) (f : A → Option Wanted) → ((a : A) → x ≡ Some a → Fits (f a)) → Fits (option_and_then f x)
@@ -36,9 +38,21 @@ run_fits : (rows : List Row) → Fits (run_in rows)
 run_fits rows =
     then_fits (first_of (codes "name") rows) _ (λ name a. then_fits (digits_in rows) _ (λ digits b. then_fits (workers_in rows) _ (λ workers c. then_fits (rounds_in rows) _ (λ rounds d. then_fits (watch_in rows) _ (λ turns e. then_fits (quick_if_unwatched turns (flag_in (codes "quick") rows)) _ (λ quick f. tt))))))
 
-check_fits : (rows : List Row) → Fits (check_in rows)
-check_fits rows =
+listing_check_fits : (rows : List Row) → Fits (listing_check_in rows)
+listing_check_fits rows =
     then_fits (first_of (codes "name") rows) _ (λ name a. then_fits (first_of (codes "listing") rows) _ (λ listing b. then_fits (digits_in rows) _ (λ digits c. (few (first_of (codes "digits") rows) digits c))))
+
+text_check_fits : (rows : List Row) → Fits (text_check_in rows)
+text_check_fits rows =
+    then_fits (first_of (codes "name") rows) _ (λ text a. then_fits (omitted (first_of (codes "listing") rows)) _ (λ listing b. then_fits (omitted (first_of (codes "to") rows)) _
+    (λ to c. then_fits (omitted (first_of (codes "zones") rows)) _ (λ zones d. then_fits (digits_in rows) _ (λ digits e. (few (first_of (codes "digits") rows) digits e))))))
+
+check_fits : (rows : List Row) → Fits (check_in rows)
+check_fits rows = by_flag (flag_in (codes "deck") rows)
+  where
+    by_flag : (deck : Bool) → Fits (if deck then text_check_in rows else listing_check_in rows)
+    by_flag true = text_check_fits rows
+    by_flag false = listing_check_fits rows
 
 make_fits : (rows : List Row) → Fits (make_in rows)
 make_fits rows =
@@ -57,7 +71,8 @@ command_fits name rows =
     (cond_fits (bytes_eq name (codes "check")) (check_in rows) _ (check_fits rows)
     (cond_fits (bytes_eq name (codes "make")) (make_in rows) _ (make_fits rows)
     (cond_fits (bytes_eq name (codes "batch")) (batch_in rows) _ (batch_fits rows)
-    (cond_fits (bytes_eq name (codes "write")) (write_in rows) None (write_fits rows) tt))))
+    (cond_fits (bytes_eq name (codes "write")) (write_in rows) _ (write_fits rows)
+    (cond_fits (bytes_eq name (codes "words")) (Some Words) None tt tt)))))
 
 found_fits : (faults : Kinds) (found : Option (Text × List Row)) → Fits (wanted_if faults found)
 found_fits [] found = then_fits found (λ p. command_in p.0 p.1) (λ p e. command_fits p.0 p.1)
@@ -65,3 +80,6 @@ found_fits (fault ∷ faults) found = tt
 
 pub check_digits : (words : List Text) (asked : AskedCheck) (to : Option Text) → order_of_words words ≡ Some (Check asked to) → asked.digits ≤ 18
 check_digits words asked to e = subst Fits e (found_fits (fault_of heads_app words) (subcommand_of heads_app words))
+
+pub text_digits : (words : List Text) (asked : AskedText) → order_of_words words ≡ Some (CheckText asked) → asked.digits ≤ 18
+text_digits words asked e = subst Fits e (found_fits (fault_of heads_app words) (subcommand_of heads_app words))

@@ -3,7 +3,7 @@ use Rattle.command_line.proofs.Common.{◌≡◌, ℕ, Bool, true, false, ◌≤
 use Rattle.command_line.proofs.Common.{[], ◌∷◌, Option, inl, inr, bytes_eq, digits_value, ParsesUnsigned, and_parts, leb-true, le-leb, is_number, number_in}
 use Rattle.command_line.proofs.Common.{order_of_words, wanted_if, command_in, is_simple, is_simple_and_free, App, Text, Kinds, HasKind, IsAmong, kind_of}
 use Rattle.command_line.proofs.Common.{fault_of, HasMatchesOf, subcommand_of, subcommand_rows_of, heads_app, run_app, check_app, make_app, batch_app, write_app}
-use Rattle.command_line.proofs.Common.{settling, needing, spanning, with_flag, with_option, with_word}
+use Rattle.command_line.proofs.Common.{settling, needing, spanning, with_flag, with_last_word, with_option, with_word, words_app}
 use Rattle.std.proofs.Common.{◌&&◌, nat_le, option_and_then}
 use Rattle.std.proofs.lemmas.Fmt.{parse-decimal, decimal_is_IsNumeral}
 use Rattle.std.proofs.lemmas.Slice.Eq.{bytes_eq-Decides}
@@ -65,11 +65,11 @@ other_number low high n text r parses is small none = no_number low high text (�
 
 -- The command line is one that clap's clauses are exact of.
 pub heads_simple : is_simple heads_app ≡ true
-unfolding clap_on_literals heads_app needing run_app check_app make_app batch_app write_app settling spanning with_flag with_option with_word
+unfolding clap_on_literals heads_app needing run_app check_app make_app batch_app write_app words_app settling spanning with_flag with_last_word with_option with_word
 heads_simple = refl
 
 pub heads_free : is_simple_and_free heads_app ≡ true
-unfolding clap_on_literals heads_app needing run_app check_app make_app batch_app write_app settling spanning with_flag with_option with_word
+unfolding clap_on_literals heads_app needing run_app check_app make_app batch_app write_app words_app settling spanning with_flag with_last_word with_option with_word
 heads_free = refl
 
 -- From clap's clauses to what the words ask for.

@@ -1,4 +1,4 @@
--- The command line, as clap sees it: one command with five subcommands, of which one is needed.
+-- The command line, as clap sees it: one command with six subcommands, of which one is needed.
 use Rattle.std.specs.Prelude.{◌≡◌, Some, true, false, codes, List, ℕ}
 use Rattle.clap.specs.declared.builder.action.ArgAction.TheVariants.{SetTrue}
 use Rattle.clap.specs.declared.builder.command.Command.{Command}
@@ -9,6 +9,10 @@ use Rattle.clap.specs.Simple.{on_top}
 -- the command with one more positional word, which must be given
 unfoldable pub with_word : App → Text → App
 with_word a id = with_rule a (record (new_rule id) { required = true })
+
+-- with one more positional word, which may be omitted
+unfoldable pub with_last_word : App → Text → App
+with_last_word a id = with_rule a (new_rule id)
 
 -- with one more option that has a value, and may be omitted
 unfoldable pub with_option : App → Text → App
@@ -27,14 +31,15 @@ settling a =
 unfoldable pub spanning : App → App
 spanning a = with_option (with_option a (codes "to")) (codes "zones")
 
--- run NAME [--digits S] [--workers W] [--rounds P] [--quick] [--wide] [--to NAME2] [--zones Z] [--watch N]
+-- run NAME [--digits S] [--workers W] [--rounds P] [--quick] [--wide] [--to NAME2] [--zones Z] [--watch N] [--deck]
 unfoldable pub run_app : App
-run_app = with_option (spanning (settling (with_word (new_app (codes "run")) (codes "name")))) (codes "watch")
+run_app = with_flag (with_option (spanning (settling (with_word (new_app (codes "run")) (codes "name")))) (codes "watch")) (codes "deck")
 
--- check NAME LISTING [--digits S] [--to NAME2] [--zones Z] [--wide]
+-- check NAME LISTING [--digits S] [--to NAME2] [--zones Z] [--wide], or check --deck TEXT [--digits S] [--wide]
 unfoldable pub check_app : App
 check_app =
-    with_flag (spanning (with_option (with_word (with_word (new_app (codes "check")) (codes "name")) (codes "listing")) (codes "digits"))) (codes "wide")
+    with_flag (with_flag (spanning (with_option (with_last_word (with_word (new_app (codes "check")) (codes "name")) (codes "listing")) (codes "digits")))
+    (codes "wide")) (codes "deck")
 
 -- make SEED SIZE
 unfoldable pub make_app : App
@@ -48,22 +53,26 @@ batch_app = settling (with_word (new_app (codes "batch")) (codes "list"))
 unfoldable pub write_app : App
 write_app = with_flag (with_word (new_app (codes "write")) (codes "name")) (codes "wide")
 
+-- words
+unfoldable pub words_app : App
+words_app = new_app (codes "words")
+
 -- the same command, which needs a subcommand
 unfoldable pub needing : App → App
 needing = on_top (λ s. record s { subcommand_required = true })
 
 unfoldable pub heads_app : App
 heads_app =
-    needing (with_subcommand (with_subcommand (with_subcommand
+    needing (with_subcommand (with_subcommand (with_subcommand (with_subcommand
     (with_subcommand (with_subcommand (new_app (codes "heads")) run_app.top) check_app.top) make_app.top)
-    batch_app.top) write_app.top)
+    batch_app.top) write_app.top) words_app.top)
 
 -- a command of this form, none of whose arguments belongs to all subcommands
 pub record HasForm (form : App) (c : Command) : Type 0 where
   pub is : app_of c ≡ form
   pub local : (fields_of c).has_globals ≡ false
 
--- The line where the words aren't accepted. It names neither `write NAME`, nor `--zones` of `check`, nor `--to` of `run` and `check`,
--- nor `--quick` of `run` and `batch`, nor `--wide` of all commands but `make`, which are accepted too.
+-- The line where the words aren't accepted. It names neither `write NAME` and `words`, nor `--zones` of `check`, nor `--to` and `--deck`
+-- of `run` and `check`, nor `--quick` of `run` and `batch`, nor `--wide` of all commands but `make` and `words`, which are accepted too.
 abbrev pub usage_line : List ℕ
 usage_line = codes "USAGE: heads run NAME [--digits S] [--workers W] [--rounds P] [--zones Z] [--watch N] | heads check NAME LISTING [--digits S] | heads make SEED SIZE | heads batch LIST [--digits S] [--workers W] [--rounds P]\n"

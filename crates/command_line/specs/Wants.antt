@@ -9,6 +9,7 @@ use Rattle.command_line.specs.declared.order.BatchOrder.{BatchOrder}
 use Rattle.command_line.specs.declared.order.CheckOrder.{CheckOrder}
 use Rattle.command_line.specs.declared.order.Order.{Order}
 use Rattle.command_line.specs.declared.order.RunOrder.{RunOrder}
+use Rattle.command_line.specs.declared.order.TextOrder.{TextOrder}
 use Rattle.model_types.specs.declared.limits.Limits.{Limits}
 use Rattle.model_types.specs.declared.limits.Limits.TheVariants.{Plain, Wide}
 use Rattle.std.specs.Str.Parse.{digits_value}
@@ -35,7 +36,7 @@ x >>= f = option_and_then f x
 
 -- A listing that the words ask for: the limits, the name of its name file, the digits of conductances, the number of workers and of plain
 -- rounds in which a step must settle, the name of a zone file, if there is one, the number of views in each phase, if the heads are
--- viewed, and whether a step may have any pair that is a certificate.
+-- viewed, whether a step may have any pair that is a certificate, and whether the text of the deck comes first.
 pub record ListingOrder : Type 0 where
   pub limits : Limits
   pub name : Text
@@ -45,6 +46,7 @@ pub record ListingOrder : Type 0 where
   pub zones : Option Text
   pub watch : Option ℕ
   pub quick : Bool
+  pub deck : Bool
 
 -- A check that the words ask for: the limits, the name of the name file, that of the listing, the digits of conductances, and the name
 -- of a zone file, if there is one.
@@ -54,6 +56,12 @@ pub record AskedCheck : Type 0 where
   pub listing : Text
   pub digits : ℕ
   pub zones : Option Text
+
+-- A check of a text of decks and a listing that the words ask for: the limits, the name of the text, and the digits of conductances.
+pub record AskedText : Type 0 where
+  pub limits : Limits
+  pub text : Text
+  pub digits : ℕ
 
 -- A batch of models that the words ask for: the limits of all its jobs, the name of its list, the digits of conductances, the number of
 -- workers, and of plain rounds in which a step must settle, and whether a step may have any pair that is a certificate.
@@ -65,15 +73,17 @@ pub record AskedBatch : Type 0 where
   pub rounds : ℕ
   pub quick : Bool
 
--- To list a model, or with the name of a second name file all models between two; to check a listing of a model, or of all between two;
--- to make a model from this seed, with this many rows and columns, and sum it up; to list the models of a batch; or to write the deck of
--- the model of this name file, by these limits.
+-- To list a model, or with the name of a second name file all models between two; to check a listing of a model, or of all between two,
+-- or one that stands in one text with its decks; to make a model from this seed, with this many rows and columns, and sum it up; to list
+-- the models of a batch; to write the deck of the model of this name file, by these limits; or to list the words of the program.
 pub data Wanted : Type 0 where
   Run : ListingOrder → Option Text → Wanted
   Check : AskedCheck → Option Text → Wanted
+  CheckText : AskedText → Wanted
   Make : ℕ → ℕ → Wanted
   Batch : AskedBatch → Wanted
   Write : Limits → Text → Wanted
+  Words : Wanted
 
 -- the options' values, or their defaults where they are omitted
 abbrev pub digits_in : List Row → Option ℕ
@@ -93,7 +103,7 @@ turns_of (Some text) = option_map Some (number_in 1 1000 text)
 abbrev pub watch_in : List Row → Option (Option ℕ)
 watch_in rows = turns_of (first_of (codes "watch") rows)
 
--- whether a flag is given: --quick, --wide
+-- whether a flag is given: --quick, --wide, --deck
 abbrev pub flag_in : Text → List Row → Bool
 flag_in id rows = option_map_or (λ text. bytes_eq text (codes "true")) (first_of id rows) false
 
@@ -127,15 +137,35 @@ run_in rows = do
     zones = first_of (codes "zones") rows;
     watch = turns;
     quick = quick;
+    deck = flag_in (codes "deck") rows;
   }) (first_of (codes "to") rows))
 
-abbrev pub check_in : List Row → Option Wanted
-check_in rows = do
+abbrev pub listing_check_in : List Row → Option Wanted
+listing_check_in rows = do
   name ← first_of (codes "name") rows
   listing ← first_of (codes "listing") rows
   digits ← digits_in rows
   Some (Check (record { limits = limits_in rows; name = name; listing = listing; digits = digits; zones = first_of (codes "zones") rows })
       (first_of (codes "to") rows))
+
+-- nothing, where an argument is omitted
+abbrev pub omitted : Option Text → Option (Unit {0})
+omitted None = Some tt
+omitted (Some text) = None
+
+-- the check of a text has one word, which is the text's name, and neither a second deck nor a zone file beside it
+
+abbrev pub text_check_in : List Row → Option Wanted
+text_check_in rows = do
+  text ← first_of (codes "name") rows
+  listing ← omitted (first_of (codes "listing") rows)
+  to ← omitted (first_of (codes "to") rows)
+  zones ← omitted (first_of (codes "zones") rows)
+  digits ← digits_in rows
+  Some (CheckText (record { limits = limits_in rows; text = text; digits = digits }))
+
+abbrev pub check_in : List Row → Option Wanted
+check_in rows = if flag_in (codes "deck") rows then text_check_in rows else listing_check_in rows
 
 abbrev pub make_in : List Row → Option Wanted
 make_in rows = do
@@ -170,7 +200,8 @@ command_in name rows =
     cond (bytes_eq name (codes "run")) (run_in rows)
     (cond (bytes_eq name (codes "check")) (check_in rows)
     (cond (bytes_eq name (codes "make")) (make_in rows)
-    (cond (bytes_eq name (codes "batch")) (batch_in rows) (cond (bytes_eq name (codes "write")) (write_in rows) None))))
+    (cond (bytes_eq name (codes "batch")) (batch_in rows)
+    (cond (bytes_eq name (codes "write")) (write_in rows) (cond (bytes_eq name (codes "words")) (Some Words) None)))))
 
 -- the command and its values, if clap finds no fault
 abbrev pub wanted_if : Kinds → Option (Text × List Row) → Option Wanted
@@ -196,10 +227,14 @@ asked_of a =
       zones = text_if a.zones;
       watch = a.watch;
       quick = a.quick;
+      deck = a.deck;
     }
 
 abbrev pub check_of : CheckOrder → AskedCheck
 check_of a = record { limits = a.limits; name = a.name.now; listing = a.listing.now; digits = a.digits; zones = text_if a.zones }
+
+abbrev pub asked_text : TextOrder → AskedText
+asked_text a = record { limits = a.limits; text = a.text.now; digits = a.digits }
 
 abbrev pub batch_of : BatchOrder → AskedBatch
 batch_of a = record { limits = a.limits; list = a.list.now; digits = a.digits; workers = a.workers; rounds = a.rounds; quick = a.quick }
@@ -207,6 +242,8 @@ batch_of a = record { limits = a.limits; list = a.list.now; digits = a.digits; w
 abbrev pub wanted_by : Order → Wanted
 wanted_by (order.Run a) = Run (asked_of a) (text_if a.to)
 wanted_by (order.Check a) = Check (check_of a) (text_if a.to)
+wanted_by (order.CheckText a) = CheckText (asked_text a)
 wanted_by (order.Make a) = Make a.seed a.size
 wanted_by (order.Batch a) = Batch (batch_of a)
 wanted_by (order.Write limits name) = Write limits name.now
+wanted_by order.Words = Words

@@ -1,7 +1,7 @@
 ghost use Rattle.std.specs.Prelude.{IfOk};
 ghost use Rattle.clap.specs.Words.{App, with_subcommand};
 ghost use Rattle.command_line.specs.{HasForm, needing, run_app, check_app, make_app, batch_app, write_app, heads_app, settling, spanning, with_flag};
-ghost use Rattle.command_line.specs.{with_option, with_word};
+ghost use Rattle.command_line.specs.{with_last_word, with_option, with_word, words_app};
 
 use clap::{Arg, ArgAction, Command};
 use std::alloc::{AllocError, Global};
@@ -15,6 +15,17 @@ fn with_word<'a>(
     ensures { (form : App) → HasForm form command.entry → IfOk result (HasForm (with_word form id.entry.now)) }
 {
     command.arg(Arg::new(alloc, id).required(true))
+}
+
+// The command with one more positional word, which may be omitted.
+fn with_last_word<'a>(
+    alloc: Global,
+    command: Command<'a>,
+    id: &'a str,
+) -> Result<Command<'a>, AllocError>
+    ensures { (form : App) → HasForm form command.entry → IfOk result (HasForm (with_last_word form id.entry.now)) }
+{
+    command.arg(Arg::new(alloc, id))
 }
 
 // The command with one more option that has a value.
@@ -64,17 +75,19 @@ fn run_command<'a>(alloc: Global) -> Result<Command<'a>, AllocError>
     let command = with_word(alloc, Command::new(alloc, "run"), "name")?;
     let command = with_settling(alloc, command)?;
     let command = with_span(alloc, command)?;
-    with_option(alloc, command, "watch")
+    let command = with_option(alloc, command, "watch")?;
+    with_flag(alloc, command, "deck")
 }
 
 fn check_command<'a>(alloc: Global) -> Result<Command<'a>, AllocError>
     ensures { IfOk result (HasForm check_app) }
 {
     let command = with_word(alloc, Command::new(alloc, "check"), "name")?;
-    let command = with_word(alloc, command, "listing")?;
+    let command = with_last_word(alloc, command, "listing")?;
     let command = with_option(alloc, command, "digits")?;
     let command = with_span(alloc, command)?;
-    with_flag(alloc, command, "wide")
+    let command = with_flag(alloc, command, "wide")?;
+    with_flag(alloc, command, "deck")
 }
 
 #[tactic(auto, unfolding(crate::specs::Commands::make_app))]
@@ -99,6 +112,13 @@ fn write_command<'a>(alloc: Global) -> Result<Command<'a>, AllocError>
 {
     let command = with_word(alloc, Command::new(alloc, "write"), "name")?;
     with_flag(alloc, command, "wide")
+}
+
+#[tactic(auto, unfolding(crate::specs::Commands::words_app))]
+fn words_command<'a>(alloc: Global) -> Result<Command<'a>, AllocError>
+    ensures { IfOk result (HasForm words_app) }
+{
+    Ok(Command::new(alloc, "words"))
 }
 
 // The command with one more subcommand, if there was memory for that one.
@@ -134,5 +154,6 @@ pub(crate) fn heads_command<'a>(alloc: Global) -> Result<Command<'a>, AllocError
     let command = with_command(command, make_command(alloc))?;
     let command = with_command(command, batch_command(alloc))?;
     let command = with_command(command, write_command(alloc))?;
+    let command = with_command(command, words_command(alloc))?;
     Ok(with_need(command))
 }

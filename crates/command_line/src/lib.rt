@@ -1,4 +1,4 @@
-//! The words of the command line: what they ask for, for all five commands.
+//! The words of the command line: what they ask for, for all six commands.
 #![tactic(auto)]
 
 mod commands;
@@ -6,5 +6,5 @@ mod numbers;
 mod order;
 mod orders;
 
-pub use order::{BatchOrder, CheckOrder, MakeOrder, Order, RunOrder, WordsFault};
+pub use order::{BatchOrder, CheckOrder, MakeOrder, Order, RunOrder, TextOrder, WordsFault};
 pub use orders::read_order;

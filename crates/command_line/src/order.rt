@@ -10,14 +10,18 @@ use model_types::Limits;
 pub enum Order<'a> {
     Run(RunOrder<'a>),
     Check(CheckOrder<'a>),
+    CheckText(TextOrder<'a>),
     Make(MakeOrder),
     Batch(BatchOrder<'a>),
     /// The deck of a model, written anew.
     Write { limits: Limits, name: &'a str },
+    /// Every command and option, with what it does.
+    Words,
 }
 
 /// The listing of a model; with `to` that of every model between two. `watch` is the number of views in each phase, if the
-/// heads are viewed; where it is `quick`, a step may have any pair that is a certificate.
+/// heads are viewed; where it is `quick`, a step may have any pair that is a certificate; where `deck`, the text of the deck comes
+/// first.
 #[derive(Clone, Copy)]
 pub struct RunOrder<'a> {
     pub limits: Limits,
@@ -29,6 +33,7 @@ pub struct RunOrder<'a> {
     pub zones: Option<&'a str>,
     pub watch: Option<u32>,
     pub quick: bool,
+    pub deck: bool,
     ghost in_range: { (digits ≤ 18) × AreSettlersNumbers workers rounds },
     ghost watched: { IfSome watch (AreTurns quick) } by { Prim.hlevel props },
 }
@@ -42,6 +47,15 @@ pub struct CheckOrder<'a> {
     pub listing: &'a str,
     pub digits: u32,
     pub zones: Option<&'a str>,
+    ghost in_range: { digits ≤ 18 },
+}
+
+/// Whether a listing that stands in one text with its decks is certified.
+#[derive(Clone, Copy)]
+pub struct TextOrder<'a> {
+    pub limits: Limits,
+    pub text: &'a str,
+    pub digits: u32,
     ghost in_range: { digits ≤ 18 },
 }
 

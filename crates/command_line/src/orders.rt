@@ -1,14 +1,14 @@
 // What the words ask for, read from them.
 ghost use Rattle.std.specs.Prelude.{◌≡◌, map, option_map, option_and_then, IfOk, IfSome, IsErrOf, Some, None, false};
 ghost use Rattle.clap.specs.Words.{rows_of, found_of, first_of, subcommand_rows_of};
-ghost use Rattle.command_line.specs.{flag_in, limits_in, quick_if_unwatched, wanted_by, order_of_words, run_in, check_in, make_in, batch_in, write_in};
-ghost use Rattle.command_line.specs.{command_in};
+ghost use Rattle.command_line.specs.{flag_in, limits_in, quick_if_unwatched, wanted_by, order_of_words, run_in, check_in, make_in, batch_in, omitted, write_in};
+ghost use Rattle.command_line.specs.{command_in, listing_check_in, text_check_in};
 
 use crate::commands::heads_command;
 use crate::numbers::{
     digits_or_given, read_number, rounds_or_given, turns_or_none, workers_or_given,
 };
-use crate::order::{BatchOrder, CheckOrder, MakeOrder, Order, RunOrder, WordsFault};
+use crate::order::{BatchOrder, CheckOrder, MakeOrder, Order, RunOrder, TextOrder, WordsFault};
 use clap::ArgMatches;
 use clap::error::ErrorKind;
 use model_types::Limits;
@@ -72,11 +72,13 @@ fn run_order<'a>(found: &ArgMatches<'a>) -> Option<Order<'a>>
         zones: text_of(found, "zones"),
         watch,
         quick,
+        deck: has_flag(found, "deck"),
     }))
 }
 
-fn check_order<'a>(found: &ArgMatches<'a>) -> Option<Order<'a>>
-    ensures { option_map wanted_by result ≡ check_in (rows_of (found_of found.now)) }
+// The check of a listing that is a file of its own.
+fn listing_check_order<'a>(found: &ArgMatches<'a>) -> Option<Order<'a>>
+    ensures { option_map wanted_by result ≡ listing_check_in (rows_of (found_of found.now)) }
 {
     let name = text_of(found, "name")?;
     let listing = text_of(found, "listing")?;
@@ -89,6 +91,42 @@ fn check_order<'a>(found: &ArgMatches<'a>) -> Option<Order<'a>>
         digits,
         zones: text_of(found, "zones"),
     }))
+}
+
+// Nothing, where an argument is omitted.
+fn omitted(text: Option<&str>) -> Option<()>
+    ensures { result ≡ omitted (option_map (λ s. s.now) text.entry) }
+{
+    match text {
+        None => Some(()),
+        Some(_) => None,
+    }
+}
+
+// The check of a text of decks and a listing.
+fn text_check_order<'a>(found: &ArgMatches<'a>) -> Option<Order<'a>>
+    ensures { option_map wanted_by result ≡ text_check_in (rows_of (found_of found.now)) }
+{
+    let text = text_of(found, "name")?;
+    omitted(text_of(found, "listing"))?;
+    omitted(text_of(found, "to"))?;
+    omitted(text_of(found, "zones"))?;
+    let digits = digits_or_given(text_of(found, "digits"))?;
+    Some(Order::CheckText(TextOrder {
+        limits: limits_in(found),
+        text,
+        digits,
+    }))
+}
+
+fn check_order<'a>(found: &ArgMatches<'a>) -> Option<Order<'a>>
+    ensures { option_map wanted_by result ≡ check_in (rows_of (found_of found.now)) }
+{
+    if has_flag(found, "deck") {
+        text_check_order(found)
+    } else {
+        listing_check_order(found)
+    }
 }
 
 fn make_order<'a>(found: &ArgMatches<'a>) -> Option<Order<'a>>
@@ -141,6 +179,8 @@ fn command_order<'a>(name: &str, found: &ArgMatches<'a>) -> Option<Order<'a>>
         batch_order(found)
     } else if name == "write" {
         write_order(found)
+    } else if name == "words" {
+        Some(Order::Words)
     } else {
         None
     }

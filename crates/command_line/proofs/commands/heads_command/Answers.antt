@@ -8,4 +8,5 @@ returns c =
     let check = c.in_ok-command-2.ensures _ _ run c.check_command.ensures in
     let make = c.in_ok-command-3.ensures _ _ check c.make_command.ensures in
     let batch = c.in_ok-command-4.ensures _ _ make c.batch_command.ensures in
-    c.with_need.ensures _ (c.in_ok-command-5.ensures _ _ batch c.write_command.ensures)
+    let write = c.in_ok-command-5.ensures _ _ batch c.write_command.ensures in
+    c.with_need.ensures _ (c.in_ok-command-6.ensures _ _ write c.words_command.ensures)
