@@ -28,7 +28,7 @@ module _ {X : Type 0} (read : Left → Result (List X × Left) Refusal) (g : Gri
       rw none takes_none
   layers_from (suc count) k e = then_takes _ (each k (omega arith)) (last_takes _ (layers_from count (k + 1) (omega arith)) (λ left. rw (from_layer k) refl))
 
-  layers_take : Takes (appended_readings g.layers read) (each_layer g lines) (λ left. (xs, left))
+  pub layers_take : Takes (appended_readings g.layers read) (each_layer g lines) (λ left. (xs, left))
   layers_take = let none : 0 * layer_size g ≡ 0 = omega arith in rw none at (layers_from g.layers 0 (omega arith))
 
 module _ (files : FileSet) (file : List ℕ) (m : FlowModel) (d : IsDiscretized m) (b : IsBasic m) where

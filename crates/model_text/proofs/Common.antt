@@ -43,8 +43,8 @@ pub use Rattle.model_reader.specs.{needed_file, stress_in, stresses, where_named
 unfoldable pub use Rattle.model_reader.specs.{bas_in, basics_tested, dis_in, lpf_in, model_of, names_in, reads, with_stresses}
 pub use Rattle.model_text.specs.{AreNames, HasFlow, HasLists, HasPackage, IsBasic, IsDiscretized, IsEntry, IsFileName, IsGridWithin, IsLayers, IsListOf}
 pub use Rattle.model_text.specs.{IsOfBeds, IsReadAgain, IsWritable, LacksPackage, ListPackagesReadAsWritten, ListsReadAsWritten, ModelsReadAreReadAsWritten}
-pub use Rattle.model_text.specs.{ThreeCells, deck, deck_name, deck_names, each_layer, file_type, file_unit, has, heads_of, is_listed, layer_values, lines_of}
-pub use Rattle.model_text.specs.{name_file, numbers_of, package_file, packages, steady_word, storage_option, with_areas, with_lists}
+pub use Rattle.model_text.specs.{ThreeCells, deck, deck_files, deck_name, deck_names, each_layer, file_type, file_unit, has, heads_of, is_listed, layer_values, lines_of}
+pub use Rattle.model_text.specs.{name_file, numbers_of, package_file, packages, steady_word, storage_option, with_areas, with_lists, zone_file, zone_name, zoned_files}
 unfoldable pub use Rattle.model_text.specs.{bas_item_1, bas_item_2, bas_item_3, bas_item_4, bas_lines, dis_item_1, dis_item_2, dis_item_3, dis_item_4}
 unfoldable pub use Rattle.model_text.specs.{dis_item_5, dis_item_6, dis_item_7, dis_lines, evt_item_2, evt_items, evt_lines, list_item_2, list_item_5}
 unfoldable pub use Rattle.model_text.specs.{list_item_6, list_lines, lpf_arrays, lpf_item_1, lpf_item_4, lpf_item_5, lpf_lines, lpf_zeros, name_item}

@@ -2,7 +2,7 @@
 use Rattle.model_text.proofs.Common.{◌≡◌, ℕ, ◌≤◌, ◌==◌, Bool, true, false, nat_le, List, [], ◌∷◌, length, map, filter, All, Option, Some, Ok, refl, sym, ap}
 use Rattle.model_text.proofs.Common.{◌∙◌, arith, list_any, list_all, All-head, All-tail, nat_tests, File, bytes_under, file_at, folder_name, with_limit}
 use Rattle.model_text.proofs.Common.{is_same_package, Package, FlowModel, text, packages, name_item, IsFileName, AreNames, has, lines_of, package_file}
-use Rattle.model_text.proofs.Common.{name_file, written, deck_name, deck_names, is_itself, not, cond, None, not-true, Dis, word_by_test, all_pass}
+use Rattle.model_text.proofs.Common.{name_file, written, deck_name, deck_names, is_itself, not, cond, None, not-true, Dis, word_by_test, all_pass, zone_name}
 use Rattle.model_text.proofs.PackageTexts.{item_found}
 use Rattle.std.specs.Str.{bytes_eq}
 use Rattle.std.proofs.lemmas.Slice.Eq.{bytes_eq-Decides}
@@ -36,7 +36,7 @@ found_bytes w bytes limit (f ∷ files) small e = by_case (λ later. found_bytes
     by_case further true d = let same : Path (Option (List ℕ)) (Some f.bytes) (Some bytes) = rw d at e in let is : f.bytes ≡ bytes = cc in rw is at first
     by_case further false d = let later : bytes_under w files ≡ Some bytes = rw d at e in further later
 
-small_file : (most : ℕ) (w bytes : List ℕ) (files : List File) → IsFileName w → All (λ f. length f.bytes ≤ most) files → bytes_under w files ≡ Some bytes → file_at (with_limit most files) w ≡ Ok bytes
+pub small_file : (most : ℕ) (w bytes : List ℕ) (files : List File) → IsFileName w → All (λ f. length f.bytes ≤ most) files → bytes_under w files ≡ Some bytes → file_at (with_limit most files) w ≡ Ok bytes
 small_file most w bytes files name small e =
     let short : length bytes ≤ most = found_bytes w bytes most files small e in
     let test : nat_le (length bytes) most ≡ true = grind (arith, nat_tests) in
@@ -78,6 +78,9 @@ all_plain w h = all_pass (λ b. not (b == 92)) (λ b. b ≡ 92 → ⊥) (λ b e.
   where
     apart : (x : ℕ) → (x == 92) ≡ false → x ≡ 92 → ⊥
     apart x e same = grind (arith, nat_tests)
+
+pub zone_name_is_good : IsFileName zone_name
+zone_name_is_good = record { word = word_by_test zone_name refl; few = omega arith; plain = all_plain zone_name refl }
 
 good_name : (k : Package) → IsFileName (deck_names k)
 good_name Dis = record { word = word_by_test (deck_names Dis) refl; few = omega arith; plain = all_plain (deck_names Dis) refl }

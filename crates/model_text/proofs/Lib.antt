@@ -17,3 +17,4 @@ pub mod NameTexts
 pub mod FileTexts
 pub mod StageTexts
 pub mod ModelTexts
+pub mod ZoneTexts

@@ -1,12 +1,13 @@
 -- Statements of laws: a model is read as written.
-use Rattle.std.specs.Prelude.{◌≡◌, ℕ, ◌≤◌, List, All, length, Ok, map, ◌⊎◌, pos, [], ◌<◌, true, None, ◌∷◌}
+use Rattle.std.specs.Prelude.{◌≡◌, ℕ, ◌≤◌, List, All, length, Ok, map, ◌⊎◌, pos, [], Some, ◌∷◌}
 use Rattle.name_file.specs.declared.package.Package.{Package}
 use Rattle.outside.specs.{with_limit, FileSet, File}
 use Rattle.model_types.specs.declared.limits.Limits.{Limits}
 use Rattle.model_types.specs.declared.model.FlowModel.{FlowModel}
 use Rattle.model_reader.specs.{reads}
-use Rattle.model_text.specs.Written.{AreNames, written, deck_name, deck_names, IsReadAgain}
-use Rattle.model_types.specs.{HasSize, cell_count, cell_of, most_entries, most_bytes}
+use Rattle.zone_file.specs.{zones_of}
+use Rattle.model_text.specs.Written.{AreNames, written, deck_name, deck_names, IsReadAgain, zone_name, zoned_files}
+use Rattle.model_types.specs.{HasSize, cell_count, cell_of, most_bytes}
 use Rattle.stress_packages.specs.{rch_of, recharge_arrays, wells, rivers, drains, generals}
 use Rattle.evt_package.specs.{evaporation_arrays, evt_of}
 use Rattle.array_text.specs.{text, IsShort}
@@ -14,7 +15,7 @@ use Rattle.model_text.specs.Lists.{rch_lines, evt_lines, numbers_of, heads_of, l
 use Rattle.model_text.specs.Readable.{HasPackage, LacksPackage, with_areas, IsBasic}
 use Rattle.dis_package.specs.{IsDiscretized, IsGridWithin, model_of_grid, dis_of, without_stresses}
 use Rattle.lpf_package.specs.{HasFlow, with_properties, lpf_of}
-use Rattle.std.specs.List.{AllZip, AllPairs}
+use Rattle.std.specs.List.{AllZip}
 use Rattle.decimal_input.specs.declared.dec.Dec.{Dec}
 use Rattle.model_types.specs.declared.grid.Grid.{Grid}
 use Rattle.model_types.specs.declared.period.Period.{Period}
@@ -23,8 +24,6 @@ use Rattle.bas_package.specs.{with_basics, bas_of}
 use Rattle.model_text.specs.Discretization.{dis_lines, bas_lines, lpf_lines}
 use Rattle.number_limits.specs.{check_result}
 use Rattle.number_limits.specs.declared.passing.Check.{Check}
-use Rattle.decimal_input.specs.{IsDec}
-use Rattle.model_types.specs.declared.grid.CellId.{CellId}
 use Rattle.model_types.specs.declared.limits.Limits.TheVariants.{Plain}
 use Rattle.flow_equations.specs.{three_cells}
 
@@ -119,6 +118,12 @@ ModelsReadAreReadAsWritten = (limits : Limits) (files : FileSet) (name : List �
 -- So of the deck that `heads write` puts, under the names that it gives.
 abbrev pub DecksAreReadAgain : Type 0
 DecksAreReadAgain = (limits : Limits) (files : FileSet) (name : List ℕ) (m : FlowModel) → reads limits files name ≡ Ok m → IsReadAgain limits m
+
+-- the file of zones of a grid's cells, of a deck none of whose files is too long, gives these zones, each of which is at most 999
+abbrev pub ZonesReadAsWritten : Type 0
+ZonesReadAsWritten =
+    (m : FlowModel) (zones : List ℕ) (most : ℕ) → HasSize m.grid → length zones ≡ cell_count m.grid → All (λ z. z ≤ 999) zones →
+    All (λ f. length f.bytes ≤ most) (zoned_files m (Some zones)) → zones_of (with_limit most (zoned_files m (Some zones))) m.grid zone_name ≡ Ok (map pos zones)
 
 -- A worked model: three cells in a row, with constant heads at both ends.
 abbrev pub deck : List File

@@ -1,14 +1,15 @@
 -- A model as the files of a deck.
-use Rattle.std.specs.Prelude.{ℕ, Bool, true, not, nat_lt, List, ◌∷◌, map, filter, length, ◌≡◌, ◌≤◌, [], ◌++◌, All, codes, Ok}
+use Rattle.std.specs.Prelude.{ℕ, Bool, true, not, nat_lt, List, ◌∷◌, map, filter, length, ◌≡◌, ◌≤◌, [], ◌++◌, All, codes, Ok, Option, Some, None, pos}
 use Rattle.std.specs.List.{list_any, flat_map}
 use Rattle.outside.specs.{File, with_limit}
 use Rattle.name_file.specs.declared.package.Package.{Package}
 use Rattle.name_file.specs.declared.package.Package.TheVariants.{Dis, Bas, Lpf, Wel, Riv, Drn, Ghb, Rch, Chd, Evt}
+use Rattle.model_types.specs.declared.grid.Grid.{Grid}
 use Rattle.model_types.specs.declared.model.FlowModel.{FlowModel}
 use Rattle.model_types.specs.declared.period.Period.{Period}
 use Rattle.model_types.specs.{is_int, most_bytes}
 use Rattle.array_text.specs.{Line, text, IsShort, IsWord}
-use Rattle.model_text.specs.Discretization.{dis_lines, bas_lines, lpf_lines}
+use Rattle.model_text.specs.Discretization.{dis_lines, bas_lines, lpf_lines, each_layer, integer_layer}
 use Rattle.model_text.specs.Lists.{wel_lines, riv_lines, drn_lines, ghb_lines, chd_lines, rch_lines, evt_lines}
 use Rattle.model_types.specs.declared.limits.Limits.{Limits}
 use Rattle.model_reader.specs.{reads}
@@ -18,31 +19,24 @@ use Rattle.model_reader.specs.{reads}
 abbrev pub packages : List Package
 packages = Dis ∷ Bas ∷ Lpf ∷ Wel ∷ Riv ∷ Drn ∷ Ghb ∷ Rch ∷ Chd ∷ Evt ∷ []
 
--- Ftype, the file type
-abbrev pub file_type : Package → List ℕ
-file_type Dis = codes "DIS"
-file_type Bas = codes "BAS6"
-file_type Lpf = codes "LPF"
-file_type Wel = codes "WEL"
-file_type Riv = codes "RIV"
-file_type Drn = codes "DRN"
-file_type Ghb = codes "GHB"
-file_type Rch = codes "RCH"
-file_type Chd = codes "CHD"
-file_type Evt = codes "EVT"
+-- of each package: Ftype, the file type; Nunit, the file unit, another one for each; and the name of its file in the text of a deck
+abbrev pub package_words : Package → List ℕ × List ℕ × List ℕ
+package_words Dis = (codes "DIS", codes "11", codes "p.dis")
+package_words Bas = (codes "BAS6", codes "12", codes "p.bas")
+package_words Lpf = (codes "LPF", codes "13", codes "p.lpf")
+package_words Wel = (codes "WEL", codes "14", codes "p.wel")
+package_words Riv = (codes "RIV", codes "15", codes "p.riv")
+package_words Drn = (codes "DRN", codes "16", codes "p.drn")
+package_words Ghb = (codes "GHB", codes "17", codes "p.ghb")
+package_words Rch = (codes "RCH", codes "18", codes "p.rch")
+package_words Chd = (codes "CHD", codes "19", codes "p.chd")
+package_words Evt = (codes "EVT", codes "20", codes "p.evt")
 
--- Nunit, the file unit: another one for each package
+abbrev pub file_type : Package → List ℕ
+file_type k = (package_words k).0
+
 abbrev pub file_unit : Package → List ℕ
-file_unit Dis = codes "11"
-file_unit Bas = codes "12"
-file_unit Lpf = codes "13"
-file_unit Wel = codes "14"
-file_unit Riv = codes "15"
-file_unit Drn = codes "16"
-file_unit Ghb = codes "17"
-file_unit Rch = codes "18"
-file_unit Chd = codes "19"
-file_unit Evt = codes "20"
+file_unit k = (package_words k).1
 
 -- a line of the name file: Ftype Nunit Fname
 unfoldable pub name_item : (Package → List ℕ) → Package → Line
@@ -110,16 +104,7 @@ abbrev pub deck_name : List ℕ
 deck_name = codes "p.nam"
 
 abbrev pub deck_names : Package → List ℕ
-deck_names Dis = codes "p.dis"
-deck_names Bas = codes "p.bas"
-deck_names Lpf = codes "p.lpf"
-deck_names Wel = codes "p.wel"
-deck_names Riv = codes "p.riv"
-deck_names Drn = codes "p.drn"
-deck_names Ghb = codes "p.ghb"
-deck_names Rch = codes "p.rch"
-deck_names Chd = codes "p.chd"
-deck_names Evt = codes "p.evt"
+deck_names k = (package_words k).2
 
 -- the files of a model's deck
 abbrev pub deck_files : FlowModel → List File
@@ -140,6 +125,22 @@ file_texts files = flat_map file_text files
 -- the text of a model's deck: its files, and the line END
 unfoldable pub deck_text : FlowModel → List ℕ
 deck_text m = file_texts (deck_files m) ++ codes "END\n"
+
+-- the file of the zones of a grid's cells: an array for each layer, (NCOL,NROW) - U2DINT
+abbrev pub zone_name : List ℕ
+zone_name = codes "p.zon"
+
+abbrev pub zone_file : Grid → List ℕ → File
+zone_file g zones = record { name = zone_name; bytes = text (each_layer g (integer_layer g (map pos zones))) }
+
+-- the files of a model's deck, and last that of the zones of its cells, if there are any
+abbrev pub zoned_files : FlowModel → Option (List ℕ) → List File
+zoned_files m None = deck_files m
+zoned_files m (Some zones) = deck_files m ++ (zone_file m.grid zones ∷ [])
+
+-- the text of a model's deck with zones: its files, and the line END
+unfoldable pub zoned_text : FlowModel → Option (List ℕ) → List ℕ
+zoned_text m zones = file_texts (zoned_files m zones) ++ codes "END\n"
 
 -- The files are read as the model by these limits, where each IBOUND has at most 18 digits and no file is too long.
 abbrev pub IsReadAgain : Limits → FlowModel → Type 0

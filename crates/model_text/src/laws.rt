@@ -1,6 +1,6 @@
 // A model is read as written. Each law is the contract of an empty function.
 ghost use Rattle.model_text.specs.{DeckNamesAreNames, ModelsReadAsWritten, RchReadsAsWritten, EvtReadsAsWritten, ListPackagesReadAsWritten, DisReadsAsWritten};
-ghost use Rattle.model_text.specs.{BasReadsAsWritten, LpfReadsAsWritten, DecksAreReadAgain, ModelsReadAreWritable, ModelsReadAreReadAsWritten, ThreeCells};
+ghost use Rattle.model_text.specs.{BasReadsAsWritten, LpfReadsAsWritten, DecksAreReadAgain, ModelsReadAreWritable, ModelsReadAreReadAsWritten, ThreeCells, ZonesReadAsWritten};
 
 /// The files of a model, with good names and at most 64 MiB each, are read as the model.
 #[tactic(auto, using(crate::proofs::ModelTexts::model_reads))]
@@ -65,6 +65,11 @@ pub fn models_read_are_read_as_written()
 #[tactic(auto, using(crate::proofs::ModelForms::deck_reads))]
 pub fn decks_are_read_again()
     ensures { DecksAreReadAgain }
+{}
+
+/// The file of zones is read as the zones that were written.
+pub fn zones_read_as_written()
+    ensures { ZonesReadAsWritten }
 {}
 
 /// A worked model is writable, and files of a deck are read as it.

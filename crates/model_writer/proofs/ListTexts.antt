@@ -2,7 +2,8 @@
 use Rattle.model_writer.proofs.Common.{part_bytes, ◌≡◌, ℕ, ◌≤◌, List, [], ◌∷◌, ◌++◌, length, map, max, fold, codes, decimal, arith, ◌+◌, ◌<◌, ap, ◌∙◌, take}
 use Rattle.model_writer.proofs.Common.{get_or, Bool, true, false, refl, sym, filter, append_assoc, flat_map, length-map, take_more, map-append, append-nil}
 use Rattle.model_writer.proofs.Common.{number_word, text, row_line, Line, list_item_2, list_item_5, list_item_6, list_lines, period_list, deck_name, deck_names}
-use Rattle.model_writer.proofs.Common.{deck_text, file_line, file_text, file_texts, packages, name_item, has, package_file, written, line_bytes, spaced_words}
+use Rattle.model_writer.proofs.Common.{deck_files, deck_text, file_line, file_text, file_texts, packages, name_item, has, package_file, written, line_bytes, spaced_words}
+use Rattle.model_writer.proofs.Common.{None, Option, Some, zone_bytes, zone_file, zoned_text}
 use Rattle.model_writer.proofs.Common.{entry_line, chosen_bytes, flat_map-append, FlowModel}
 use Rattle.decimal_input.specs.declared.dec.Dec.{Dec}
 use Rattle.model_types.specs.declared.grid.Grid.{Grid}
@@ -90,13 +91,25 @@ lines_of : {X : Type 0} (line : X → Line) (xs : List X) → text (map line xs)
 lines_of line [] = text-nil
 lines_of line (x ∷ xs) = text-cons (line x) (map line xs) ∙ ap (λ t. line_bytes (line x) ++ t) (lines_of line xs)
 
-pub deck_is : (m : FlowModel) (start first names files out : List ℕ) → start ≡ [] → first ≡ start ++ file_line deck_name → names ≡ first ++ flat_map (chosen_bytes (has m) (part_bytes m true)) packages
-    → files ≡ names ++ flat_map (chosen_bytes (has m) (part_bytes m false)) packages → out ≡ files ++ codes "END\n" → out ≡ deck_text m
-unfolding deck_text written file_texts file_text part_bytes
-deck_is m start first names files out none a b d e =
+pub files_are : (m : FlowModel) (start first names files : List ℕ) → first ≡ start ++ file_line deck_name → names ≡ first ++ flat_map (chosen_bytes (has m) (part_bytes m true)) packages
+    → files ≡ names ++ flat_map (chosen_bytes (has m) (part_bytes m false)) packages → files ≡ start ++ file_texts (deck_files m)
+unfolding written file_texts file_text part_bytes
+files_are m start first names files a b d =
     let kinds = filter (has m) packages in
     let named : flat_map (chosen_bytes (has m) (part_bytes m true)) packages ≡ text (map (name_item deck_names) kinds) =
     chosen_of (has m) (part_bytes m true) packages ∙ sym (lines_of (name_item deck_names) kinds) in
     let others : flat_map (chosen_bytes (has m) (part_bytes m false)) packages ≡ file_texts (map (package_file m deck_names) kinds) =
     chosen_of (has m) (part_bytes m false) packages ∙ sym (flat_map-map file_text (package_file m deck_names) kinds) in
-    rw (e, d, b, a, none, named, others) refl
+    rw (d, b, a, named, others) (grind (arith, append_assoc))
+
+pub deck_is : (m : FlowModel) (zones : Option (List ℕ)) (start files last out : List ℕ) → files ≡ start ++ file_texts (deck_files m) → last ≡ files ++ zone_bytes m.grid zones
+    → out ≡ last ++ codes "END\n" → out ≡ start ++ zoned_text m zones
+unfolding zoned_text file_texts
+deck_is m None start files last out a b d = rw (d, b, a) (grind (arith, append_assoc, append-nil))
+deck_is m (Some zones) start files last out a b d =
+    rw (d, b, a, flat_map-append file_text (deck_files m) (zone_file m.grid zones ∷ [])) (grind (arith, append_assoc, append-nil))
+
+-- without zones it is the text of the model's deck
+pub deck_is_zoned : (m : FlowModel) → zoned_text m None ≡ deck_text m
+unfolding zoned_text deck_text
+deck_is_zoned m = refl

@@ -1,9 +1,9 @@
 -- The lists of a stress period.
-use Rattle.std.specs.Prelude.{ℕ, List, [], Bool, ◌∷◌, ◌++◌, if◌then◌else◌}
+use Rattle.std.specs.Prelude.{ℕ, List, [], Bool, ◌∷◌, ◌++◌, if◌then◌else◌, Option, Some, None}
 use Rattle.decimal_input.specs.declared.dec.Dec.{Dec}
 use Rattle.model_types.specs.declared.grid.Grid.{Grid}
 use Rattle.array_text.specs.{Line, line_text}
-use Rattle.model_text.specs.{deck_names, file_text, list_item_6, name_item, package_file}
+use Rattle.model_text.specs.{deck_names, file_text, list_item_6, name_item, package_file, zone_file}
 use Rattle.model_types.specs.declared.model.FlowModel.{FlowModel}
 use Rattle.model_types.specs.declared.entry.Entry.{Entry}
 use Rattle.model_types.specs.declared.period.Period.{Period}
@@ -35,6 +35,11 @@ spaced_words word xs = flat_map (λ x. word x ++ (32 ∷ [])) xs
 -- the bytes of an item that is chosen, and none of another one
 unfoldable pub chosen_bytes : {X : Type 0} → (X → Bool) → (X → List ℕ) → X → List ℕ
 chosen_bytes is bytes x = if is x then bytes x else []
+
+-- the file of zones after its line, if there are any
+abbrev pub zone_bytes : Grid → Option (List ℕ) → List ℕ
+zone_bytes g None = []
+zone_bytes g (Some zones) = file_text (zone_file g zones)
 
 -- a package's line in the name file, or its file after its line
 unfoldable pub part_bytes : FlowModel → Bool → Package → List ℕ

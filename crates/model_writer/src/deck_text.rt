@@ -1,13 +1,14 @@
 // The deck of a model as one text.
-ghost use Rattle.std.specs.Prelude.{◌≡◌, ◌++◌, IfOk};
+ghost use Rattle.std.specs.Prelude.{◌≡◌, ◌++◌, IfOk, map, option_map, pos};
 ghost use Rattle.std.specs.List.{flat_map};
 ghost use Rattle.model_types.specs.{HasSize};
-ghost use Rattle.model_text.specs.{deck_names, deck_text, file_line, file_text, has, package_file, packages};
-ghost use Rattle.model_writer.specs.{chosen_bytes, part_bytes};
+ghost use Rattle.model_text.specs.{deck_files, deck_names, deck_text, file_line, file_text, file_texts, has, package_file, packages, zoned_text};
+ghost use Rattle.model_writer.specs.{chosen_bytes, part_bytes, zone_bytes};
 
+use crate::arrays::push_layers;
 use crate::names::{names_of, push_name};
 use crate::packages::{PACKAGES, has_package, push_package};
-use model_types::FlowModel;
+use model_types::{FlowModel, Grid};
 use name_file::Package;
 use std::alloc::{AllocError, Global};
 
@@ -66,16 +67,61 @@ fn push_parts(text: &mut Vec<u8>, model: &FlowModel, named: bool) -> Result<(), 
     Ok(())
 }
 
-/// The deck of a model as one text: for the name file and for the file of each package that the model has a line FILE
-/// with its name and then the file; and last the line END. The only error is that memory runs out.
+/// Appends the files of a model's deck, each after its line.
+fn push_files(text: &mut Vec<u8>, model: &FlowModel) -> Result<(), AllocError>
+    requires { HasSize model.now.grid }
+    ensures { IfOk result (λ _. text.new.items ≡ text.old.items ++ file_texts (deck_files model.now)) }
+{
+    push_file_line(text, "p.nam")?;
+    push_parts(text, model, true)?;
+    push_parts(text, model, false)?;
+    Ok(())
+}
+
+// Zones as the integers of a file.
+fn as_integers(alloc: Global, zones: &[u32]) -> Result<Vec<i64>, AllocError>
+    ensures { IfOk result (λ v. v.items ≡ map pos zones.now) }
+{
+    zones.iter().map(|zone| i64::from(*zone)).collect(alloc)
+}
+
+/// Appends the file of the zones of a grid's cells, after its line, if there are any.
+#[tactic(auto, using(crate::proofs::Texts::texts), unfolding(model_text::specs::Written::file_text, array_text::specs::Lines::integer_array))]
+fn push_zones(text: &mut Vec<u8>, grid: &Grid, zones: Option<&[u32]>) -> Result<(), AllocError>
+    requires { HasSize grid.now }
+    ensures { IfOk result (λ _. text.new.items ≡ text.old.items ++ zone_bytes grid.now (option_map (λ z. z.now) zones.entry)) }
+{
+    let Some(zones) = zones else {
+        return Ok(());
+    };
+    let integers = as_integers(*text.allocator(), zones)?;
+    push_file_line(text, "p.zon")?;
+    push_layers(text, grid, integers.as_slice())
+}
+
+/// Appends the text of a model's deck: for the name file, for the file of each package that the model has, and for that of
+/// zones if there are any, a line FILE with its name and then the file; and last the line END.
+pub fn push_deck(
+    text: &mut Vec<u8>,
+    model: &FlowModel,
+    zones: Option<&[u32]>,
+) -> Result<(), AllocError>
+    requires size { HasSize model.now.grid }
+    ensures { IfOk result (λ _. text.new.items ≡ text.old.items ++ zoned_text model.now (option_map (λ z. z.now) zones.entry)) }
+{
+    push_files(text, model)?;
+    push_zones(text, &model.grid, zones)?;
+    text.extend_from_slice(b"END\n")?;
+    Ok(())
+}
+
+/// The text of a model's deck, without zones. The only error is that memory runs out.
+#[tactic(auto, using(crate::proofs::ListTexts::deck_is_zoned))]
 pub fn write_deck(alloc: Global, model: &FlowModel) -> Result<Vec<u8>, AllocError>
     requires size { HasSize model.now.grid }
     ensures { IfOk result (λ text. text.items ≡ deck_text model.now) }
 {
     let mut text = Vec::new(alloc);
-    push_file_line(&mut text, "p.nam")?;
-    push_parts(&mut text, model, true)?;
-    push_parts(&mut text, model, false)?;
-    text.extend_from_slice(b"END\n")?;
+    push_deck(&mut text, model, None)?;
     Ok(text)
 }

@@ -12,4 +12,5 @@ mod names;
 mod packages;
 mod words;
 
-pub use deck_text::write_deck;
+pub use deck_text::{push_deck, write_deck};
+pub use names::file_in_deck;

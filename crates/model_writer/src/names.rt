@@ -1,8 +1,10 @@
 // The names of the files of a deck, and the lines of its name file.
-ghost use Rattle.std.specs.Prelude.{◌≡◌, [], ◌∷◌, ◌++◌, IfOk};
-ghost use Rattle.model_text.specs.{deck_names, file_type, file_unit, name_item};
+ghost use Rattle.std.specs.Prelude.{◌≡◌, [], ◌∷◌, ◌++◌, cond, IfOk};
+ghost use Rattle.model_text.specs.{deck_name, deck_names, has, file_type, file_unit, name_item};
 ghost use Rattle.model_writer.specs.{line_bytes};
 
+use crate::packages::has_package;
+use model_types::FlowModel;
 use name_file::Package;
 use std::alloc::AllocError;
 
@@ -22,6 +24,17 @@ pub(crate) fn names_of(kind: Package) -> (&'static [u8], &'static str)
         Package::Rch => (b"RCH 18 ", "p.rch"),
         Package::Chd => (b"CHD 19 ", "p.chd"),
         Package::Evt => (b"EVT 20 ", "p.evt"),
+    }
+}
+
+/// The name of a model's file of a package in the text of its deck; that of its name file where it has no such package.
+pub fn file_in_deck(model: &FlowModel, kind: Package) -> &'static str
+    ensures { result.now ≡ cond (has model.now kind) (deck_names kind) deck_name }
+{
+    if has_package(model, kind) {
+        names_of(kind).1
+    } else {
+        "p.nam"
     }
 }
 
