@@ -1,0 +1,39 @@
+-- What follows a text that is due.
+use Rattle.stated_text.proofs.Common.{◌≡◌, ◌<◌, ◌≤◌, ◌+◌, ℕ, Bool, true, false, List, [], ◌∷◌, ◌++◌, Result, Ok, Err, refl, ap, drop, length, subst, after_due, arith}
+use Rattle.std.proofs.Common.{get_or}
+use Rattle.std.proofs.lemmas.Bool.Decides.{nat_tests}
+use Rattle.std.proofs.lemmas.List.{drop_all}
+use Rattle.listing_io.proofs.Walks.{next_of}
+use Rattle.stated_text.specs.{after_byte, first_is}
+
+-- the next byte that is due, by its index
+pub due_stops : (n : ℕ) (text due : List ℕ) (i : ℕ) → i < length due → first_is (get_or due i 0) text ≡ false → after_due n text (drop i due) ≡ Err n
+unfolding after_due
+due_stops n text due i low e = rw (next_of due i 0 low, e) refl
+
+pub due_goes : (n : ℕ) (text rest due : List ℕ) (i : ℕ) → i < length due → first_is (get_or due i 0) text ≡ true → rest ≡ drop 1 text
+    → after_due (after_byte n (get_or due i 0)) rest (drop (i + 1) due) ≡ after_due n text (drop i due)
+unfolding after_due
+due_goes n text rest due i low e is = rw (next_of due i 0 low, e, is) refl
+
+pub due_ends : (n : ℕ) (text due : List ℕ) (i : ℕ) → length due ≤ i → after_due n text (drop i due) ≡ Ok (text, n)
+unfolding after_due
+due_ends n text due i over = rw (drop_all i due over) refl
+
+-- what follows is there after the text that is due
+first_byte : (d : ℕ) (text : List ℕ) → first_is d text ≡ true → text ≡ d ∷ drop 1 text
+first_byte d [] e = absurd (let clash : false ≡ true = e in cc)
+first_byte d (b ∷ text) e = let same : b ≡ d = grind (arith, nat_tests) in rw same refl
+
+pub due_stands : (n : ℕ) (text due rest : List ℕ) (m : ℕ) → after_due n text due ≡ Ok (rest, m) → text ≡ due ++ rest
+unfolding after_due
+due_stands n text [] rest m h = let same : Path (Result (List ℕ × ℕ) ℕ) (Ok (text, n)) (Ok (rest, m)) = h in let pair : Path (List ℕ × ℕ) (text, n) (rest, m) = cc in ap (λ (p : List ℕ × ℕ). p.0) pair
+due_stands n text (d ∷ due) rest m h = by_test (λ more. due_stands (after_byte n d) (drop 1 text) due rest m more) (first_is d text) refl
+  where
+    by_test : (after_due (after_byte n d) (drop 1 text) due ≡ Ok (rest, m) → drop 1 text ≡ due ++ rest) → (t : Bool) → first_is d text ≡ t → text ≡ d ∷ due ++ rest
+    by_test further true e =
+        let more : after_due (after_byte n d) (drop 1 text) due ≡ Ok (rest, m) = rw e at h in
+        let is : drop 1 text ≡ due ++ rest = further more in
+        let first : text ≡ d ∷ drop 1 text = first_byte d text e in
+        let S : List ℕ → Type 0 = λ t. text ≡ d ∷ t in subst S is first
+    by_test further false e = absurd (let clash : Path (Result (List ℕ × ℕ) ℕ) (Err n) (Ok (rest, m)) = rw e at h in cc)

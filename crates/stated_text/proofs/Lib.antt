@@ -1,0 +1,8 @@
+mod Common
+pub mod DueTexts
+pub mod CutTexts
+pub mod Faults
+pub mod Stands
+pub mod FolderTexts
+pub mod Readings
+pub mod ListedTexts
