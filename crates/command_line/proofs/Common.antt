@@ -6,7 +6,8 @@ pub use Rattle.std.specs.Str.{bytes_eq}
 pub use Rattle.std.specs.Str.Parse.{ParsesUnsigned, digits_value}
 pub use Rattle.clap.specs.Words.{AddsArg, AddsSubcommand, App, HasKind, HasMatchesOf, IsAmong, Kinds, Row, Rule, Text, app_of, fault_of, first_of, found_of}
 pub use Rattle.clap.specs.Words.{is_simple, is_simple_and_free, kind_of, rule_of, subcommand_of, subcommand_rows_of, with_rule, with_subcommand}
-pub use Rattle.command_line.specs.{AskedCheck, Check, HasForm, Wanted, batch_in, check_in, command_in, digits_in, flag_in, is_number, make_in, number_in}
-pub use Rattle.command_line.specs.{number_or, order_of_words, quick_if_unwatched, rounds_in, run_in, wanted_if, watch_in, workers_in, write_in}
-unfoldable pub use Rattle.command_line.specs.{batch_app, check_app, heads_app, make_app, needing, run_app, settling, spanning, with_flag, with_option}
-unfoldable pub use Rattle.command_line.specs.{with_last_word, with_word, words_app, write_app}
+pub use Rattle.command_line.specs.{AskedCheck, AskedText, Check, CheckText, HasForm, Wanted, Words, batch_in, check_in, command_in, digits_in, flag_in}
+pub use Rattle.command_line.specs.{is_number, listing_check_in, make_in, number_in, number_or, omitted, order_of_words, quick_if_unwatched, rounds_in, run_in}
+pub use Rattle.command_line.specs.{text_check_in, wanted_if, watch_in, workers_in, write_in}
+unfoldable pub use Rattle.command_line.specs.{batch_app, check_app, heads_app, make_app, needing, run_app, settling, spanning, with_flag, with_last_word}
+unfoldable pub use Rattle.command_line.specs.{with_option, with_word, words_app, write_app}

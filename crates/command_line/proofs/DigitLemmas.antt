@@ -2,8 +2,8 @@
 use Rattle.command_line.proofs.Common.{◌≡◌, ℕ, ◌≤◌, Bool, true, false, cond, List, [], ◌∷◌, Option, Some, None, codes, refl, subst, arith, bytes_eq}
 use Rattle.command_line.proofs.Common.{digits_value, leb-true, and_parts, Text, Row, Kinds, fault_of, subcommand_of, first_of, heads_app, is_number, number_in}
 use Rattle.command_line.proofs.Common.{number_or, Wanted, AskedCheck, Check, batch_in, write_in, check_in, command_in, digits_in, make_in, rounds_in, run_in}
-use Rattle.command_line.proofs.Common.{wanted_if, order_of_words, watch_in, workers_in, flag_in, quick_if_unwatched}
-use Rattle.command_line.specs.{AskedText, CheckText, Words, listing_check_in, omitted, text_check_in}
+use Rattle.command_line.proofs.Common.{wanted_if, order_of_words, watch_in, workers_in, flag_in, quick_if_unwatched, AskedText, CheckText, Words}
+use Rattle.command_line.proofs.Common.{listing_check_in, omitted, text_check_in}
 use Rattle.std.specs.Prelude.{◌&&◌, if◌then◌else◌, decimal, nat_le, option_and_then}
 
 -- a number that was taken is one of its range

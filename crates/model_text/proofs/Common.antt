@@ -10,8 +10,9 @@ pub use Rattle.std.proofs.lemmas.List.Elements.{All-append, All-cons, All-drop, 
 pub use Rattle.std.proofs.lemmas.List.Elements.{All-take, All-weaker}
 pub use Rattle.std.proofs.lemmas.List.Sums.{list_all-from_AllPass, sum_by_from}
 pub use Rattle.std.specs.Fmt.{decimal}
-pub use Rattle.std.specs.List.{AllPairs, AllZip, flat_map, list_all, list_any, range_with_len}
+pub use Rattle.std.specs.List.{AllPairs, AllZip, flat_map, list_all, list_any, position, position_or_len, range_with_len}
 pub use Rattle.std.specs.Prelude.{codes}
+pub use Rattle.std.specs.Str.{bytes_eq}
 pub use Rattle.array_reader.specs.{free_list, layer_array, real, value_alone}
 unfoldable pub use Rattle.array_reader.specs.{canonical, integer, integer_layer, layer_or, layers, number, number_at, real_layer, significant, value_at}
 unfoldable pub use Rattle.array_reader.specs.{zero_at, zero_list, zero_step, zeros}
@@ -43,8 +44,9 @@ pub use Rattle.model_reader.specs.{needed_file, stress_in, stresses, where_named
 unfoldable pub use Rattle.model_reader.specs.{bas_in, basics_tested, dis_in, lpf_in, model_of, names_in, reads, with_stresses}
 pub use Rattle.model_text.specs.{AreNames, HasFlow, HasLists, HasPackage, IsBasic, IsDiscretized, IsEntry, IsFileName, IsGridWithin, IsLayers, IsListOf}
 pub use Rattle.model_text.specs.{IsOfBeds, IsReadAgain, IsWritable, LacksPackage, ListPackagesReadAsWritten, ListsReadAsWritten, ModelsReadAreReadAsWritten}
-pub use Rattle.model_text.specs.{ThreeCells, deck, deck_files, deck_name, deck_names, each_layer, file_type, file_unit, has, heads_of, is_listed, layer_values, lines_of}
-pub use Rattle.model_text.specs.{name_file, numbers_of, package_file, packages, steady_word, storage_option, with_areas, with_lists, zone_file, zone_name, zoned_files}
+pub use Rattle.model_text.specs.{ThreeCells, ZonesReadAsWritten, deck, deck_name, deck_names, each_layer, file_type, file_unit, has, heads_of, is_listed}
+pub use Rattle.model_text.specs.{layer_values, lines_of, name_file, numbers_of, package_file, packages, steady_word, storage_option, with_areas, with_lists}
+pub use Rattle.model_text.specs.{zone_file, zone_name, zoned_files}
 unfoldable pub use Rattle.model_text.specs.{bas_item_1, bas_item_2, bas_item_3, bas_item_4, bas_lines, dis_item_1, dis_item_2, dis_item_3, dis_item_4}
 unfoldable pub use Rattle.model_text.specs.{dis_item_5, dis_item_6, dis_item_7, dis_lines, evt_item_2, evt_items, evt_lines, list_item_2, list_item_5}
 unfoldable pub use Rattle.model_text.specs.{list_item_6, list_lines, lpf_arrays, lpf_item_1, lpf_item_4, lpf_item_5, lpf_lines, lpf_zeros, name_item}

@@ -3,8 +3,8 @@ use Rattle.model_text.proofs.Common.{◌≡◌, ℕ, ◌≤◌, ◌==◌, Bool, 
 use Rattle.model_text.proofs.Common.{◌∙◌, arith, list_any, list_all, All-head, All-tail, nat_tests, File, bytes_under, file_at, folder_name, with_limit}
 use Rattle.model_text.proofs.Common.{is_same_package, Package, FlowModel, text, packages, name_item, IsFileName, AreNames, has, lines_of, package_file}
 use Rattle.model_text.proofs.Common.{name_file, written, deck_name, deck_names, is_itself, not, cond, None, not-true, Dis, word_by_test, all_pass, zone_name}
+use Rattle.model_text.proofs.Common.{bytes_eq}
 use Rattle.model_text.proofs.PackageTexts.{item_found}
-use Rattle.std.specs.Str.{bytes_eq}
 use Rattle.std.proofs.lemmas.Slice.Eq.{bytes_eq-Decides}
 
 -- a folder is asked for a name without a backslash by the name itself

@@ -18,6 +18,6 @@ unfoldable pub use Rattle.model_text.specs.Lists.{evt_item_2, evt_items, evt_lin
 unfoldable pub use Rattle.model_text.specs.Lists.{rch_items, rch_lines}
 pub use Rattle.model_text.specs.Readable.{HasPackage, IsBasic, LacksPackage, with_areas}
 pub use Rattle.model_text.specs.Written.{AreNames, IsFileName, IsReadAgain, deck_files, deck_name, deck_names, file_type, file_unit, has, is_listed, lines_of}
-pub use Rattle.model_text.specs.Written.{name_file, package_file, package_words, packages, zone_file, zone_name, zoned_files}
+pub use Rattle.model_text.specs.Written.{name_file, package_file, packages, zone_file, zone_name, zoned_files}
 unfoldable pub use Rattle.model_text.specs.Written.{deck_text, file_line, file_text, file_texts, name_item, written, zoned_text}
 pub use Rattle.period_arrays.specs.{IsLayers}

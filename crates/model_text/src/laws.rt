@@ -1,6 +1,7 @@
 // A model is read as written. Each law is the contract of an empty function.
 ghost use Rattle.model_text.specs.{DeckNamesAreNames, ModelsReadAsWritten, RchReadsAsWritten, EvtReadsAsWritten, ListPackagesReadAsWritten, DisReadsAsWritten};
-ghost use Rattle.model_text.specs.{BasReadsAsWritten, LpfReadsAsWritten, DecksAreReadAgain, ModelsReadAreWritable, ModelsReadAreReadAsWritten, ThreeCells, ZonesReadAsWritten};
+ghost use Rattle.model_text.specs.{BasReadsAsWritten, LpfReadsAsWritten, DecksAreReadAgain, ModelsReadAreWritable, ModelsReadAreReadAsWritten, ThreeCells};
+ghost use Rattle.model_text.specs.{ZonesReadAsWritten};
 
 /// The files of a model, with good names and at most 64 MiB each, are read as the model.
 #[tactic(auto, using(crate::proofs::ModelTexts::model_reads))]

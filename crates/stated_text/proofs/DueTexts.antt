@@ -1,10 +1,7 @@
 -- What follows a text that is due.
-use Rattle.stated_text.proofs.Common.{◌≡◌, ◌<◌, ◌≤◌, ◌+◌, ℕ, Bool, true, false, List, [], ◌∷◌, ◌++◌, Result, Ok, Err, refl, ap, drop, length, subst, after_due, arith}
-use Rattle.std.proofs.Common.{get_or}
+use Rattle.stated_text.proofs.Common.{◌≡◌, ◌<◌, ◌≤◌, ◌+◌, ℕ, Bool, true, false, List, [], ◌∷◌, ◌++◌, Result, Ok, Err, refl, ap, drop, length, subst, after_due}
+use Rattle.stated_text.proofs.Common.{arith, get_or, drop_all, next_of, after_byte, first_is}
 use Rattle.std.proofs.lemmas.Bool.Decides.{nat_tests}
-use Rattle.std.proofs.lemmas.List.{drop_all}
-use Rattle.listing_io.proofs.Walks.{next_of}
-use Rattle.stated_text.specs.{after_byte, first_is}
 
 -- the next byte that is due, by its index
 pub due_stops : (n : ℕ) (text due : List ℕ) (i : ℕ) → i < length due → first_is (get_or due i 0) text ≡ false → after_due n text (drop i due) ≡ Err n

@@ -1,11 +1,10 @@
 -- What a call returned, by what is defined.
-use Rattle.stated_text.proofs.Common.{◌≡◌, ℕ, List, Result, Ok, Err, refl, sym, ap, ◌>>=◌, Refusal, StopsRead, StopsText, TextFile}
-use Rattle.stated_text.proofs.Common.{IsLaterFault, IsMovedFault, at_lines, later_by, or_bad}
-use Rattle.outside.specs.{IsRefusal}
+use Rattle.stated_text.proofs.Common.{◌≡◌, ℕ, List, Result, Ok, Err, refl, sym, ap, ◌>>=◌, Refusal, StopsText, TextFile, IsLaterFault, IsMovedFault, at_lines}
+use Rattle.stated_text.proofs.Common.{later_by, or_bad, IsRefusal, TextFault}
+use Rattle.record_lines.specs.{Stops as StopsRead}
 use Rattle.outside.specs.declared.codes.Code.TheVariants.{BadListing}
 use Rattle.outside.specs.declared.inputs.InputFault.{InputFault}
 use Rattle.outside.specs.declared.inputs.InputFault.TheVariants as input
-use Rattle.outside.specs.declared.inputs.TextFault.{TextFault}
 use Rattle.outside.specs.declared.inputs.TextFault.TheVariants as texts
 
 pub moved_stops : {T : Type 0} (text : List ℕ) (files : List TextFile) (r : Result T Refusal) (fault : InputFault) (out : TextFault) → StopsRead fault r → IsMovedFault text files fault out

@@ -1,8 +1,5 @@
 -- The files of a text, the last one first.
-use Rattle.stated_text.proofs.Common.{◌≡◌, ◌<◌, ◌+◌, ◌-◌, ◌∙◌, ℕ, List, [], ◌∷◌, ap, drop, length, map, arith, file_of, TextFile}
-use Rattle.std.proofs.Common.{get_or}
-use Rattle.std.proofs.lemmas.List.{drop_all}
-use Rattle.listing_io.proofs.Walks.{next_of}
+use Rattle.stated_text.proofs.Common.{◌≡◌, ◌<◌, ◌+◌, ◌-◌, ◌∙◌, ℕ, List, [], ◌∷◌, ap, drop, length, map, arith, file_of, TextFile, get_or, drop_all, next_of}
 
 pub none_yet : (files : List TextFile) → map file_of (drop (length files - 0) files) ≡ []
 none_yet files = ap (map file_of) (drop_all (length files - 0) files (omega arith))

@@ -1,13 +1,9 @@
 -- What stands in a text that is read.
-use Rattle.stated_text.proofs.Common.{◌≡◌, ℕ, Bool, true, false, List, ◌++◌, append_assoc, append-nil, Option, Some, None, Result, Ok, Err, refl, sym, ap, ◌∙◌, ◌>>=◌}
-use Rattle.stated_text.proofs.Common.{Refusal, Limits, FlowModel, StandsIn, TextFile, after_due, begins_part, cut_at, last_of, lines, or_bad, part_at}
-use Rattle.stated_text.proofs.Common.{part_of, parts_in, second_at, zoned_model}
+use Rattle.stated_text.proofs.Common.{◌≡◌, ℕ, Bool, true, false, List, ◌++◌, append_assoc, append-nil, Option, Some, None, Result, Ok, Err, refl, sym, ap, ◌∙◌}
+use Rattle.stated_text.proofs.Common.{◌>>=◌, Refusal, Limits, FlowModel, StandsIn, TextFile, after_due, begins_part, cut_at, last_of, lines, or_bad, part_at}
+use Rattle.stated_text.proofs.Common.{part_of, parts_in, second_at, zoned_model, option_map, unwrap_or, zoned_text, GivesOnly, Part}
 use Rattle.stated_text.proofs.DueTexts.{due_stands}
-use Rattle.std.specs.Prelude.{option_map, unwrap_or}
-use Rattle.model_text.specs.{zoned_text}
-use Rattle.record_lines.specs.{GivesOnly}
 use Rattle.record_lines.proofs.Readings.{done, goes_on, refused}
-use Rattle.stated_text.specs.declared.part.Part.{Part}
 use Rattle.stated_text.specs.declared.part.Parts.{Parts}
 
 -- what follows the text of a part's model, with its zones or given ones

@@ -2,9 +2,7 @@
 ghost use Rattle.std.specs.Prelude.{◌≡◌, drop, false, true, MatchOption};
 ghost use Rattle.outside.specs.{lines};
 ghost use Rattle.record_lines.specs.{next_number};
-ghost use Rattle.stated_text.specs.Cut.{cut_at, is_file_line};
-ghost use Rattle.stated_text.specs.Faults.{Gives, cut_after};
-ghost use Rattle.stated_text.specs.Parts.{begins_part};
+ghost use Rattle.stated_text.specs.{cut_at, is_file_line, Gives, cut_after, begins_part};
 
 use crate::fault::CutFault;
 use crate::text_file::TextFile;

@@ -1,8 +1,7 @@
 // The place of a refusal in a text.
 ghost use Rattle.std.specs.Prelude.{◌≡◌, ◌<◌, IfSome, option_map};
 ghost use Rattle.model_types.specs.{cell_count, place, HasSize};
-ghost use Rattle.stated_text.specs.Faults.{IsMovedFault, IsRefused};
-ghost use Rattle.stated_text.specs.Parts.{in_text, line_of, unlike};
+ghost use Rattle.stated_text.specs.{IsMovedFault, IsRefused, in_text, line_of, unlike};
 
 use crate::part::Part;
 use crate::text_file::TextFile;

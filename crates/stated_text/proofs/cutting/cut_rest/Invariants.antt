@@ -1,5 +1,4 @@
-use Rattle.stated_text.proofs.Common.{◌≡◌, length, lines, pieces, ◌>>=◌}
-use Rattle.stated_text.specs.{cut_after}
+use Rattle.stated_text.proofs.Common.{◌≡◌, length, lines, pieces, ◌>>=◌, cut_after}
 use Rattle.stated_text.proofs.CutTexts.{combined}
 use Rattle.stated_text.proofs.cutting.cut_rest.Given as goal
 

@@ -1,4 +1,4 @@
-use Rattle.stated_text.proofs.Common.{rules}
+use Rattle.std.proofs.Common.{rules}
 use Rattle.stated_text.proofs.CutTexts.{named}
 use Rattle.stated_text.proofs.cutting.name_in.Goals as goal
 

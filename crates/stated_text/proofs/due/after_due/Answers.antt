@@ -1,4 +1,4 @@
-use Rattle.stated_text.proofs.Common.{rules, sym, ◌∙◌, arith}
+use Rattle.std.proofs.Common.{rules, sym, ◌∙◌, arith}
 use Rattle.stated_text.proofs.DueTexts.{due_ends, due_goes, due_stops}
 use Rattle.stated_text.proofs.due.after_due.Goals as goal
 

@@ -1,5 +1,4 @@
-use Rattle.stated_text.proofs.Common.{◌≡◌, ◌-◌, [], drop, length, map, file_of}
-use Rattle.model_types.specs.{most_bytes}
+use Rattle.stated_text.proofs.Common.{◌≡◌, ◌-◌, [], drop, length, map, file_of, most_bytes}
 use Rattle.stated_text.proofs.folder.folder_of.Given as goal
 
 abbrev pub invariant-loop-i : goal.invariant-loop-i

@@ -1,7 +1,5 @@
-use Rattle.stated_text.proofs.Common.{FileSet, FlowModel, refl, subst}
-use Rattle.record_lines.specs.{Has}
+use Rattle.stated_text.proofs.Common.{FileSet, FlowModel, refl, subst, Has, deck_name}
 use Rattle.model_reader.specs.{reads}
-use Rattle.model_text.specs.{deck_name}
 use Rattle.stated_text.proofs.folder.read_deck.Goals as goal
 
 pub returns-clause-reads : goal.returns-clause-reads

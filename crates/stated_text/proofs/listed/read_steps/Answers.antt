@@ -1,4 +1,4 @@
-use Rattle.stated_text.proofs.Common.{rules}
+use Rattle.std.proofs.Common.{rules}
 use Rattle.stated_text.proofs.ListedTexts.{listing_was}
 use Rattle.stated_text.proofs.listed.read_steps.Goals as goal
 

@@ -1,5 +1,4 @@
-use Rattle.stated_text.proofs.Common.{rules, ◌≡◌, begins_part, lines, true}
-use Rattle.std.proofs.lemmas.Result.{err_from_is_err_and}
+use Rattle.stated_text.proofs.Common.{rules, ◌≡◌, begins_part, lines, true, err_from_is_err_and}
 use Rattle.stated_text.proofs.Readings.{no_first, no_second, one_part, two_parts}
 use Rattle.stated_text.proofs.Stands.{stands}
 use Rattle.stated_text.proofs.parts.read_parts.Goals as goal
