@@ -72,6 +72,9 @@ THREE_CELLS_WRITTEN = text(
     "FILE p.bas", "FREE", *SHEET, "-1 1 -1", "0", *SHEET, "1E1 0E0 2E1",
     "FILE p.lpf", "0 0 0", "0", "0", "-1", "0", "0", *[*SHEET, "1E0 1E0 1E0"] * 3, "END")
 
+# And with zone 1 at the first cell, and zone 2 at the others, as a file more.
+THREE_CELLS_ZONED = THREE_CELLS_WRITTEN.removesuffix(LAST) + text("FILE p.zon", *SHEET, "1 2 2", "END")
+
 # The same with zone 1 at the first cell, and zone 2 at the others: 5 units flow from zone 2 to zone 1.
 ZONES = THREE_CELLS | {"z.txt": text("INTERNAL 1 (FREE) -1", "1 2 2")}
 ZONES_PUTS = [FIRST, THREE_CELLS_STEP + text("ZONE 1 2 -5.000000000000000000000 -5.000000000000000000000"), LAST]
@@ -123,6 +126,7 @@ TWO_DECKS_FIRST = text("HEADS 2 DIGITS 12 UNIT 2 TO")
 TWO_DECKS_STEP = step(1, [(f"{low}.000000000", f"{low + 1}.000000000") for low in (10, 15, 20)],
                       {"CONSTANT HEAD": FLOW_4_TO_6}, {"CONSTANT HEAD": FLOW_4_TO_6})
 TWO_DECKS_PUTS = [TWO_DECKS_FIRST, TWO_DECKS_STEP, LAST]
+TWO_DECKS_ZONED = THREE_CELLS_ZONED + THREE_CELLS_ZONED.replace(b"\n1E1 0E0 2E1\n", b"\n11E0 0E0 21E0\n")
 TWO_DECKS_VIEW = rb"WATCH 1 1\nHEAD 1 1 2 (1\d\.\d{9}) ((?:1\d|20)\.\d{9}|21\.000000000)\n"
 TWO_DECKS_ZONES_PUTS = [TWO_DECKS_FIRST, TWO_DECKS_STEP
                         + text("ZONE 1 2 -6.000000000000000000000 -4.000000000000000000000"), LAST]
@@ -233,6 +237,10 @@ FURTHER = [
             [text("MODEL a.nam") + b"".join(CUT_PUTS), LAST]),
     Command("run a.nam --to b.nam --zones z.txt --wide", TWO_DECKS | {"z.txt": ZONES["z.txt"]}, TWO_DECKS_ZONES_PUTS),
     Command("write a.nam --wide", THREE_CELLS, [THREE_CELLS_WRITTEN]),
+    Command("run a.nam --deck", THREE_CELLS, [THREE_CELLS_WRITTEN, *THREE_CELLS_PUTS]),
+    Command("run a.nam --zones z.txt --deck", ZONES, [THREE_CELLS_ZONED, *ZONES_PUTS]),
+    Command("run a.nam --to b.nam --zones z.txt --deck", TWO_DECKS | {"z.txt": ZONES["z.txt"]},
+            [TWO_DECKS_ZONED, *TWO_DECKS_ZONES_PUTS]),
 ]
 
 

@@ -1,8 +1,9 @@
 -- The ends of a batch, by its reading and its jobs.
 use Rattle.engine.proofs.Common.{[], Job, Text, ends_of_jobs, JobEnd, Wanted, AreDecks, AreTasks, Batch, IsJobEnd, IsRunText, defined, model_line, IsValidJob}
-use Rattle.engine.proofs.Common.{Run, Check, Write, Make, MayRead, files_of, files_if, refused_line, IsTask, Task, folder_name, WordsMay, Refusal, Err, IfOk}
-use Rattle.engine.proofs.Common.{List, None, Ok, Result, Some, ap, refl, subst, sym, ℕ, ◌++◌, ◌∙◌, ◌∷◌, ◌≡◌, Option, append-nil, All-weaker, All-head, All-tail}
-use Rattle.engine.proofs.Common.{AllZip, All, slice_get, option_to_list, Order, but_batch, wanted_by, IfOk-at_ok, IfOk-weaker, WordsFault, IsOrder}
+use Rattle.engine.proofs.Common.{CheckText, Words, Run, Check, Write, Make, MayRead, files_of, files_if, refused_line, IsTask, Task, folder_name, WordsMay}
+use Rattle.engine.proofs.Common.{Refusal, Err, IfOk, List, None, Ok, Result, Some, ap, refl, subst, sym, ℕ, ◌++◌, ◌∙◌, ◌∷◌, ◌≡◌, Option, append-nil, All-weaker}
+use Rattle.engine.proofs.Common.{All-head, All-tail, AllZip, All, slice_get, option_to_list, Order, but_batch, wanted_by, IfOk-at_ok, IfOk-weaker, WordsFault}
+use Rattle.engine.proofs.Common.{IsOrder}
 use Rattle.std.specs.Prelude.{IfSome, length}
 use Rattle.batch_book.specs.{AreJobEnds}
 use Rattle.command_line.specs.declared.order.BatchOrder.{BatchOrder}
@@ -52,6 +53,8 @@ module _ (may : List ℕ → Type 0) where
   MayDo (Check a to) = MayRead may a.name to a.zones × May a.listing
   MayDo (Batch b) = May b.list
   MayDo (Write limits name) = May name
+  MayDo (CheckText asked) = May asked.text
+  MayDo Words = Unit {0}
 
   next_may : (x : Option Text) (rest : List Text) → All May (option_to_list x ++ rest) → IfSome x May × All May rest
   next_may None rest h = (tt, h)
@@ -70,6 +73,8 @@ module _ (may : List ℕ → Type 0) where
   files_may (Make seed size) h = tt
   files_may (Batch b) h = All-head May b.list [] h
   files_may (Write limits name) h = All-head May name [] h
+  files_may (CheckText asked) h = All-head May asked.text [] h
+  files_may Words h = tt
 
   -- the files of the order that was read
   pub order_may : (words : Option Wanted) (read : Result Order WordsFault) → WordsMay may (files_if words) → IfOk read (λ o. words ≡ Some (wanted_by o)) → IfOk read (λ o. WordsMay may (files_of (wanted_by o)))

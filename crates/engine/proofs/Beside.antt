@@ -1,9 +1,7 @@
 -- The result of a run beside which a side sink is led.
 use Rattle.engine.proofs.Common.{[], ◌≡◌, ℕ, true, List, Option, Some, None, IfSome, sym, subst, ◌∙◌, inl, inr, Rose, FileSet, Put, InputFault, Wanted, Text}
-use Rattle.engine.proofs.Common.{read_fault_line, IsRun, Status, Task, IsCutListing, IsListing, IsListingBeside, left, listed, wanting_not_ok, Case, Answers}
-use Rattle.engine.proofs.Common.{AnswersBeside, IsReadingEnd, IsWatched, SidePuts, ViewPutsOf, views_in, IsListingOf, CutOf, case_of, Defines, Due, IsRunOf}
-use Rattle.engine.proofs.Common.{IsValid, broken_off, defined, unread, weaker, line_not_ok}
-use Rattle.engine.proofs.DeckEnds.{run_map}
+use Rattle.engine.proofs.Common.{read_fault_line, Status, Task, wanting_not_ok, Case, Answers, AnswersBeside, IsReadingEnd, IsWatched, SidePuts, ViewPutsOf}
+use Rattle.engine.proofs.Common.{views_in, IsListingOf, CutOf, case_of, Due, IsRunOf, IsValid, broken_off, defined, unread, weaker, line_not_ok}
 use Rattle.outside.specs.declared.inputs.InputFault.TheVariants as input
 use Rattle.run_puts.specs.declared.puts.Status.TheVariants as status
 
@@ -22,15 +20,6 @@ pub reading_not_ok : (fault : InputFault) (end : Status) (puts : List Put) → I
 reading_not_ok (input.Refused refusal) end puts h = line_not_ok _ (status.Refused refusal) end puts (λ x. let bad : status.Refused refusal ≡ status.Ok = x in cc) h
 reading_not_ok input.ReadFault end puts h = line_not_ok read_fault_line status.ReadFault end puts (λ x. let bad : status.ReadFault ≡ status.Ok = x in cc) (inl h)
 reading_not_ok input.Memory end puts h = wanting_not_ok end puts h
-
--- a run of a listing beside which views were put, as one of its case
-module _ (read_failed beside : Type 0) (k : Task) (c : Case) (defines : (end : Status) (pieces : List Text) → IsListing k end pieces → Defines c end pieces) (cuts : (pieces : List Text) → IsCutListing k pieces → CutOf c pieces) where
-  due_of : (end : Status) (pieces : List Text) → IsListingBeside beside k end pieces → Due read_failed beside c end pieces
-  due_of end pieces (listed meant all d) = defined meant all (defines meant all d)
-  due_of end pieces (left all f d) = broken_off all f (cuts all d)
-
-  run_of : (end : Status) (puts : List Put) → IsRun (IsListingBeside beside k) (IsCutListing k) end puts → IsRunOf read_failed beside c end puts
-  run_of = run_map due_of cuts
 
 -- nothing failed beside
 run_alone : (read_failed beside : Type 0) (c : Case) (end : Status) (puts : List Put) → IsRunOf read_failed ⊥ c end puts → IsRunOf read_failed beside c end puts
@@ -62,10 +51,10 @@ module _ {n m : ℕ} {failed : Type 0} {leads : List Put → Type 0} {end : Stat
   pub not_ok : (case : Case) (views : Option ℕ) → leads [] → Answers case n m end puts → (end ≡ status.Ok → ⊥) → AnswersBeside case views n m failed leads end puts
   not_ok case views silent a bad = unseen case views silent a (λ e j v. bad e)
 
-  pub of_listing : (k : Task) (c : Case) → IsListingOf k c → ((end : Status) (pieces : List Text) → IsListing k end pieces → Defines c end pieces) → ((pieces : List Text) → IsCutListing k pieces → CutOf c pieces) → IsValid c →
-      (watch : Option ℕ) → IsRun (IsListingBeside failed k) (IsCutListing k) end puts → (end ≡ status.Ok → IfSome watch (λ j. IsWatched true k j leads)) → ViewPutsOf k leads watch → AnswersBeside c watch n m failed leads end puts
-  of_listing k c has defines cuts valid watch run w views = record {
-    run = run_of (Rose n m) failed k c defines cuts end puts run;
+  -- a run of a case that lists a task, beside which views were put
+  pub of_listing : (k : Task) (c : Case) → IsListingOf k c → IsValid c → (watch : Option ℕ) → IsRunOf (Rose n m) failed c end puts → (end ≡ status.Ok → IfSome watch (λ j. IsWatched true k j leads)) → ViewPutsOf k leads watch → AnswersBeside c watch n m failed leads end puts
+  of_listing k c has valid watch run w views = record {
+    run = run;
     valid = inr valid;
     watched = λ e j v. record { task = k; is = has; watched = asked_views leads k watch (w e) j v };
     side = listing_puts leads k c watch has views;

@@ -14,8 +14,8 @@ pub use Rattle.check_run.proofs.FlowPairs.{flows_have_pairs, run_encloses}
 pub use Rattle.check_run.specs.{IsReadable, IsVerdict, ListingEncloses, RunIsCertified, RunIsReadAgain, VerdictIsOne, as_listed, checked_task}
 pub use Rattle.check_run.specs.declared.verdict.ListingVerdict.{ListingVerdict}
 pub use Rattle.check_run.specs.declared.verdict.ListingVerdict.TheVariants.{Certified, Fails}
-pub use Rattle.command_line.specs.{AskedBatch, AskedCheck, Batch, Check, ListingOrder, Make, Run, Wanted, Write, asked_of, batch_of, check_of, order_of_words}
-pub use Rattle.command_line.specs.{text_if, usage_line, wanted_by}
+pub use Rattle.command_line.specs.{AskedBatch, AskedCheck, Batch, Check, CheckText, ListingOrder, Make, Run, Wanted, Words, Write, asked_of, batch_of, check_of}
+pub use Rattle.command_line.specs.{order_of_words, text_if, usage_line, wanted_by}
 pub use Rattle.command_line.specs.declared.order.Order.{Order}
 pub use Rattle.command_line.specs.declared.order.WordsFault.{WordsFault}
 pub use Rattle.deck_problems.proofs.OneProblem.{one_valid}
@@ -23,17 +23,18 @@ pub use Rattle.deck_problems.specs.{AreDecks, IsSecond, one_deck}
 pub use Rattle.deck_problems.specs.declared.decks.Decks.{Decks}
 pub use Rattle.deck_span.specs.{AreAlike, DifferenceIsOne, SolvesBetweenFrom}
 pub use Rattle.deck_span.specs.declared.difference.Difference.{Difference}
-pub use Rattle.engine.specs.{Answers, AnswersBeside, AreDecksAs, AreDecksOf, AreItsSteps, ArePairOf, ArePutInTurn, AreTasks, AreViews, AreWatched, Case}
+pub use Rattle.engine.specs.{After, Answers, AnswersBeside, AreDecksAs, AreDecksOf, AreItsSteps, ArePairOf, ArePutInTurn, AreTasks, AreViews, AreWatched, Case}
 pub use Rattle.engine.specs.{Checking, ChecksWritten, Comparing, CutOf, DeckAndListingAreStated, DeckHasSameListing, DecksAndListingAreStated, Defines, Due}
-pub use Rattle.engine.specs.{EndIsDefined, EndsOk, GoesThrough, GoesWell, HasEnded, HasNoList, HeadlineOf, IsCheck, IsDeck, IsDecksRefusal, IsDue, IsJobEnd}
-pub use Rattle.engine.specs.{IsJobListing, IsListed, IsListingOf, IsMade, IsNamedFault, IsNoSecond, IsOrder, IsPlain, IsPlainJob, IsReadingEnd, IsRunOf}
-pub use Rattle.engine.specs.{IsRunResult, IsRunText, IsStopNumber, IsStopped, IsUnlikeFault, IsValid, IsValidJob, IsView, IsWatched, JobDefines, Jobs, Listing}
-pub use Rattle.engine.specs.{ListsPairs, Making, MayRead, NoWords, OneDeck, OneOf, OneSpan, OneSummary, OneVerdict, ReadsFolder, ReadsNothing, Refuses}
-pub use Rattle.engine.specs.{SameDeckHasSameModel, SameModelHasSameListing, Second, Shows, SidePuts, SpanVerdict, StorageHolds, ViewPutsOf, Writing}
-pub use Rattle.engine.specs.{WrittenIsCertified, broken_off, but_batch, case_decks, case_named, case_of, case_read, certified_line, decks_task, defined}
-pub use Rattle.engine.specs.{files_if, files_of, job_of, job_task, jobs_read, lines_of, listing_read, made_fault, made_model, made_task, model_line, names_read}
-pub use Rattle.engine.specs.{not_alike, of_both, of_first, of_second, read_by_name, second_by, span_task_of, steps_read, summed_text, task_of, unread}
-pub use Rattle.engine.specs.{verdict_line, verdict_status, views_in, zones_read}
+pub use Rattle.engine.specs.{EndIsDefined, EndsOk, GoesThrough, GoesWell, HasEnded, HasNoList, HeadlineOf, IsCheck, IsDeck, IsDecksRefusal, IsDue, IsFirstPut}
+pub use Rattle.engine.specs.{IsJobEnd, IsJobListing, IsListed, IsListingOf, IsMade, IsNamedFault, IsNoSecond, IsOrder, IsPlain, IsPlainJob, IsReadingEnd}
+pub use Rattle.engine.specs.{IsRunOf, IsRunResult, IsRunText, IsSaid, IsStopNumber, IsStopped, IsUnlikeFault, IsValid, IsValidJob, IsView, IsWatched}
+pub use Rattle.engine.specs.{JobDefines, Jobs, Listing, ListsPairs, Making, MayRead, NoWords, OneDeck, OneDeckListing, OneDeckSpan, OneOf, OneRun, OneRunSpan}
+pub use Rattle.engine.specs.{OneSpan, OneSummary, OneVerdict, ReadsFolder, ReadsNothing, Refuses, RunHeadline, RunSpanHeadline, Said, SameDeckHasSameModel}
+pub use Rattle.engine.specs.{SameModelHasSameListing, Saying, Second, Shows, SidePuts, SpanStated, SpanVerdict, StorageHolds, ViewPutsOf, Writing}
+pub use Rattle.engine.specs.{WrittenIsCertified, after_text, broken_off, but_batch, case_decks, case_listed, case_named, case_of, case_read, certified_line}
+pub use Rattle.engine.specs.{decks_task, decks_text, defined, files_if, files_of, job_of, job_task, jobs_read, lines_of, listing_read, made_fault, made_model}
+pub use Rattle.engine.specs.{made_task, model_line, names_read, not_alike, of_both, of_first, of_second, read_by_name, second_by, span_task_of, steps_read}
+pub use Rattle.engine.specs.{summed_text, task_of, unread, verdict_line, verdict_status, views_in, words_text, zones_read}
 unfoldable pub use Rattle.engine.specs.{second_in}
 pub use Rattle.engine.specs.Batched.{Batched}
 pub use Rattle.engine.specs.OneListing.{OneListing}
@@ -43,7 +44,7 @@ pub use Rattle.exact_histories.proofs.WholeRuns.{have_one, history_exists, histo
 pub use Rattle.listing_io.specs.{AreListed, all_lines, listing_at, listing_in, or_bad_listing, refused_line, view_text}
 pub use Rattle.listing_io.specs.declared.listing.ListedStep.{ListedStep}
 pub use Rattle.listing_run.proofs.Lines.{ends_by}
-pub use Rattle.listing_run.proofs.Pieces.{alone, beside, beside_by, line_not_ok, wanting_not_ok}
+pub use Rattle.listing_run.proofs.Pieces.{alone, beside, beside_by, line_not_ok, put_not_ok, wanting_not_ok}
 pub use Rattle.listing_run.proofs.Settled.{IsWhole, is_whole, whole_listing}
 pub use Rattle.listing_run.specs.{AllSteps, BoundAll, BoundBetween, Bounds, HasLargeFlow, IsCutListing, IsListing, IsListingBeside, IsSettledBy, IsStep, IsTask}
 pub use Rattle.listing_run.specs.{ListingExcludesRefusal, ListingIsOne, PairEncloses, Reaches, ReachesFirst, RefusalIsOne, RestsOrSettles, Steps, begun}
@@ -56,7 +57,8 @@ pub use Rattle.model_maker.specs.{made_files, made_name}
 pub use Rattle.model_reader.specs.{model_of, names_in}
 unfoldable pub use Rattle.model_reader.specs.{reads}
 pub use Rattle.model_text.proofs.ModelForms.{deck_reads, unit_is_short}
-pub use Rattle.model_text.specs.{deck_files, deck_name, deck_text}
+pub use Rattle.model_text.specs.{deck_files, deck_name}
+unfoldable pub use Rattle.model_text.specs.{deck_text, zoned_text}
 pub use Rattle.model_types.specs.{IsModel, cell_count, most_bytes, place, start_head, times}
 pub use Rattle.model_types.specs.declared.limits.Limits.{Limits}
 pub use Rattle.model_types.specs.declared.limits.Limits.TheVariants.{Plain, Wide}
@@ -70,9 +72,9 @@ pub use Rattle.outside.specs.declared.traits.SinkError.{SinkError}
 pub use Rattle.record_lines.specs.{Has, Stops, StopsText, ◌>>=◌}
 pub use Rattle.run_puts.proofs.Batches.{batch_run, batch_settles, batches_agree, ends_of_jobs}
 pub use Rattle.run_puts.proofs.Makes.{all_written, early_rose}
-pub use Rattle.run_puts.proofs.Pieces.{IsLate, lacks_at_first, late_not_read, lone, tail_late, weaker}
-pub use Rattle.run_puts.specs.{Agree, Begins, EndsOutOfMemory, IsBatch, IsEnd, IsLast, IsRun, IsUnfinished, NeverCut, PutsMore, Text, all_due, code_of, cut}
-pub use Rattle.run_puts.specs.{early, end_line, failed, first_not_ok, memory_put, nothing, or_else, read_fault_line, status_after, texts, wanting, whole}
+pub use Rattle.run_puts.proofs.Pieces.{IsLate, joined, lacks_at_first, late_not_read, lone, tail_late, weaker}
+pub use Rattle.run_puts.specs.{Agree, Begins, EndsOutOfMemory, IsBatch, IsEnd, IsLast, IsPut, IsRun, IsUnfinished, NeverCut, PutsMore, Text, all_due, code_of}
+pub use Rattle.run_puts.specs.{cut, early, end_line, failed, first_not_ok, memory_put, nothing, or_else, read_fault_line, status_after, texts, wanting, whole}
 pub use Rattle.run_puts.specs.declared.job_end.JobEnd.{JobEnd}
 pub use Rattle.run_puts.specs.declared.puts.Status.{Status}
 pub use Rattle.settle_driver.specs.{AddsPhases, EnclosesPair}

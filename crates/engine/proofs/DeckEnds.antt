@@ -1,17 +1,17 @@
 -- The ends of a command that reads decks, one or two, and then lists them, checks a listing of them, or writes the first one.
-use Rattle.engine.proofs.Common.{reads, [], ◌≡◌, ℕ, List, ◌∷◌, Ok, Err, Result, Option, None, Some, sym, ap, refl, inl, inr, ◌∙◌, FileSet, Rose, InputCounts}
-use Rattle.engine.proofs.Common.{Put, InputFault, Refusal, FlowModel, refused_line, Text, IsEnd, IsRun, Status, Task, ListingOrder, AskedCheck, Case, Refuses}
-use Rattle.engine.proofs.Common.{Listing, Checking, Writing, read_by_name, Due, decks_task, ReadsFolder, CutOf, AreDecksAs, Answers, IsReadingEnd, IsValid}
-use Rattle.engine.proofs.Common.{defined, Decks, Comparing, IsListingOf, Begins, all_due, cut, early, nothing, whole, Second, one_deck, Limits, of_both}
-use Rattle.engine.proofs.Common.{of_first, of_second, AreAlike, IfSome, option_map, is_some, unread, case_decks, IsDecksRefusal, listing_read, second_in, two}
-use Rattle.engine.proofs.Common.{zones_read, broken_off, case_named, case_read, Defines}
+use Rattle.engine.proofs.Common.{reads, [], ◌≡◌, ℕ, List, ◌∷◌, Ok, Err, Result, Option, None, Some, sym, ap, inl, inr, ◌∙◌, FileSet, Rose, InputCounts, Put}
+use Rattle.engine.proofs.Common.{InputFault, Refusal, FlowModel, refused_line, Text, IsEnd, IsRun, Status, Task, ListingOrder, AskedCheck, Case, Refuses}
+use Rattle.engine.proofs.Common.{Checking, Writing, read_by_name, Due, ReadsFolder, CutOf, AreDecksAs, Answers, IsReadingEnd, IsValid, defined, Decks}
+use Rattle.engine.proofs.Common.{Comparing, IsListingOf, Begins, all_due, cut, early, nothing, whole, Second, one_deck, Limits, of_both, of_first, of_second}
+use Rattle.engine.proofs.Common.{AreAlike, IfSome, option_map, is_some, unread, case_decks, IsDecksRefusal, listing_read, second_in, two, zones_read}
+use Rattle.engine.proofs.Common.{broken_off, case_named, case_read, case_listed, Defines, IsRunOf}
 use Rattle.engine.proofs.Ends.{ends_without_words, lone_defined, refused, unreadable, of_case, read_reads}
 use Rattle.outside.specs.declared.inputs.InputFault.TheVariants as input
 use Rattle.run_puts.specs.declared.puts.Status.TheVariants as status
 
 -- what decks come to: they are listed, a listing of them is checked, or the first one is written
 abbrev pub to_list : FileSet → ListingOrder → Decks → Case
-to_list files asked d = case_read (zones_read files asked.zones d.first) (λ zones. Listing (decks_task asked d zones))
+to_list files asked d = case_read (zones_read files asked.zones d.first) (case_listed asked d)
 
 abbrev pub to_check : FileSet → AskedCheck → Option Text → Decks → Case
 to_check files asked to d = case_read (listing_read (is_some to) files asked d.first) (Checking asked.limits d asked.digits)
@@ -44,11 +44,11 @@ pub within_defines : (a : FlowModel) (last : Option Second) (case : Case) (end :
 within_defines a None case end pieces alike d = d
 within_defines a (Some b) case end pieces alike d = inr (alike, d)
 
-pub within_lists : (a : FlowModel) (last : Option Second) (k : Task) → IfSome last (λ b. AreAlike a b.model) → IsListingOf k (within a last (Listing k))
-within_lists a None k alike = refl
-within_lists a (Some b) k alike = (alike, refl)
+pub within_lists : (a : FlowModel) (last : Option Second) (k : Task) (case : Case) → IfSome last (λ b. AreAlike a b.model) → IsListingOf k case → IsListingOf k (within a last case)
+within_lists a None k case alike h = h
+within_lists a (Some b) k case alike h = (alike, h)
 
-pub within_cut : (a : FlowModel) (last : Option Second) (case : Case) → IfSome last (λ b. AreAlike a b.model) → (pieces : List Text) → CutOf case pieces → CutOf (within a last case) pieces
+within_cut : (a : FlowModel) (last : Option Second) (case : Case) → IfSome last (λ b. AreAlike a b.model) → (pieces : List Text) → CutOf case pieces → CutOf (within a last case) pieces
 within_cut a None case alike pieces c = c
 within_cut a (Some b) case alike pieces c = (alike, c)
 
@@ -72,9 +72,12 @@ pub run_map : {P Q : Status → List Text → Type 0} {C D : List Text → Type 
 run_map f g end puts (whole meant pieces due) = whole meant pieces (f _ _ due)
 run_map f g end puts (early meant before after tail b t) = early meant before after tail (begins_map f g before after b) t
 
+pub run_within : (failed beside : Type 0) (a : FlowModel) (last : Option Second) (case : Case) → IfSome last (λ b. AreAlike a b.model) → (end : Status) (puts : List Put) → IsRunOf failed beside case end puts → IsRunOf failed beside (within a last case) end puts
+run_within failed beside a last case alike = run_map (due_within failed beside a last case alike) (within_cut a last case alike)
+
 within_ends : {n m : ℕ} {end : Status} {puts : List Put} (a : FlowModel) (last : Option Second) (case : Case) → IfSome last (λ b. AreAlike a b.model) → Answers case n m end puts → Answers (within a last case) n m end puts
 within_ends {n} {m} {end} {puts} a last case alike x = record {
-  run = run_map (due_within (Rose n m) ⊥ a last case alike) (within_cut a last case alike) end puts x.run;
+  run = run_within (Rose n m) ⊥ a last case alike end puts x.run;
   valid = elim (x.valid) [ inl stops ↦ inl stops | inr h ↦ inr (within_valid a last case h) ];
 }
 

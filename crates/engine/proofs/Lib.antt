@@ -3,6 +3,7 @@ pub mod Readings
 pub mod Dues
 pub mod Ends
 pub mod DeckEnds
+pub mod Afters
 pub mod Certifying
 pub mod Labels
 pub mod Spans

@@ -6,13 +6,17 @@ use Rattle.engine.proofs.Common.{VerdictIsOne, ListingOrder, Case, Run, Make, Ch
 use Rattle.engine.proofs.Common.{read_by_name, task_of, zones_read, OneDeck, Defines, made_task, summed_text, OneSummary, IfOk, IsStopped, IsValid, Plain}
 use Rattle.engine.proofs.Common.{Limits, ListingIsOne, ListingExcludesRefusal, RefusalIsOne, Comparing, two, true, Second, not_alike, most_bytes, with_limit}
 use Rattle.engine.proofs.Common.{case_decks, span_task_of, IsDeck, deck_text, deck_reads, summary_of, summary_text, HeadlineOf, OneOf, Wanted, AskedBatch}
-use Rattle.engine.proofs.Common.{Batch, second_in, reads, Decks, decks_task, Batched, case_read, OneListing, false, DifferenceIsOne, Appends}
+use Rattle.engine.proofs.Common.{Batch, second_in, reads, Decks, Batched, case_read, OneListing, false, DifferenceIsOne, Appends, Bool, CheckText, IsSaid}
+use Rattle.engine.proofs.Common.{OneDeckListing, OneDeckSpan, OneRun, OneRunSpan, OneSpan, RunHeadline, RunSpanHeadline, Said, Task, Words, after_text}
+use Rattle.engine.proofs.Common.{case_listed, concat, decks_text, words_text, zoned_text, ◌++◌}
 use Rattle.engine.proofs.Certifying.{certified_and_one}
 use Rattle.engine.proofs.Dues.{Delivers}
 use Rattle.engine.proofs.Labels.{listing_pairs, listing_times}
 use Rattle.engine.proofs.Readings.{named_read}
 use Rattle.engine.proofs.Spans.{span_checked, span_listed}
 use Rattle.engine.proofs.DeckEnds.{to_check, to_list, to_write}
+use Rattle.engine.proofs.Afters.{valid_after}
+use Rattle.engine.proofs.Stating.{first_part, grown, last_part, span_stated, stated}
 use Rattle.run_puts.specs.declared.puts.Status.TheVariants as status
 use Rattle.listing_run.specs.declared.text.ListingEnd.TheVariants as ends
 
@@ -61,9 +65,13 @@ module _ (laws : Laws) (old new : Seen) (puts : List Put) (pieces : List Text) (
       }
 
   module _ (files : FileSet) where
-    of_listing : (asked : ListingOrder) (m : FlowModel) (zones : Option (List ℕ)) → read_by_name asked.name (reads asked.limits files) ≡ Ok m → zones_read files asked.zones m ≡ Ok zones → AreDecks (one_deck m) → IsWhole (task_of asked m zones) pieces →
-        OneListing asked files old.written new.written
-    of_listing asked m zones read zoned valid v = record {
+    -- the pieces of a listing, or of a text and then a listing, were appended
+    appended : (all : List Text) → pieces ≡ all → Appends old.written new.written (concat all)
+    appended all are = all_written all old new puts (written ∙ ap (map whole_put) are) makes
+
+    abbrev listing_of : (asked : ListingOrder) (m : FlowModel) (zones : Option (List ℕ)) → read_by_name asked.name (reads asked.limits files) ≡ Ok m → zones_read files asked.zones m ≡ Ok zones → AreDecks (one_deck m) →
+        (listed : List Text) (v : IsWhole (task_of asked m zones) listed) (before after : Option (List ℕ)) → Appends before after (concat (listing (task_of asked m zones) v.values end_line)) → OneListing asked files before after
+    listing_of asked m zones read zoned valid listed v before after text = record {
       headline = record {
         model = m;
         read = named_read asked.name (reads asked.limits files) m read;
@@ -71,7 +79,7 @@ module _ (laws : Laws) (old new : Seen) (puts : List Put) (pieces : List Text) (
         zones = zones;
         zoned = zoned;
         values = v.values;
-        written = all_written (listing (task_of asked m zones) v.values end_line) old new puts (written ∙ ap (map whole_put) v.are) makes;
+        written = text;
         at = listing_times (task_of asked m zones) v.values v.steps;
         pairs = listing_pairs (task_of asked m zones) valid v.values v.steps;
         encloses = v.encloses;
@@ -80,6 +88,75 @@ module _ (laws : Laws) (old new : Seen) (puts : List Put) (pieces : List Text) (
       };
       values = record { steps = v.steps; only = λ plain others steps. laws.one (task_of asked m zones) v.values others valid plain v.steps steps; encloses = v.encloses };
     }
+
+    -- a listing, after the text of its deck where that is asked for
+    module _ (asked : ListingOrder) (m : FlowModel) (zones : Option (List ℕ)) (read : read_by_name asked.name (reads asked.limits files) ≡ Ok m) (zoned : zones_read files asked.zones m ≡ Ok zones) where
+      abbrev Whole : List Text → Type 0
+      Whole listed = IsWhole (task_of asked m zones) listed
+
+      of_plain : AreDecks (one_deck m) → Whole pieces → OneListing asked files old.written new.written
+      of_plain valid v = listing_of asked m zones read zoned valid pieces v old.written new.written (appended (listing (task_of asked m zones) v.values end_line) v.are)
+
+      of_deck_first : AreDecks (one_deck m) → (listed : List Text) → pieces ≡ decks_text (one_deck m) zones ∷ listed → Whole listed → OneDeckListing asked files old.written new.written
+      of_deck_first valid listed are v =
+          let deck = zoned_text m zones in
+          let text = concat (listing (task_of asked m zones) v.values end_line) in
+          let mid = grown old.written deck in
+          let all = appended (decks_text (one_deck m) zones ∷ listing (task_of asked m zones) v.values end_line) (are ∙ ap (λ (ps : List Text). decks_text (one_deck m) zones ∷ ps) v.are) in
+          let P : List ℕ → Type 0 = λ t. Appends old.written new.written (t ++ text) in
+          let one = listing_of asked m zones read zoned valid listed v mid new.written (last_part old.written new.written deck text (subst P (append-nil deck) all)) in
+          record {
+            headline = record {
+              mid = mid;
+              listing = one.headline;
+              deck = first_part old.written deck;
+              again = deck_reads asked.limits files asked.name m one.headline.read;
+              stated = stated asked files old.written mid new.written one.headline (first_part old.written deck);
+            };
+            values = one.values;
+          }
+
+      of_listing : (deck : Bool) → AreDecks (one_deck m) → Defines (after_text deck (decks_text (one_deck m) zones) (Listing (task_of asked m zones))) status.Ok pieces → OneRun deck asked files old new
+      of_listing true valid d = of_deck_first valid d.others d.are (whole_listing (task_of asked m zones) d.others d.then)
+      of_listing false valid d = of_plain valid (whole_listing (task_of asked m zones) pieces d)
+
+    -- the same of two decks
+    module _ (asked : ListingOrder) (to : Text) (a : FlowModel) (b : Second) (first : read_by_name asked.name (reads asked.limits files) ≡ Ok a) (second : read_by_name to (second_in asked.limits files) ≡ Ok b)
+        (zones : Option (List ℕ)) (zoned : zones_read files asked.zones a ≡ Ok zones) where
+      abbrev k : Task
+      k = span_task_of asked a b.model zones
+
+      span_plain : AreDecks (two a b.model) → IsWhole k pieces → OneSpan asked to files old.written new.written
+      span_plain valid v = span_listed laws.one files a b asked to first second zones zoned valid pieces v old.written new.written (appended (listing k v.values end_line) v.are)
+
+      span_decks_first : AreDecks (two a b.model) → (listed : List Text) → pieces ≡ decks_text (two a b.model) zones ∷ listed → IsWhole k listed → OneDeckSpan asked to files old.written new.written
+      span_decks_first valid listed are v =
+          let one_part = zoned_text a zones in
+          let other_part = zoned_text b.model zones in
+          let decks = one_part ++ other_part in
+          let text = concat (listing k v.values end_line) in
+          let between = grown old.written one_part in
+          let mid = grown old.written decks in
+          let all = appended (decks_text (two a b.model) zones ∷ listing k v.values end_line) (are ∙ ap (λ (ps : List Text). decks_text (two a b.model) zones ∷ ps) v.are) in
+          let one = span_listed laws.one files a b asked to first second zones zoned valid listed v mid new.written (last_part old.written new.written decks text all) in
+          record {
+            headline = record {
+              mid = mid;
+              listing = one.headline;
+              decks = first_part old.written decks;
+              again = deck_reads asked.limits files asked.name a one.headline.decks.read;
+              again_to = deck_reads asked.limits files to b.model one.headline.decks.read_to;
+              stated = span_stated asked to files old.written between mid new.written one.headline (first_part old.written one_part) (last_part old.written mid one_part other_part (first_part old.written decks));
+            };
+            values = one.values;
+          }
+
+      of_span : (deck : Bool) → AreDecks (two a b.model) → Defines (after_text deck (decks_text (two a b.model) zones) (Listing k)) status.Ok pieces → OneRunSpan deck asked to files old new
+      of_span true valid d = span_decks_first valid d.others d.are (whole_listing k d.others d.then)
+      of_span false valid d = span_plain valid (whole_listing k pieces d)
+
+    of_words : IsSaid words_text status.Ok pieces → Said old new
+    of_words d = let P : List ℕ → Type 0 = λ t. Appends old.written new.written t in subst P (append-nil words_text) (appended (words_text ∷ []) d.1)
 
     of_deck : (limits : Limits) (name : Text) (m : FlowModel) → read_by_name name (reads limits files) ≡ Ok m → IsModel m → IsDeck m status.Ok pieces → OneDeck limits name files old.written new.written
     of_deck limits name m is valid d =
@@ -117,16 +194,18 @@ module _ (laws : Laws) (old new : Seen) (puts : List Put) (pieces : List Text) (
 
     one_by : (order : Option Wanted) (end : Status) → ((b : AskedBatch) → order ≡ Some (Batch b) → Batched b files end old.written new.written) → AfterOk (case_of order files) (OneOf order files end old new)
     one_by None end batched = λ valid d. absurd (let bad : status.Ok ≡ status.Usage = d.0 in cc)
-    one_by (Some (Run asked None)) end batched = of_one (read_by_name asked.name (reads asked.limits files)) (to_list files asked) (λ m read. of_read (zones_read files asked.zones m) (λ zones. Listing (task_of asked m zones))
-        (λ zones zoned valid d. of_listing asked m zones read zoned valid (whole_listing (task_of asked m zones) pieces d)))
-    one_by (Some (Run asked (Some to))) end batched = of_two (read_by_name asked.name (reads asked.limits files)) (read_by_name to (second_in asked.limits files)) (to_list files asked) (λ a b first second. of_read (zones_read files asked.zones a) (λ zones. Listing (decks_task asked (two a b.model) zones))
-        (λ zones zoned valid d. span_listed laws.one files old new puts pieces written makes a b asked to first second zones zoned valid (whole_listing (span_task_of asked a b.model zones) pieces d)))
+    one_by (Some (Run asked None)) end batched = of_one (read_by_name asked.name (reads asked.limits files)) (to_list files asked) (λ m read. of_read (zones_read files asked.zones m) (case_listed asked (one_deck m))
+        (λ zones zoned valid d. of_listing asked m zones read zoned asked.deck (valid_after asked.deck (decks_text (one_deck m) zones) (Listing (task_of asked m zones)) valid) d))
+    one_by (Some (Run asked (Some to))) end batched = of_two (read_by_name asked.name (reads asked.limits files)) (read_by_name to (second_in asked.limits files)) (to_list files asked) (λ a b first second. of_read (zones_read files asked.zones a) (case_listed asked (two a b.model))
+        (λ zones zoned valid d. of_span asked to a b first second zones zoned asked.deck (valid_after asked.deck (decks_text (two a b.model) zones) (Listing (span_task_of asked a b.model zones)) valid) d))
     one_by (Some (Make seed size)) end batched = of_made seed size (made_model seed size) refl
     one_by (Some (Check asked None)) end batched = of_one (read_by_name asked.name (reads asked.limits files)) (to_check files asked None) (λ m read. of_read (listing_read false files asked m) (Checking asked.limits (one_deck m) asked.digits)
         (λ listing listed valid d. certified_and_one files old new puts pieces asked written makes m listing valid.0.first read listed d))
     one_by (Some (Check asked (Some to))) end batched = of_two (read_by_name asked.name (reads asked.limits files)) (read_by_name to (second_in asked.limits files)) (to_check files asked (Some to)) (λ a b first second. of_read (listing_read true files asked a) (Checking asked.limits (two a b.model) asked.digits)
-        (λ listing listed valid d. span_checked laws.one files old new puts pieces written makes a b asked to first second listing listed valid.0 d))
+        (λ listing listed valid d. span_checked laws.one files a b old new puts pieces written makes asked to first second listing listed valid.0 d))
     one_by (Some (Batch b)) end batched = λ valid d. batched b refl
+    one_by (Some (CheckText asked)) end batched = λ valid d. absurd (let bad : status.Ok ≡ status.Usage = d.0 in cc)
+    one_by (Some Words) end batched = λ valid d. of_words d
     one_by (Some (Write limits name)) end batched = of_one (read_by_name name (reads limits files)) to_write (λ m read valid d. of_deck limits name m read valid d)
 
 pub one_of : (laws : Laws) (order : Option Wanted) (files : FileSet) (end : Status) (puts : List Put) (old new : Seen) → PutsMake old puts new → end ≡ status.Ok → IsValid (case_of order files) → Delivers (Defines (case_of order files)) end puts →
@@ -138,10 +217,20 @@ one_of laws order files end puts old new makes ok valid d batched =
 -- the headline
 pub headline_of : (order : Option Wanted) (files : FileSet) (end : Status) (old new : Seen) → OneOf order files end old new → HeadlineOf order files end old new
 headline_of None files end old new o = o
-headline_of (Some (Run asked None)) files end old new o = o.headline
-headline_of (Some (Run asked (Some to))) files end old new o = o.headline
+headline_of (Some (Run asked None)) files end old new o = by_deck asked.deck o
+  where
+    by_deck : (deck : Bool) → OneRun deck asked files old new → RunHeadline deck asked files old new
+    by_deck true x = x.headline
+    by_deck false x = x.headline
+headline_of (Some (Run asked (Some to))) files end old new o = by_deck asked.deck o
+  where
+    by_deck : (deck : Bool) → OneRunSpan deck asked to files old new → RunSpanHeadline deck asked to files old new
+    by_deck true x = x.headline
+    by_deck false x = x.headline
 headline_of (Some (Check asked None)) files end old new o = o.certified
 headline_of (Some (Check asked (Some to))) files end old new o = o.certified
 headline_of (Some (Make seed size)) files end old new o = o.made
 headline_of (Some (Batch b)) files end old new o = o
+headline_of (Some (CheckText asked)) files end old new o = o
+headline_of (Some Words) files end old new o = o
 headline_of (Some (Write limits name)) files end old new o = o

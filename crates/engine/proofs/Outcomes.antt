@@ -1,7 +1,7 @@
 -- The public clauses, from all that a run comes to.
 use Rattle.engine.proofs.Common.{◌≡◌, List, Option, Ok, subst, sym, ◌∙◌, ap, refl, inl, inr, ◌⊎◌, FileSet, Rose, Put, Seen, PutsMake, Text, Agree, Status}
-use Rattle.engine.proofs.Common.{one_valid, Case, Listing, Making, Checking, Writing, CutOf, Defines, made_task, GoesWell, IsRunOf, IsStopped, IsValid}
-use Rattle.engine.proofs.Common.{Difference, Comparing, not_alike, IsPlain, ReadsFolder, EndsOk, EndIsDefined, Wanted, Jobs, case_of}
+use Rattle.engine.proofs.Common.{After, Saying, one_valid, Case, Listing, Making, Checking, Writing, CutOf, Defines, made_task, GoesWell, IsRunOf, IsStopped}
+use Rattle.engine.proofs.Common.{IsValid, Difference, Comparing, not_alike, IsPlain, ReadsFolder, EndsOk, EndIsDefined, Wanted, Jobs, case_of}
 use Rattle.engine.proofs.Certifying.{IsFault, certifies, check_is_no_fault, one_end, stopped_by_fault}
 use Rattle.engine.proofs.ListingEnds.{agree, goes_through, jobs_agree, jobs_end_ok, jobs_no_fault, listing_is_no_fault}
 use Rattle.engine.proofs.OkRuns.{Laws, valid_of}
@@ -17,6 +17,7 @@ defines_no_fault (Checking limits m s steps) end pieces d h = check_is_no_fault 
 defines_no_fault (Jobs jobs) end pieces d h = jobs_no_fault jobs d.ends d.each (subst IsFault d.ended.status_is h)
 defines_no_fault (Comparing a b c) end pieces (inl unlike) h = subst IsFault unlike.status h
 defines_no_fault (Comparing a b c) end pieces (inr (alike, d)) h = defines_no_fault c end pieces d h
+defines_no_fault (After text c) end pieces d h = defines_no_fault c end d.others d.then h
 defines_no_fault other end pieces d h = subst IsFault d.0 h
 
 decides : (laws : Laws) (case : Case) (meant end : Status) (p q : List Text) → IsPlain case → IsValid case → Defines case meant p → Defines case end q → Agree meant end
@@ -29,6 +30,7 @@ decides laws (Comparing a b c) meant end p q plain valid (inl x) (inr (alike, y)
 decides laws (Comparing a b c) meant end p q plain valid (inr (alike, x)) (inl y) = absurd (y.unlike alike)
 decides laws (Comparing a b c) meant end p q plain (inl never) (inr (alike, x)) (inr (also, y)) = absurd (never alike)
 decides laws (Comparing a b c) meant end p q plain (inr valid) (inr (alike, x)) (inr (also, y)) = decides laws c meant end p q plain valid x y
+decides laws (After text c) meant end p q plain valid x y = decides laws c meant end x.others y.others plain valid x.then y.then
 decides laws other meant end p q plain valid x y = inr (inl (y.0 ∙ sym x.0))
 
 -- a case that goes well has no other end than Ok
@@ -38,6 +40,8 @@ ends_well laws (Making seed size (Ok m)) goes valid end q y = goes_through (made
 ends_well laws (Checking limits d s l) verdict (valid, listed) end q y = certifies limits d s l laws.verdict valid listed verdict end q y
 ends_well laws (Jobs jobs) each valid end q y = jobs_end_ok jobs end q each y
 ends_well laws (Writing m) goes valid end q y = y.0
+ends_well laws (Saying text) goes valid end q y = y.0
+ends_well laws (After text c) goes valid end q y = ends_well laws c goes valid end y.others y.then
 ends_well laws (Comparing a b case) (alike, goes) valid end q (inl unlike) = absurd (unlike.unlike alike)
 ends_well laws (Comparing a b case) (alike, goes) (inl never) end q (inr y) = absurd (never alike)
 ends_well laws (Comparing a b case) (alike, goes) (inr valid) end q (inr (also, y)) = ends_well laws case goes valid end q y

@@ -1,5 +1,5 @@
 -- What a viewer that puts to a sink put in a run.
-use Rattle.engine.proofs.Common.{◌≡◌, ◌∙◌, ◌⊎◌, ℕ, List, [], true, false, Option, None, Some, ap, refl, ◌∷◌, Bool, inl, inr, sym, subst, is_some, Rose, Put}
+use Rattle.engine.proofs.Common.{◌≡◌, ◌∙◌, ◌⊎◌, ℕ, List, [], true, false, Option, None, Some, ap, refl, Bool, inl, inr, sym, subst, is_some, Rose, Put}
 use Rattle.engine.proofs.Common.{PutsMake, Seen, SinkError, Bound, Entries, Edges, EnclosesPair, LeadOn, ViewPuts, no_lead, no_view, Task, ReachesFirst}
 use Rattle.engine.proofs.Common.{IsSettledBy, Reaches, RestsOrSettles, rests, settled, IsWatched, Shows, ViewPutsOf, lines_of, TimeStep, times, begun, edges_by}
 use Rattle.outside.specs.declared.traits.SinkError.TheVariants.{Write}

@@ -2,7 +2,7 @@
 use Rattle.engine.proofs.Common.{[], ◌≡◌, ℕ, List, ◌∷◌, Option, Ok, map, subst, ap, ◌∙◌, true, FileSet, Put, Seen, PutsMake, whole_put, FlowModel, ZonedListing}
 use Rattle.engine.proofs.Common.{Text, end_line, all_written, AreDecks, read_by_name, steps_read, zones_read, certified_line, ListingOrder, AskedCheck}
 use Rattle.engine.proofs.Common.{listing_read, span_task_of, IsCheck, verdict_line, ArePairOf, OneSpan, SpanVerdict, Second, second_in, listing, ListingIsOne}
-use Rattle.engine.proofs.Common.{have_one, IsWhole, Limits, two, ListingVerdict, IsVerdict, reads}
+use Rattle.engine.proofs.Common.{have_one, IsWhole, Limits, two, ListingVerdict, IsVerdict, reads, Appends, concat}
 use Rattle.engine.proofs.Certifying.{is_certified}
 use Rattle.engine.proofs.Labels.{listing_pairs, listing_times}
 use Rattle.engine.proofs.Readings.{named_read, second_parts, zoned_parts}
@@ -21,11 +21,11 @@ pair_of limits files name to a b first second valid = record {
   alike = valid.second.alike;
 }
 
-module _ (one : ListingIsOne) (files : FileSet) (old new : Seen) (puts : List Put) (pieces : List Text) (written : puts ≡ map whole_put pieces) (makes : PutsMake old puts new) (a : FlowModel) (b : Second) where
+module _ (one : ListingIsOne) (files : FileSet) (a : FlowModel) (b : Second) where
   -- a run
-  pub span_listed : (s : ListingOrder) (to : Text) → read_by_name s.name (reads s.limits files) ≡ Ok a → read_by_name to (second_in s.limits files) ≡ Ok b → (zones : Option (List ℕ)) → zones_read files s.zones a ≡ Ok zones →
-      AreDecks (two a b.model) → IsWhole (span_task_of s a b.model zones) pieces → OneSpan s to files old.written new.written
-  span_listed s to first second zones zoned valid v =
+  abbrev pub span_listed : (s : ListingOrder) (to : Text) → read_by_name s.name (reads s.limits files) ≡ Ok a → read_by_name to (second_in s.limits files) ≡ Ok b → (zones : Option (List ℕ)) → zones_read files s.zones a ≡ Ok zones →
+      AreDecks (two a b.model) → (pieces : List Text) (v : IsWhole (span_task_of s a b.model zones) pieces) (old new : Option (List ℕ)) → Appends old new (concat (listing (span_task_of s a b.model zones) v.values end_line)) → OneSpan s to files old new
+  span_listed s to first second zones zoned valid pieces v old new written =
       let k = span_task_of s a b.model zones in
       record {
         headline = record {
@@ -33,7 +33,7 @@ module _ (one : ListingIsOne) (files : FileSet) (old new : Seen) (puts : List Pu
           zones = zones;
           zoned = zoned;
           values = v.values;
-          written = all_written (listing k v.values end_line) old new puts (written ∙ ap (map whole_put) v.are) makes;
+          written = written;
           at = listing_times k v.values v.steps;
           pairs = listing_pairs k valid v.values v.steps;
           encloses = v.encloses;
@@ -43,9 +43,9 @@ module _ (one : ListingIsOne) (files : FileSet) (old new : Seen) (puts : List Pu
       }
 
   -- a check
-  pub span_checked : (s : AskedCheck) (to : Text) → read_by_name s.name (reads s.limits files) ≡ Ok a → read_by_name to (second_in s.limits files) ≡ Ok b → (l : ZonedListing) → listing_read true files s a ≡ Ok l →
+  pub span_checked : (old new : Seen) (puts : List Put) (pieces : List Text) → puts ≡ map whole_put pieces → PutsMake old puts new → (s : AskedCheck) (to : Text) → read_by_name s.name (reads s.limits files) ≡ Ok a → read_by_name to (second_in s.limits files) ≡ Ok b → (l : ZonedListing) → listing_read true files s a ≡ Ok l →
       AreDecks (two a b.model) → IsCheck s.limits (two a b.model) s.digits l status.Ok pieces → SpanVerdict s to files old.written new.written
-  span_checked s to first second l listed valid d =
+  span_checked old new puts pieces written makes s to first second l listed valid d =
       let parts = zoned_parts (zones_read files s.zones a) (steps_read true files s a) l listed in
       let holds = is_certified d.verdict d.status in
       let L : ListingVerdict → Type 0 = λ v. pieces ≡ verdict_line a.grid v ∷ [] in

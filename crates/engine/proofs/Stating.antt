@@ -3,18 +3,21 @@ use Rattle.engine.proofs.Common.{[], ◌≡◌, ◌≤◌, ◌++◌, ℕ, ℤ, B
 use Rattle.engine.proofs.Common.{concat, FileSet, Refusal, FlowModel, Limits, Decks, Text, Step, TimeStep, Task, AllSteps, end_line, listing, one_deck, task_of}
 use Rattle.engine.proofs.Common.{deck_reads, deck_text, most_bytes, reads, times, two, with_limit, zones_read, start_head, Appends, File, deck_name, deck_files}
 use Rattle.engine.proofs.Common.{SolvesBetweenFrom, checked_task, BoundAll, BoundBetween, Bounds, deck_task, DeckAndListingAreStated, DecksAndListingAreStated}
-use Rattle.engine.proofs.Common.{SameModelHasSameListing, DeckHasSameListing, SameDeckHasSameModel}
+use Rattle.engine.proofs.Common.{SameModelHasSameListing, DeckHasSameListing, SameDeckHasSameModel, ListingOrder, option_map, refl, zoned_text, SpanStated}
+use Rattle.engine.specs.Headline.{Headline}
+use Rattle.engine.specs.SpanHeadline.{SpanHeadline}
+use Rattle.engine.specs.Stated.{Stated}
 use Rattle.decimal_input.specs.{Fraction}
 use Rattle.flow_equations.specs.{heads_of}
 use Rattle.engine.proofs.Written.{some_ok}
 use Rattle.listing_run.specs.declared.text.ListingEnd.TheVariants as ends
 
 -- what was appended, and then more
-joined : (old mid new : Option (List ℕ)) (x y : List ℕ) → Appends old mid x → Appends mid new y → Appends old new (x ++ y)
-joined None mid new x y first more = tt
-joined (Some a) None new x y first more = absurd first
-joined (Some a) (Some b) None x y first more = absurd more
-joined (Some a) (Some b) (Some c) x y first more =
+appended : (old mid new : Option (List ℕ)) (x y : List ℕ) → Appends old mid x → Appends mid new y → Appends old new (x ++ y)
+appended None mid new x y first more = tt
+appended (Some a) None new x y first more = absurd first
+appended (Some a) (Some b) None x y first more = absurd more
+appended (Some a) (Some b) (Some c) x y first more =
     let was : b ≡ a ++ x = first in
     let now : c ≡ b ++ y = more in
     now ∙ ap (λ (t : List ℕ). t ++ y) was ∙ append_assoc a x y
@@ -47,30 +50,39 @@ module _ (limits : Limits) (ds : Decks) (s : ℕ) (zones : Option (List ℕ)) (r
 one_model : (r : Result FlowModel Refusal) (a b : FlowModel) → r ≡ Ok a → r ≡ Ok b → a ≡ b
 one_model r a b first second = cc
 
+-- without zones the text of a deck is what `heads write` puts
+unzoned : (m : FlowModel) → deck_text m ≡ zoned_text m None
+unfolding deck_text zoned_text
+unzoned m = refl
+
+-- the text of the deck, and then the listing
+pub stated : (asked : ListingOrder) (files : FileSet) (old mid new : Option (List ℕ)) (h : Headline asked files mid new) → Appends old mid (zoned_text h.model h.zones) → Stated old new
+stated asked files old mid new h deck = record {
+  model = h.model;
+  valid = h.valid;
+  zones = h.zones;
+  digits = asked.digits;
+  values = h.values;
+  written = appended old mid new (zoned_text h.model h.zones) (concat (listing (task_of asked h.model h.zones) h.values end_line)) deck h.written;
+  at = h.at;
+  pairs = h.pairs;
+  encloses = λ d history solves. bounds_stated asked.limits (one_deck h.model) asked.digits h.zones asked.rounds asked.quick h.model d (start_head h.model) h.values history (h.encloses d history solves);
+  solvable = h.solvable;
+  one = h.one;
+}
+
 pub deck_and_listing : DeckAndListingAreStated
-deck_and_listing asked files old mid new deck h =
+deck_and_listing asked files old mid new deck h unzoned_run =
     let same = one_model (reads asked.limits files asked.name) deck.model h.model deck.read h.read in
     let P : FlowModel → Type 0 = λ m. Appends old mid (deck_text m) in
-    record {
-      model = h.model;
-      valid = h.valid;
-      digits = asked.digits;
-      values = h.values;
-      written = joined old mid new (deck_text h.model) (concat (listing (task_of asked h.model h.zones) h.values end_line)) (subst P same deck.written) h.written;
-      at = h.at;
-      pairs = h.pairs;
-      encloses = λ d history solves. bounds_stated asked.limits (one_deck h.model) asked.digits h.zones asked.rounds asked.quick h.model d (start_head h.model) h.values history (h.encloses d history solves);
-      solvable = h.solvable;
-      one = h.one;
-    }
+    let Z : Option (List ℕ) → Type 0 = λ zones. Appends old mid (zoned_text h.model zones) in
+    let T : List ℕ → Type 0 = λ t. Appends old mid t in
+    stated asked files old mid new h (subst Z (sym unzoned_run) (subst T (unzoned h.model) (subst P same deck.written)))
 
-pub decks_and_listing : DecksAndListingAreStated
-decks_and_listing asked to files old mid last new deck other h =
+-- the texts of two decks, and then the listing
+pub span_stated : (asked : ListingOrder) (to : Text) (files : FileSet) (old mid last new : Option (List ℕ)) (h : SpanHeadline asked to files last new) → Appends old mid (zoned_text h.decks.first h.zones) → Appends mid last (zoned_text h.decks.second h.zones) → SpanStated old new
+span_stated asked to files old mid last new h deck other =
     let p = h.decks in
-    let same = one_model (reads asked.limits files asked.name) deck.model p.first deck.read p.read in
-    let same_to = one_model (reads asked.limits files to) other.model p.second other.read p.read_to in
-    let P : FlowModel → Type 0 = λ m. Appends old mid (deck_text m) in
-    let Q : FlowModel → Type 0 = λ m. Appends mid last (deck_text m) in
     let ds = two p.first p.second in
     let listed = concat (listing (deck_task asked.limits ds asked.digits h.zones asked.rounds asked.quick) h.values end_line) in
     record {
@@ -78,14 +90,42 @@ decks_and_listing asked to files old mid last new deck other h =
       valid = p.valid;
       second = p.second;
       valid_to = p.valid_to;
+      zones = h.zones;
       digits = asked.digits;
       values = h.values;
-      written = joined old mid new (deck_text p.first) (deck_text p.second ++ listed) (subst P same deck.written) (joined mid last new (deck_text p.second) listed (subst Q same_to other.written) h.written);
+      written = appended old mid new (zoned_text p.first h.zones) (zoned_text p.second h.zones ++ listed) deck (appended mid last new (zoned_text p.second h.zones) listed other h.written);
       at = h.at;
       pairs = h.pairs;
       encloses = λ d history solves. between_stated asked.limits ds asked.digits h.zones asked.rounds asked.quick p.first p.second d (start_head solves.first) (times p.first) h.values history solves.steps (h.encloses d history solves);
       choices = h.choices;
     }
+
+pub decks_and_listing : DecksAndListingAreStated
+decks_and_listing asked to files old mid last new deck other h unzoned_run =
+    let p = h.decks in
+    let same = one_model (reads asked.limits files asked.name) deck.model p.first deck.read p.read in
+    let same_to = one_model (reads asked.limits files to) other.model p.second other.read p.read_to in
+    let P : FlowModel → Type 0 = λ m. Appends old mid (deck_text m) in
+    let Q : FlowModel → Type 0 = λ m. Appends mid last (deck_text m) in
+    let Z : FlowModel → Option (List ℕ) → Type 0 = λ m zones. Appends old mid (zoned_text m zones) in
+    let Y : FlowModel → Option (List ℕ) → Type 0 = λ m zones. Appends mid last (zoned_text m zones) in
+    let T : List ℕ → Type 0 = λ t. Appends old mid t in
+    let U : List ℕ → Type 0 = λ t. Appends mid last t in
+    span_stated asked to files old mid last new h (subst (Z p.first) (sym unzoned_run) (subst T (unzoned p.first) (subst P same deck.written)))
+    (subst (Y p.second) (sym unzoned_run) (subst U (unzoned p.second) (subst Q same_to other.written)))
+
+-- What was appended as one text, in two parts.
+abbrev pub grown : Option (List ℕ) → List ℕ → Option (List ℕ)
+grown old x = option_map (λ (b : List ℕ). b ++ x) old
+
+pub first_part : (old : Option (List ℕ)) (x : List ℕ) → Appends old (grown old x) x
+first_part None x = tt
+first_part (Some a) x = refl
+
+pub last_part : (old new : Option (List ℕ)) (x y : List ℕ) → Appends old new (x ++ y) → Appends (grown old x) new y
+last_part None new x y h = tt
+last_part (Some a) None x y h = absurd h
+last_part (Some a) (Some c) x y h = let is : c ≡ a ++ (x ++ y) = h in is ∙ sym (append_assoc a x y)
 
 pub same_listing : SameModelHasSameListing
 same_listing asked name zones files others bytes anew plain h o model same_zones =

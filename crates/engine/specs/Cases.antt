@@ -1,11 +1,12 @@
 -- The case of a run: what its words and files define.
-use Rattle.std.specs.Prelude.{◌≡◌, ℕ, Bool, List, map, Result, Ok, Err, IfOk, Option, Some, None, codes, if◌then◌else◌, option_map, is_some, unsigned_abs}
+use Rattle.std.specs.Prelude.{◌≡◌, ℕ, Bool, true, false, List, [], ◌++◌, map, Result, Ok, Err, IfOk, Option, Some, None, codes, if◌then◌else◌, option_map}
+use Rattle.std.specs.Prelude.{is_some, unsigned_abs}
 use Rattle.outside.specs.{FileSet, with_limit, file_at, file_refusal, is_good_name}
 use Rattle.record_lines.specs.{◌>>=◌}
 use Rattle.model_types.specs.{most_bytes}
 use Rattle.outside.specs.declared.codes.Code.TheVariants.{BadName}
 use Rattle.outside.specs.declared.inputs.Refusal.{Refusal}
-use Rattle.command_line.specs.{ListingOrder, AskedBatch, AskedCheck, Batch, Check, Make, Run, Wanted, Write, wanted_by}
+use Rattle.command_line.specs.{ListingOrder, AskedBatch, AskedCheck, Batch, Check, CheckText, Make, Run, Wanted, Words, Write, wanted_by}
 use Rattle.command_line.specs.declared.order.Order.{Order}
 use Rattle.command_line.specs.declared.order.WordsFault.{WordsFault}
 use Rattle.command_line.specs.declared.order.WordsFault.TheVariants as fault
@@ -13,6 +14,7 @@ use Rattle.model_types.specs.declared.limits.Limits.{Limits}
 use Rattle.model_types.specs.declared.limits.Limits.TheVariants.{Plain}
 use Rattle.model_types.specs.declared.model.FlowModel.{FlowModel}
 use Rattle.model_reader.specs.{reads}
+use Rattle.model_text.specs.{zoned_text}
 use Rattle.zone_file.specs.{zones_of}
 use Rattle.model_maker.specs.{made_files, made_name}
 use Rattle.zone_pairs.specs.{pairs_in}
@@ -29,6 +31,7 @@ use Rattle.batch_list.specs.{names_in}
 use Rattle.engine.specs.declared.job.Job.{Job}
 use Rattle.engine.specs.declared.zoned.ZonedListing.{ZonedListing}
 use Rattle.engine.specs.TwoDecks.{Second, second_in}
+use Rattle.engine.specs.Words.{words_text}
 
 -- the order for one model: none if it is for a batch
 abbrev pub but_batch : Option Wanted → Option Wanted
@@ -39,10 +42,11 @@ but_batch order = order
 abbrev pub IsOrder : Result Order WordsFault → Option Wanted → Type 0
 IsOrder read one = IfOk read (λ order. one ≡ but_batch (Some (wanted_by order))) × (read ≡ Err fault.Usage → one ≡ None)
 
--- no file of the folder is read: without a command, and to make a model
+-- no file of the folder is read: without a command, to make a model, and to say the words
 abbrev pub ReadsNothing : Option Wanted → Type 0
 ReadsNothing None = Unit {0}
 ReadsNothing (Some (Make seed size)) = Unit {0}
+ReadsNothing (Some Words) = Unit {0}
 ReadsNothing asked = ⊥
 
 -- what is listed of a model, with the zones of its cells if there is a zone file
@@ -58,8 +62,8 @@ span_task_of asked first second zones = decks_task asked (two first second) zone
 
 -- The case of a run: the words aren't accepted; this is the first refusal; this is listed; a model is made from this
 -- seed and size, whose files read as this one or have this refusal; this listing of decks is checked, by these limits and
--- with these digits; these jobs of a batch are run; the deck of a model is written; or two decks are compared, and where they are alike
--- this is the case.
+-- with these digits; these jobs of a batch are run; the deck of a model is written; this text is said; this text is put first, as one piece, and
+-- then this is the case; or two decks are compared, and where they are alike this is the case.
 pub data Case : Type 0 where
   NoWords : Case
   Refuses : Refusal → Case
@@ -68,12 +72,15 @@ pub data Case : Type 0 where
   Checking : Limits → Decks → ℕ → ZonedListing → Case
   Jobs : List Job → Case
   Writing : FlowModel → Case
+  Saying : Text → Case
+  After : Text → Case → Case
   Comparing : FlowModel → Second → Case → Case
 
--- the task that is listed, of one deck, or of two that are alike
+-- the task that is listed, of one deck, or of two that are alike, perhaps after their text
 abbrev pub IsListingOf : Task → Case → Type 0
 IsListingOf task (Listing k) = k ≡ task
 IsListingOf task (Comparing a b case) = AreAlike a b.model × IsListingOf task case
+IsListingOf task (After text case) = IsListingOf task case
 IsListingOf task other = ⊥
 
 -- what a name means, by this reading of the files under it; a bad name is refused before any file
@@ -134,16 +141,35 @@ case_decks (Err refusal) second come = Refuses refusal
 abbrev pub case_named : FileSet → Limits → Text → Option Text → (Decks → Case) → Case
 case_named files limits name to come = case_decks (read_by_name name (reads limits files)) (option_map (λ last. read_by_name last (second_in limits files)) to) come
 
+-- the text of decks, each with the zones of its cells if there is a zone file
+abbrev pub second_text : Option FlowModel → Option (List ℕ) → Text
+second_text None zones = []
+second_text (Some m) zones = zoned_text m zones
+
+abbrev pub decks_text : Decks → Option (List ℕ) → Text
+decks_text d zones = zoned_text d.first zones ++ second_text d.second zones
+
+-- a text is put first if that is asked for
+abbrev pub after_text : (asked : Bool) → Text → Case → Case
+after_text true text case = After text case
+after_text false text case = case
+
+-- The case of decks that are listed, with these zones of their cells if there is a zone file: after their text with --deck.
+abbrev pub case_listed : ListingOrder → Decks → Option (List ℕ) → Case
+case_listed asked d zones = after_text asked.deck (decks_text d zones) (Listing (decks_task asked d zones))
+
 -- The case of this order and these files. It does not depend on the number of workers, nor on views.
 abbrev pub case_of : Option Wanted → FileSet → Case
 case_of None files = NoWords
 case_of (Some (Run asked to)) files =
-    case_named files asked.limits asked.name to (λ d. case_read (zones_read files asked.zones d.first) (λ zones. Listing (decks_task asked d zones)))
+    case_named files asked.limits asked.name to (λ d. case_read (zones_read files asked.zones d.first) (case_listed asked d))
 case_of (Some (Make seed size)) files = Making seed size (made_model seed size)
 case_of (Some (Check asked to)) files =
     case_named files asked.limits asked.name to (λ d. case_read (listing_read (is_some to) files asked d.first) (Checking asked.limits d asked.digits))
 case_of (Some (Batch b)) files = case_read (jobs_read files b) Jobs
 case_of (Some (Write limits name)) files = case_named files limits name None (λ d. Writing d.first)
+case_of (Some (CheckText asked)) files = NoWords
+case_of (Some Words) files = Saying words_text
 
 -- The case of a run is the same by any number of workers, watched or not, and so is that of a batch.
 pub record WorkersChangeNoCase : Type 0 where

@@ -11,7 +11,7 @@ use Rattle.listing_run.specs.declared.steps.Task.{Task}
 use Rattle.run_puts.specs.declared.job_end.JobEnd.{JobEnd}
 use Rattle.engine.specs.declared.job.Job.{Job}
 use Rattle.listing_run.specs.{IsListing, IsCutListing}
-use Rattle.engine.specs.Cases.{Case, NoWords, Refuses, Listing, Making, Checking, Jobs, Writing, Comparing}
+use Rattle.engine.specs.Cases.{Case, NoWords, Refuses, Listing, Making, Checking, Jobs, Writing, Saying, After, Comparing}
 use Rattle.deck_span.specs.{AreAlike}
 use Rattle.engine.specs.TwoDecks.{IsUnlike}
 use Rattle.engine.specs.Made.{IsMade}
@@ -41,9 +41,20 @@ pub record IsRunText (read : Result Task Refusal) (before : Text) (e : JobEnd) :
 abbrev pub IsJobEnd : Job → JobEnd → Type 0
 IsJobEnd job e = IsRunText job.read (model_line job.name) e
 
+-- a text is said: it is put as one piece, and the end is Ok
+abbrev pub IsSaid : Text → Status → List Text → Type 0
+IsSaid text end pieces = (end ≡ status.Ok) × (pieces ≡ text ∷ [])
+
+-- a text is the first piece, and this holds of the others
+pub record IsAfter (text : Text) (Then : List Text → Type 0) (pieces : List Text) : Type 0 where
+  pub others : List Text
+  pub are : pieces ≡ text ∷ others
+  pub then : Then others
+
 -- A run of this case has this end and these pieces: the usage line; the line of the refusal; a listing, whole or up
 -- to a step without bounds or one that the rounds don't settle; the pieces of a made model; the line of a check's
--- verdict; the text of each job of a batch, in the order of the list, and END; the text of a deck; or of two decks the refusal of their first difference, or where they are alike what is due then.
+-- verdict; the text of each job of a batch, in the order of the list, and END; the text of a deck; the text that is said; a text and then what
+-- is due after it; or of two decks the refusal of their first difference, or where they are alike what is due then.
 abbrev pub Defines : Case → Status → List Text → Type 0
 Defines NoWords end pieces = (end ≡ status.Usage) × (pieces ≡ usage_line ∷ [])
 Defines (Refuses refusal) end pieces = IsRefusal refusal end pieces
@@ -52,18 +63,23 @@ Defines (Making seed size read) end pieces = IsMade seed size read end pieces
 Defines (Checking limits d s listing) end pieces = IsCheck limits d s listing end pieces
 Defines (Jobs jobs) end pieces = IsBatch IsJobEnd jobs end pieces
 Defines (Writing m) end pieces = IsDeck m end pieces
+Defines (Saying text) end pieces = IsSaid text end pieces
+Defines (After text case) end pieces = IsAfter text (Defines case end) pieces
 Defines (Comparing a b case) end pieces = IsUnlike a b end pieces ⊎ (AreAlike a b.model × Defines case end pieces)
 
--- the files of the given folder are read: not without a command, and not to make a model
+-- the files of the given folder are read: not without a command, not to make a model, and not to say a text
 abbrev pub ReadsFolder : Case → Type 0
 ReadsFolder NoWords = ⊥
 ReadsFolder (Making seed size read) = ⊥
+ReadsFolder (Saying text) = ⊥
 ReadsFolder other = Unit {0}
 
--- the pieces after which a run may stop because memory ran out, or a write beside it failed: the first ones of a listing
+-- the pieces after which a run may stop because memory ran out, or a write beside it failed: the first ones of a listing; or the text
+-- before it, alone or with them
 abbrev pub CutOf : Case → List Text → Type 0
 CutOf (Listing k) pieces = IsCutListing k pieces
 CutOf (Comparing a b case) pieces = AreAlike a b.model × CutOf case pieces
+CutOf (After text case) pieces = IsAfter text (λ others. (others ≡ []) ⊎ CutOf case others) pieces
 CutOf other pieces = ⊥
 
 -- The pieces due if a run has this end: those that are defined; if a read failed, the line READFAULT alone; or if a write beside it

@@ -1,5 +1,7 @@
 pub mod Headline
 pub mod SpanHeadline
+pub mod Words
+pub mod DeckListing
 pub mod TwoDecks
 pub mod Certified
 pub mod Cases
@@ -20,24 +22,30 @@ pub mod Batched
 pub mod BatchReads
 pub use Rattle.engine.specs.BatchReads.{AreTasks, HasNames, IsBatchRead, NeverRefused}
 pub use Rattle.engine.specs.Batched.{HasEnded, HasNoList, IsJobListing}
-pub use Rattle.engine.specs.Cases.{Case, Checking, Comparing, IsListingOf, IsOrder, Jobs, Listing, Making, NoWords, ReadsNothing, Refuses, WorkersChangeNoCase}
-pub use Rattle.engine.specs.Cases.{Writing, but_batch, case_decks, case_named, case_of, case_read, decks_task, job_of, job_task, jobs_read, listing_read}
-pub use Rattle.engine.specs.Cases.{made_model, names_read, read_by_name, span_task_of, steps_read, task_of, zones_read}
+pub use Rattle.engine.specs.Cases.{After, Case, Checking, Comparing, IsListingOf, IsOrder, Jobs, Listing, Making, NoWords, ReadsNothing, Refuses, Saying}
+pub use Rattle.engine.specs.Cases.{WorkersChangeNoCase, Writing, after_text, but_batch, case_decks, case_listed, case_named, case_of, case_read, decks_task}
+pub use Rattle.engine.specs.Cases.{decks_text, job_of, job_task, jobs_read, listing_read, made_model, names_read, read_by_name, second_text, span_task_of}
+pub use Rattle.engine.specs.Cases.{steps_read, task_of, zones_read}
 pub use Rattle.engine.specs.Checked.{IsCheck, certified_line, verdict_line, verdict_status}
 pub use Rattle.engine.specs.Commands.{MayRead}
+pub use Rattle.engine.specs.DeckListing.{DeckHeadline, DeckSpanHeadline, OneDeckListing, OneDeckSpan}
 pub use Rattle.engine.specs.Decks.{IsDeck, OneDeck}
-pub use Rattle.engine.specs.Defined.{CutOf, Defines, Due, IsDue, IsJobEnd, IsRunText, JobDefines, ReadsFolder, broken_off, defined, model_line, unread}
+pub use Rattle.engine.specs.Defined.{CutOf, Defines, Due, IsAfter, IsDue, IsJobEnd, IsRunText, IsSaid, JobDefines, ReadsFolder, broken_off, defined, model_line}
+pub use Rattle.engine.specs.Defined.{unread}
 pub use Rattle.engine.specs.Headline.{ListsPairs}
 pub use Rattle.engine.specs.Made.{IsMade, made_task, summed_text}
 pub use Rattle.engine.specs.OneListing.{AreItsSteps, OneSummary, OneVerdict}
-pub use Rattle.engine.specs.Parts.{Answers, AnswersBeside, AreDecksAs, AreDecksOf, IsListed, IsNamedFault, IsNoSecond, IsReadingEnd, IsStopped, IsUnlikeFault}
-pub use Rattle.engine.specs.Parts.{IsValid, IsValidJob, made_fault, second_by}
+pub use Rattle.engine.specs.Parts.{Answers, AnswersBeside, AreDecksAs, AreDecksOf, IsFirstPut, IsListed, IsNamedFault, IsNoSecond, IsReadingEnd, IsStopped}
+pub use Rattle.engine.specs.Parts.{IsUnlikeFault, IsValid, IsValidJob, made_fault, second_by}
 pub use Rattle.engine.specs.Runs.{EndIsDefined, EndsOk, GoesThrough, GoesWell, IsPlain, IsPlainJob, IsRunOf}
-pub use Rattle.engine.specs.Serving.{HeadlineOf, IsProgramEnd, IsRunResult, IsStopNumber, OneOf, bytes_asked, files_if, files_named, files_of, limits_asked}
+pub use Rattle.engine.specs.Serving.{HeadlineOf, IsProgramEnd, IsRunResult, IsStopNumber, OneOf, OneRun, OneRunSpan, RunHeadline, RunSpanHeadline, Said}
+pub use Rattle.engine.specs.Serving.{bytes_asked, files_if, files_named, files_of, limits_asked}
 pub use Rattle.engine.specs.SpanHeadline.{ArePairOf, OneSpan, SpanVerdict}
 pub use Rattle.engine.specs.Stated.{DeckAndListingAreStated, DeckHasSameListing, DecksAndListingAreStated, SameDeckHasSameModel, SameModelHasSameListing}
+pub use Rattle.engine.specs.Stated.{SpanStated}
 pub use Rattle.engine.specs.Storage.{StorageHolds}
 pub use Rattle.engine.specs.TwoDecks.{IsDecksRefusal, Second, not_alike, of_both, of_first, of_second}
 unfoldable pub use Rattle.engine.specs.TwoDecks.{second_in}
 pub use Rattle.engine.specs.Watched.{ArePutInTurn, AreViews, AreWatched, IsView, IsWatched, Shows, SidePuts, ViewPutsOf, lines_of, views_in}
+pub use Rattle.engine.specs.Words.{words_text}
 pub use Rattle.engine.specs.Written.{ChecksWritten, OneListingIsCertified, OneSpanIsCertified, WrittenIsCertified}

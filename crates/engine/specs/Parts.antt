@@ -18,10 +18,10 @@ use Rattle.engine.specs.declared.two_decks.Second.{Second as SecondBy}
 use Rattle.engine.specs.TwoDecks.{AreDecksRead, Second, not_alike, second_in}
 use Rattle.deck_span.specs.declared.difference.Difference.{Difference}
 use Rattle.step_chain.specs.{two}
-use Rattle.run_puts.specs.{IsEnd, IsLast, EndsOutOfMemory, Text, read_fault_line}
+use Rattle.run_puts.specs.{IsEnd, IsLast, IsPut, EndsOutOfMemory, Text, read_fault_line}
 use Rattle.run_puts.specs.declared.puts.Status.{Status}
 use Rattle.run_puts.specs.declared.puts.Status.TheVariants as status
-use Rattle.engine.specs.Cases.{Case, Listing, Making, Checking, Jobs, Writing, Comparing, read_by_name}
+use Rattle.engine.specs.Cases.{After, Case, Listing, Making, Checking, Jobs, Writing, Comparing, read_by_name}
 use Rattle.engine.specs.declared.job.Job.{Job}
 use Rattle.engine.specs.Runs.{IsRunOf}
 use Rattle.engine.specs.Watched.{SidePuts, Watched}
@@ -31,6 +31,10 @@ abbrev pub IsReadingEnd : InputFault → Status → List Put → Type 0
 IsReadingEnd (input.Refused refusal) end puts = IsEnd (refused_line refusal) (status.Refused refusal) end puts
 IsReadingEnd input.ReadFault end puts = IsLast read_fault_line status.ReadFault end puts
 IsReadingEnd input.Memory end puts = EndsOutOfMemory end puts
+
+-- the puts of a text that others follow: it was taken; or the run ends with this status, since it wasn't taken, or memory ran out before
+abbrev pub IsFirstPut : Text → Option Status → List Put → Type 0
+IsFirstPut text answer puts = IsPut text answer puts ⊎ ((end : Status) × (answer ≡ Some end) × EndsOutOfMemory end puts)
 
 -- the refusal of a bad name, or lack of memory for it
 abbrev pub IsNamedFault : InputFault → Type 0
@@ -81,6 +85,7 @@ IsValid (Checking limits d s listing) = AreDecks d × IsListed d.first listing
 IsValid (Jobs jobs) = All IsValidJob jobs
 IsValid (Writing m) = IsModel m
 IsValid (Comparing a b case) = (AreAlike a b.model → ⊥) ⊎ IsValid case
+IsValid (After text case) = IsValid case
 IsValid other = Unit {0}
 
 -- all facts of the result of a run of this case: what was read is valid, unless the run stopped before it was read whole

@@ -14,7 +14,7 @@ use Rattle.listing_run.specs.declared.text.ListingEnd.TheVariants as ends
 use Rattle.listing_run.specs.{AllSteps}
 use Rattle.check_run.specs.declared.verdict.ListingVerdict.TheVariants.{Certified}
 use Rattle.check_run.specs.{IsVerdict}
-use Rattle.engine.specs.Cases.{Case, Checking, Listing, Making, Comparing, Jobs, Writing, case_of}
+use Rattle.engine.specs.Cases.{After, Case, Checking, Listing, Making, Comparing, Jobs, Saying, Writing, case_of}
 use Rattle.deck_span.specs.{AreAlike}
 use Rattle.engine.specs.Made.{made_task}
 use Rattle.engine.specs.Defined.{Defines, Due, CutOf}
@@ -39,6 +39,7 @@ IsPlainJob job = IfOk job.read (λ k. k.quick ≡ false)
 abbrev pub IsPlain : Case → Type 0
 IsPlain (Listing k) = k.quick ≡ false
 IsPlain (Comparing a b case) = IsPlain case
+IsPlain (After text case) = IsPlain case
 IsPlain (Jobs jobs) = All IsPlainJob jobs
 IsPlain other = Unit {0}
 
@@ -54,13 +55,16 @@ pub record GoesThrough (task : Task) : Type 0 where
   pub none_open : (before : List Step) (at : TimeStep) → AllSteps task before (ends.Unfinished at) → ⊥
 
 -- The case goes well: the listing that is put, or summed up, goes through, or that of each job of a batch; the listing that is checked
--- has the verdict that it is certified; a deck is written; or the two decks that are compared are alike, and their case goes well.
+-- has the verdict that it is certified; a deck is written; a text is said; or the two decks that are compared are alike, and their case goes
+-- well, or that after a text.
 abbrev pub GoesWell : Case → Type 0
 GoesWell (Listing k) = GoesThrough k
 GoesWell (Making seed size (Ok m)) = GoesThrough (made_task m)
 GoesWell (Checking limits d s listing) = IsVerdict limits d s listing.zones listing.steps Certified
 GoesWell (Jobs jobs) = All (λ job. (task : Task) × (job.read ≡ Ok task) × GoesThrough task) jobs
 GoesWell (Writing m) = Unit {0}
+GoesWell (Saying text) = Unit {0}
+GoesWell (After text case) = GoesWell case
 GoesWell (Comparing a b case) = AreAlike a b.model × GoesWell case
 GoesWell other = ⊥
 

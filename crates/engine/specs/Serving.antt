@@ -1,10 +1,12 @@
 -- How a program ends that runs its words and ends with the number of the run's status.
-use Rattle.std.specs.Prelude.{◌≡◌, ◌⊎◌, ℕ, List, Option, Some, true, [], ◌∷◌, ◌++◌, None, option_to_list}
+use Rattle.std.specs.Prelude.{◌≡◌, ◌⊎◌, ℕ, Bool, List, Option, Some, true, false, [], ◌∷◌, ◌++◌, None, option_to_list}
+use Rattle.std.specs.Io.KnownBytes.{Appends}
 use Rattle.outside.specs.{FileSet, Put, Rose, Seen}
 use Rattle.run_puts.specs.{Text, code_of}
 use Rattle.run_puts.specs.declared.puts.Status.{Status}
 use Rattle.run_puts.specs.declared.puts.Status.TheVariants as status
 use Rattle.engine.specs.Certified.{Certified}
+use Rattle.engine.specs.DeckListing.{DeckHeadline, DeckSpanHeadline, OneDeckListing, OneDeckSpan}
 use Rattle.engine.specs.Decks.{OneDeck}
 use Rattle.engine.specs.Headline.{Headline}
 use Rattle.engine.specs.Made.{Made}
@@ -13,8 +15,9 @@ use Rattle.engine.specs.SpanHeadline.{OneSpan, SpanCertified, SpanHeadline, Span
 use Rattle.engine.specs.Parts.{IsStopped}
 use Rattle.engine.specs.Runs.{EndsOk, EndIsDefined, Puts}
 use Rattle.engine.specs.Watched.{SidePuts, Watched, views_in}
+use Rattle.engine.specs.Words.{words_text}
 use Rattle.engine.specs.Batched.{Batched, HasNoList}
-use Rattle.command_line.specs.{AskedBatch, Batch, Check, Make, Run, Wanted, Write, order_of_words}
+use Rattle.command_line.specs.{AskedBatch, Batch, Check, CheckText, ListingOrder, Make, Run, Wanted, Words, Write, order_of_words}
 use Rattle.engine.specs.Cases.{case_of}
 use Rattle.model_types.specs.{most_bytes}
 use Rattle.model_types.specs.declared.limits.Limits.{Limits}
@@ -22,13 +25,15 @@ use Rattle.model_types.specs.declared.limits.Limits.TheVariants.{Plain}
 
 -- The files that the words name, and how many bytes of one are read.
 -- the name file of a run, the second one if there is one, and its zone file if there is one; the same of a check, and its
--- listing; the list of a batch; the name file of a deck
+-- listing; the list of a batch; the name file of a deck; none to make a model, and to say the words
 abbrev pub files_of : Wanted → List Text
 files_of (Run asked to) = asked.name ∷ (option_to_list to ++ option_to_list asked.zones)
 files_of (Check asked to) = asked.name ∷ (option_to_list to ++ (option_to_list asked.zones ++ asked.listing ∷ []))
 files_of (Make seed size) = []
 files_of (Batch asked) = asked.list ∷ []
 files_of (Write limits name) = name ∷ []
+files_of (CheckText asked) = asked.text ∷ []
+files_of Words = []
 
 abbrev pub files_if : Option Wanted → List Text
 files_if None = []
@@ -44,35 +49,62 @@ limits_asked (Some (Run asked to)) = asked.limits
 limits_asked (Some (Check asked to)) = asked.limits
 limits_asked (Some (Batch asked)) = asked.limits
 limits_asked (Some (Write limits name)) = limits
+limits_asked (Some (CheckText asked)) = asked.limits
 limits_asked other = Plain
 
 -- how many bytes of a file are read
 abbrev pub bytes_asked : List Text → ℕ
 bytes_asked words = most_bytes (limits_asked (order_of_words words))
 
+-- The words were said.
+abbrev pub Said : Seen → Seen → Type 0
+Said old new = Appends old.written new.written words_text
+
+-- The headline of a run; of one with --deck, which has put the text of the deck first; and the same of two decks.
+abbrev pub RunHeadline : (deck : Bool) → ListingOrder → FileSet → Seen → Seen → Type 0
+RunHeadline false asked files old new = Headline asked files old.written new.written
+RunHeadline true asked files old new = DeckHeadline asked files old.written new.written
+
+abbrev pub RunSpanHeadline : (deck : Bool) → ListingOrder → Text → FileSet → Seen → Seen → Type 0
+RunSpanHeadline false asked to files old new = SpanHeadline asked to files old.written new.written
+RunSpanHeadline true asked to files old new = DeckSpanHeadline asked to files old.written new.written
+
 -- The headline of an order: of a listing, or of one of two decks; of a check, or of one of two decks; of a made model, whose listing is
--- summed up; of each listing of a batch; or of a deck.
+-- summed up; of each listing of a batch; of a deck; or of the words.
 abbrev pub HeadlineOf : Option Wanted → FileSet → Status → Seen → Seen → Type 0
 HeadlineOf None files end old new = ⊥
-HeadlineOf (Some (Run asked None)) files end old new = Headline asked files old.written new.written
-HeadlineOf (Some (Run asked (Some to))) files end old new = SpanHeadline asked to files old.written new.written
+HeadlineOf (Some (Run asked None)) files end old new = RunHeadline asked.deck asked files old new
+HeadlineOf (Some (Run asked (Some to))) files end old new = RunSpanHeadline asked.deck asked to files old new
 HeadlineOf (Some (Check asked None)) files end old new = Certified asked files old.written new.written
 HeadlineOf (Some (Check asked (Some to))) files end old new = SpanCertified asked to files old.written new.written
 HeadlineOf (Some (Make seed size)) files end old new = Made seed size old.written new.written
 HeadlineOf (Some (Batch asked)) files end old new = Batched asked files end old.written new.written
 HeadlineOf (Some (Write limits name)) files end old new = OneDeck limits name files old.written new.written
+HeadlineOf (Some (CheckText asked)) files end old new = ⊥
+HeadlineOf (Some Words) files end old new = Said old new
+
+-- The one listing of a run, and of two decks, after their text with --deck.
+abbrev pub OneRun : (deck : Bool) → ListingOrder → FileSet → Seen → Seen → Type 0
+OneRun false asked files old new = OneListing asked files old.written new.written
+OneRun true asked files old new = OneDeckListing asked files old.written new.written
+
+abbrev pub OneRunSpan : (deck : Bool) → ListingOrder → Text → FileSet → Seen → Seen → Type 0
+OneRunSpan false asked to files old new = OneSpan asked to files old.written new.written
+OneRunSpan true asked to files old new = OneDeckSpan asked to files old.written new.written
 
 -- And what was put is the one listing that the files define, or with --quick one by certificates; or each step of the one that was
--- checked is certified; or what was put sums it up, or is the one deck.
+-- checked is certified; or what was put sums it up, is the one deck, or is the words.
 abbrev pub OneOf : Option Wanted → FileSet → Status → Seen → Seen → Type 0
 OneOf None files end old new = ⊥
-OneOf (Some (Run asked None)) files end old new = OneListing asked files old.written new.written
-OneOf (Some (Run asked (Some to))) files end old new = OneSpan asked to files old.written new.written
+OneOf (Some (Run asked None)) files end old new = OneRun asked.deck asked files old new
+OneOf (Some (Run asked (Some to))) files end old new = OneRunSpan asked.deck asked to files old new
 OneOf (Some (Check asked None)) files end old new = OneVerdict asked files old.written new.written
 OneOf (Some (Check asked (Some to))) files end old new = SpanVerdict asked to files old.written new.written
 OneOf (Some (Make seed size)) files end old new = OneSummary seed size old.written new.written
 OneOf (Some (Batch asked)) files end old new = Batched asked files end old.written new.written
 OneOf (Some (Write limits name)) files end old new = OneDeck limits name files old.written new.written
+OneOf (Some (CheckText asked)) files end old new = ⊥
+OneOf (Some Words) files end old new = Said old new
 
 -- What a run of this order has come to. `agrees` are the files that agree with all results of its folder, which counted `before` and then
 -- `after` faults; `leads` and `leads_beside` say which puts take `out` and `side` from before it to after it, and `out` was seen as

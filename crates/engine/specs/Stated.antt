@@ -9,7 +9,7 @@ use Rattle.model_types.specs.declared.limits.Limits.{Limits}
 use Rattle.model_types.specs.{start_head, times, most_bytes, IsModel}
 use Rattle.model_reader.specs.{reads}
 use Rattle.array_text.specs.{IsShort}
-use Rattle.model_text.specs.{deck_name, deck_text, deck_files}
+use Rattle.model_text.specs.{deck_name, deck_files, zoned_text}
 use Rattle.flow_equations.specs.{Solves}
 use Rattle.deck_problems.specs.{one_deck}
 use Rattle.deck_span.specs.{SolvesBetween}
@@ -24,18 +24,19 @@ use Rattle.engine.specs.Headline.{Headline, ListsPairs}
 use Rattle.engine.specs.OneListing.{OneListing}
 use Rattle.engine.specs.SpanHeadline.{SpanHeadline}
 
--- Between the bytes `old` and the bytes `new` stands the text of a deck, and then a listing of its model, with these zones of its cells
--- if there is a zone file; and every history of heads that solves the manual's exact equations of this model lies, step by step and
+-- Between the bytes `old` and the bytes `new` stands the text of a deck, with the zones of its cells if there are some, and then a listing of
+-- its model; and every history of heads that solves the manual's exact equations of this model lies, step by step and
 -- cell by cell, between the listed heads, with each of its budget flows between its terms, and each of its flows between two zones
 -- between its two numbers.
-pub record Stated (zones : Option (List ℕ)) (old new : Option (List ℕ)) : Type 0 where
+pub record Stated (old new : Option (List ℕ)) : Type 0 where
   -- The model is valid.
   pub model : FlowModel
   pub valid : IsModel model
-  -- Its deck, and then the listing of some values, which are the heads, the budget and the flows between zones of each step, was appended, and nothing else.
+  -- Its deck, with the zones of its cells, and then the listing of some values, which are the heads, the budget and the flows between zones of each step, was appended, and nothing else.
+  pub zones : Option (List ℕ)
   pub digits : ℕ
   pub values : List Step
-  pub written : Appends old new (deck_text model ++ concat (listing (checked_task (one_deck model) digits zones) values end_line))
+  pub written : Appends old new (zoned_text model zones ++ concat (listing (checked_task (one_deck model) digits zones) values end_line))
   -- The block of each time step stands under its own line STEP, and lists the flow between each two zones that share a face.
   pub at : map (λ v. v.at) values ≡ times model
   pub pairs : All (ListsPairs model zones) values
@@ -48,16 +49,17 @@ pub record Stated (zones : Option (List ℕ)) (old new : Option (List ℕ)) : Ty
 
 -- The same of the texts of two decks, and then a listing of all models between them: every history of heads each step of which solves
 -- the manual's exact equations of some model between the two decks, chosen anew at each step, lies within it.
-pub record SpanStated (zones : Option (List ℕ)) (old new : Option (List ℕ)) : Type 0 where
+pub record SpanStated (old new : Option (List ℕ)) : Type 0 where
   -- The models are valid.
   pub first : FlowModel
   pub valid : IsModel first
   pub second : FlowModel
   pub valid_to : IsModel second
-  -- Both decks, and then the listing of some values, which are the heads, the budget and the flows between zones of each step, were appended, and nothing else.
+  -- Both decks, each with the zones of its cells, and then the listing of some values, which are the heads, the budget and the flows between zones of each step, were appended, and nothing else.
+  pub zones : Option (List ℕ)
   pub digits : ℕ
   pub values : List Step
-  pub written : Appends old new (deck_text first ++ (deck_text second ++ concat (listing (checked_task (two first second) digits zones) values end_line)))
+  pub written : Appends old new (zoned_text first zones ++ (zoned_text second zones ++ concat (listing (checked_task (two first second) digits zones) values end_line)))
   -- The block of each time step stands under its own line STEP, and lists the flow between each two zones that share a face.
   pub at : map (λ v. v.at) values ≡ times first
   pub pairs : All (ListsPairs first zones) values
@@ -68,17 +70,18 @@ pub record SpanStated (zones : Option (List ℕ)) (old new : Option (List ℕ)) 
   pub choices : ChoicesHaveOne first second
 
 -- Laws.
--- Where `heads write` has put the deck of some files, and then `heads run` a listing of the same files by the same limits, what they put is so.
+-- Where `heads write` has put the deck of some files, and then `heads run`, without a zone file, a listing of the same files by the same limits,
+-- what they put is so, as if `heads run --deck` had put it.
 abbrev pub DeckAndListingAreStated : Type 0
 DeckAndListingAreStated =
     (asked : ListingOrder) (files : FileSet) (old mid new : Option (List ℕ)) → OneDeck asked.limits asked.name files old mid →
-    (h : Headline asked files mid new) → Stated h.zones old new
+    (h : Headline asked files mid new) → h.zones ≡ None → Stated old new
 
 -- So it is where both decks were put, and then a listing of the two.
 abbrev pub DecksAndListingAreStated : Type 0
 DecksAndListingAreStated =
     (asked : ListingOrder) (to : Text) (files : FileSet) (old mid last new : Option (List ℕ)) → OneDeck asked.limits asked.name files old mid →
-    OneDeck asked.limits to files mid last → (h : SpanHeadline asked to files last new) → SpanStated h.zones old new
+    OneDeck asked.limits to files mid last → (h : SpanHeadline asked to files last new) → h.zones ≡ None → SpanStated old new
 
 -- Two runs without --quick, by the same limits, digits and rounds, whose files read as the same model with the same zones, put the same bytes.
 abbrev pub SameModelHasSameListing : Type 0

@@ -12,7 +12,8 @@ use std::alloc::{AllocError, Global};
 #[derive(Drop)]
 pub struct AskedFiles<'a> {
     /// The names of the files that it may be asked for: the name file of a run, the second one, and its zone file; the same
-    /// of a check, and its listing; the list of a batch; the name file of a deck. None where the words aren't accepted.
+    /// of a check, and its listing; the list of a batch; the name file of a deck. None where the words aren't accepted, to make a
+    /// model, and for the words.
     pub names: Vec<&'a str>,
     /// How many bytes of a file are read, by the limits.
     pub limit: u64,
@@ -46,7 +47,11 @@ fn files_of<'a>(alloc: Global, order: Order<'a>) -> Result<AskedFiles<'a>, Alloc
             names.push(asked.listing)?;
             asked.limits
         }
-        Order::Make(_) => Limits::Plain,
+        Order::Make(_) | Order::Words => Limits::Plain,
+        Order::CheckText(asked) => {
+            names.push(asked.text)?;
+            asked.limits
+        }
         Order::Batch(asked) => {
             names.push(asked.list)?;
             asked.limits

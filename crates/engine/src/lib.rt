@@ -16,6 +16,7 @@ mod running;
 mod two_decks;
 mod verdict;
 mod viewing;
+mod words;
 mod writing;
 pub mod zoned;
 

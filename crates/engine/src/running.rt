@@ -1,10 +1,11 @@
-ghost use Rattle.std.specs.Prelude.{◌≡◌, map, IfOk, IfSome, Ok, Option, Some, true};
+ghost use Rattle.std.specs.Prelude.{◌≡◌, map, false, IfOk, IfSome, Ok, Option, Some, true};
 ghost use Rattle.outside.specs.{WordsMay, folder_name, FileSet, Rose};
 ghost use Rattle.engine.specs.{files_named, files_of, but_batch, case_of, decks_task, IsOrder, ReadsNothing, views_in, IsRunResult, MayRead, AnswersBeside};
-ghost use Rattle.engine.specs.{AreDecksAs, IsWatched, ViewPutsOf};
+ghost use Rattle.engine.specs.{After, AreDecksAs, IsRunOf, IsWatched, Listing, ViewPutsOf, after_text, case_listed, decks_text};
 ghost use Rattle.command_line.specs.{asked_of, text_if, wanted_by, order_of_words, Run, Wanted};
-ghost use Rattle.run_puts.specs.{IsRun, PutsMore};
-ghost use Rattle.listing_run.specs.{IsListingBeside, IsCutListing};
+ghost use Rattle.run_puts.specs.{PutsMore};
+ghost use Rattle.listing_run.specs.{IsTask};
+ghost use Rattle.settle_driver.specs.{IsPlan};
 ghost use Rattle.zone_pairs.specs.{AreZones};
 ghost use Rattle.deck_problems.specs.{AreDecks};
 
@@ -14,13 +15,14 @@ use crate::listing::{TURNS, put_listing};
 use crate::making::put_made;
 use crate::reading::read_zones_of;
 use crate::two_decks::read_decks;
-use crate::writing::write;
+use crate::words::put_words;
+use crate::writing::{put_decks_text, write};
 use check_run::laws::one_verdict;
 use command_line::{Order, RunOrder, WordsFault, read_order};
 use deck_problems::Decks;
 use deck_span::laws::one_difference;
-use listing_run::Task;
 use listing_run::laws::one_listing;
+use listing_run::{Task, zone_slice};
 use model_types::Listed;
 use outside::{Folder, Gate, Sink};
 use run_puts::{Status, put_last, put_memory};
@@ -35,8 +37,8 @@ const USAGE: &[u8] =
 /// if the words name a zone file, and puts its listing to `out`, step by step. `make SEED SIZE` makes a model, without the
 /// folder, and puts the summary of its listing. `check NAME LISTING` reads the model and a listing of it, whoever wrote
 /// it, and puts whether it is certified, or else the first place that fails. With `--to NAME2` both read a second deck too,
-/// compare it with the first, and list or check bounds for all models between the two. `write NAME` reads the model and puts
-/// its deck in one spelling. With `--wide` the limits of the model are wide ones. Workers in threads settle each step, and pass
+/// compare it with the first, and list or check bounds for all models between the two. With `--deck` a run puts the text of its
+/// decks first, as one piece. `write NAME` reads the model and puts its deck in one spelling. `words` puts what each word does. With `--wide` the limits of the model are wide ones. Workers in threads settle each step, and pass
 /// the gate before each turn; a check has none. With `--watch N` one more seat makes N views of the heads in each phase, and
 /// each is put to `side` as one piece, up to the first put that fails; the run then ends, with WriteFault if a write
 /// failed. For a batch, which only `run` does, it puts the usage line.
@@ -101,6 +103,8 @@ pub(crate) fn run_order<
             Order::Check(asked) => check(alloc, asked, folder, out),
             Order::Make(asked) => put_made(rt, alloc, asked, out, gate),
             Order::Write { limits, name } => write(alloc, limits, name, folder, out),
+            Order::Words => put_words(out),
+            Order::CheckText(_) => put_last(out, USAGE, Status::Usage),
             Order::Batch(_) => put_last(out, USAGE, Status::Usage),
         },
         Err(WordsFault::Usage) => put_last(out, USAGE, Status::Usage),
@@ -108,7 +112,63 @@ pub(crate) fn run_order<
     }
 }
 
-// Puts the listing of decks.
+// Puts the text of a task's decks as one piece, and then its listing, each step settled by this plan.
+fn put_after_text<R: Threads + Sync, K: Sink + Send, W: Sink + Send, G: Gate + Sync>(
+    rt: &R,
+    alloc: Global,
+    task: &Task,
+    plan: Plan,
+    views: Option<u32>,
+    out: &mut K,
+    side: &mut W,
+    gate: &G,
+) -> Status
+    requires task { IsTask task.now }
+    requires plan { IsPlan plan }
+    requires rounds { plan.rounds ≡ task.now.rounds }
+    requires plain { IfSome views (λ n. task.now.quick ≡ false) }
+    ensures puts { PutsMore K.leads out.old out.new (λ more.
+        IsRunOf ⊥ (Rose (W.seen side.old).faults (W.seen side.new).faults)
+        (After (decks_text task.now.decks task.now.zones) (Listing task.now)) result more
+        × (result ≡ Status.Ok → IfSome views (λ n. IsWatched true task.now n (λ puts. W.leads side.old puts side.new)))) }
+    ensures side { ViewPutsOf task.now (λ puts. W.leads side.old puts side.new) views }
+{
+    match put_decks_text(alloc, &task.decks, zone_slice(&task.zones), out) {
+        None => put_listing(rt, alloc, task, plan, views, out, side, gate),
+        Some(status) => status,
+    }
+}
+
+// Puts the listing of a task; first the text of its decks, if that is asked for.
+fn put_task<R: Threads + Sync, K: Sink + Send, W: Sink + Send, G: Gate + Sync>(
+    rt: &R,
+    alloc: Global,
+    deck: bool,
+    task: &Task,
+    plan: Plan,
+    views: Option<u32>,
+    out: &mut K,
+    side: &mut W,
+    gate: &G,
+) -> Status
+    requires task { IsTask task.now }
+    requires plan { IsPlan plan }
+    requires rounds { plan.rounds ≡ task.now.rounds }
+    requires plain { IfSome views (λ n. task.now.quick ≡ false) }
+    ensures puts { PutsMore K.leads out.old out.new (λ more.
+        IsRunOf ⊥ (Rose (W.seen side.old).faults (W.seen side.new).faults)
+        (after_text deck (decks_text task.now.decks task.now.zones) (Listing task.now)) result more
+        × (result ≡ Status.Ok → IfSome views (λ n. IsWatched true task.now n (λ puts. W.leads side.old puts side.new)))) }
+    ensures side { ViewPutsOf task.now (λ puts. W.leads side.old puts side.new) views }
+{
+    if deck {
+        put_after_text(rt, alloc, task, plan, views, out, side, gate)
+    } else {
+        put_listing(rt, alloc, task, plan, views, out, side, gate)
+    }
+}
+
+// Puts the listing of decks; with --deck their text first.
 fn put_decks<'a, R: Threads + Sync, K: Sink + Send, W: Sink + Send, G: Gate + Sync>(
     rt: &R,
     alloc: Global,
@@ -122,8 +182,7 @@ fn put_decks<'a, R: Threads + Sync, K: Sink + Send, W: Sink + Send, G: Gate + Sy
     requires decks { AreDecks decks }
     requires zones { AreZones decks.first zones }
     ensures puts { PutsMore K.leads out.old out.new (λ more.
-        IsRun (IsListingBeside (Rose (W.seen side.old).faults (W.seen side.new).faults) (decks_task (asked_of asked.entry) decks zones))
-        (IsCutListing (decks_task (asked_of asked.entry) decks zones)) result more
+        IsRunOf ⊥ (Rose (W.seen side.old).faults (W.seen side.new).faults) (case_listed (asked_of asked.entry) decks zones) result more
         × (result ≡ Status.Ok → IfSome asked.entry.watch
         (λ n. IsWatched true (decks_task (asked_of asked.entry) decks zones) n (λ puts. W.leads side.old puts side.new)))) }
     ensures side { ViewPutsOf (decks_task (asked_of asked.entry) decks zones) (λ puts. W.leads side.old puts side.new) asked.entry.watch }
@@ -141,7 +200,17 @@ fn put_decks<'a, R: Threads + Sync, K: Sink + Send, W: Sink + Send, G: Gate + Sy
         turns_per_cell: TURNS,
         rounds: asked.rounds,
     };
-    let status = put_listing(rt, alloc, &task, plan, asked.watch, out, side, gate);
+    let status = put_task(
+        rt,
+        alloc,
+        asked.deck,
+        &task,
+        plan,
+        asked.watch,
+        out,
+        side,
+        gate,
+    );
     // one call, so that the proof has no part for each of its fields
     drop(task);
     status

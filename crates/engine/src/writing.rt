@@ -1,18 +1,20 @@
-// The deck of a model of the folder.
-ghost use Rattle.std.specs.Prelude.{Some};
+// The deck of a model of the folder, and the text of decks before their listing.
+ghost use Rattle.std.specs.Prelude.{◌≡◌, ◌++◌, IfOk, IfSome, Some, option_map};
 ghost use Rattle.outside.specs.{folder_name, FileSet};
 ghost use Rattle.model_types.specs.{HasSize};
 ghost use Rattle.run_puts.specs.{IsRun, NeverCut, PutsMore};
 ghost use Rattle.command_line.specs.{Write};
-ghost use Rattle.engine.specs.{IsDeck, case_of, Answers};
+ghost use Rattle.deck_problems.specs.{AreDecks};
+ghost use Rattle.engine.specs.{IsDeck, IsFirstPut, case_of, decks_text, second_text, Answers};
 
 use crate::ending::end_reading;
 use crate::two_decks::read_decks;
+use deck_problems::Decks;
 use model_types::{FlowModel, Limits};
-use model_writer::write_deck;
+use model_writer::{push_deck, write_deck};
 use outside::{Folder, Sink};
-use run_puts::{Status, put_line};
-use std::alloc::Global;
+use run_puts::{Status, put_line, put_memory, put_piece};
+use std::alloc::{AllocError, Global};
 
 /// Puts the deck of a model as one piece.
 pub(crate) fn put_deck<K: Sink>(alloc: Global, model: &FlowModel, out: &mut K) -> Status
@@ -44,5 +46,48 @@ pub(crate) fn write<F: Folder, K: Sink>(
             status
         }
         Err(fault) => end_reading(alloc, fault, out),
+    }
+}
+
+// Appends the text of a second deck with these zones of its cells, if there is one.
+fn push_second(
+    text: &mut Vec<u8>,
+    second: Option<&FlowModel>,
+    zones: Option<&[u32]>,
+) -> Result<(), AllocError>
+    requires { IfSome (option_map (λ m. m.now) second) (λ m. HasSize m.grid) }
+    ensures { IfOk result (λ _. text.new.items ≡ text.old.items
+        ++ second_text (option_map (λ m. m.now) second.entry) (option_map (λ z. z.now) zones.entry)) }
+{
+    match second {
+        None => Ok(()),
+        Some(model) => push_deck(text, model, zones),
+    }
+}
+
+// The text of decks, each with these zones of its cells.
+fn text_of(alloc: Global, decks: &Decks, zones: Option<&[u32]>) -> Result<Vec<u8>, AllocError>
+    requires { AreDecks decks.now }
+    ensures { IfOk result (λ text. text.items ≡ decks_text decks.now (option_map (λ z. z.now) zones.entry)) }
+{
+    let mut text = Vec::new(alloc);
+    push_deck(&mut text, &decks.first, zones)?;
+    push_second(&mut text, decks.second.as_ref(), zones)?;
+    Ok(text)
+}
+
+/// Puts the text of decks as one piece, each with these zones of its cells. If the result is a status, it ends the run.
+pub(crate) fn put_decks_text<K: Sink>(
+    alloc: Global,
+    decks: &Decks,
+    zones: Option<&[u32]>,
+    out: &mut K,
+) -> Option<Status>
+    requires { AreDecks decks.now }
+    ensures { PutsMore K.leads out.old out.new (IsFirstPut (decks_text decks.now (option_map (λ z. z.now) zones.entry)) result) }
+{
+    match text_of(alloc, decks, zones) {
+        Ok(text) => put_piece(out, text.as_slice()),
+        Err(_) => Some(put_memory(out)),
     }
 }

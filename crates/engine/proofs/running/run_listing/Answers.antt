@@ -1,4 +1,6 @@
-use Rattle.engine.proofs.Common.{List, ℕ, subst, Rose, Put, asked_of, AnswersBeside, text_if, Listing, Run, Some, case_of, decks_task, zones_read}
+use Rattle.engine.proofs.Common.{List, ℕ, subst, Rose, Put, asked_of, AnswersBeside, text_if, Listing, Run, Some, case_listed, case_of, decks_task, decks_text}
+use Rattle.engine.proofs.Common.{zones_read}
+use Rattle.engine.proofs.Afters.{after_reads}
 use Rattle.engine.proofs.Beside.{not_ok, reading_not_ok}
 use Rattle.engine.proofs.DeckEnds.{ends_undecked, to_list}
 use Rattle.engine.proofs.BatchEnds.{file_still}
@@ -17,7 +19,7 @@ pub returns-in-Err-clause-answers : goal.returns-in-Err-clause-answers
 returns-in-Err-clause-answers g c =
     let asked = asked_of c.args.asked in
     puts_more g.K.Sink.leads c.end_reading.ensures (λ more m files agree. not_ok _ _ (((g.met.W.Sink g.world.𝓛 g.world.𝓜 g.world.𝓡 ((λ s x. x), (λ x. x), (λ x. x), λ x. x))).rests c.args.side.now)
-    (ends_undecked asked.limits asked.name (text_if c.args.asked.to) files (to_list files asked) (λ d. read_reads (λ zones. Listing (decks_task asked d zones)) (λ z. tt) (zones_read files asked.zones d.first)) c.in-Err.fault (c.in-Err.ensures.reads files agree) c.in-Err.ensures.folder.counts m)
+    (ends_undecked asked.limits asked.name (text_if c.args.asked.to) files (to_list files asked) (λ d. read_reads (case_listed asked d) (λ z. after_reads asked.deck (decks_text d z) (Listing (decks_task asked d z)) tt) (zones_read files asked.zones d.first)) c.in-Err.fault (c.in-Err.ensures.reads files agree) c.in-Err.ensures.folder.counts m)
     (reading_not_ok c.in-Err.fault c.end_reading.result more m))
 
 pub list_decks-requires-clause-zones : goal.list_decks-requires-clause-zones

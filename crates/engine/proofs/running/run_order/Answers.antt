@@ -1,5 +1,5 @@
 use Rattle.engine.proofs.Common.{Err, None, ap, refl, subst, ReadsNothing, wanting_not_ok}
-use Rattle.engine.proofs.Ends.{ends_usage, ends_without_words, puts_more}
+use Rattle.engine.proofs.Ends.{ends_defined, ends_usage, ends_without_words, puts_more}
 use Rattle.engine.proofs.Beside.{not_ok, of_order, without_views}
 use Rattle.engine.proofs.BatchEnds.{may_do, order_read}
 use Rattle.engine.proofs.running.run_order.Goals as goal
@@ -11,7 +11,7 @@ returns-in-Err-Usage-clause-answers g c = λ one is.
 
 pub returns-in-Batch-clause-answers : goal.returns-in-Batch-clause-answers
 returns-in-Batch-clause-answers g c = λ one is.
-    puts_more g.K.Sink.leads c.put_last.ensures (λ more m files agree. without_views files one None
+    puts_more g.K.Sink.leads c.put_last-in-Batch.ensures (λ more m files agree. without_views files one None
     (((g.met.W.Sink g.world.𝓛 g.world.𝓜 g.world.𝓡 ((λ s x. x), (λ x. x), (λ x. x), λ x. x))).rests c.args.side.now) (order_read one c.args.read _ _ is.0 c.in-Ok.is c.in-Batch.is) refl (ends_usage m))
 
 pub returns-in-Err-Memory-clause-answers : goal.returns-in-Err-Memory-clause-answers
@@ -56,3 +56,13 @@ check-requires-clause-listing g c = (may_do (g.F.Folder.may c.args.folder.now) c
 
 pub write-requires : goal.write-requires
 write-requires g c = record { name = may_do (g.F.Folder.may c.args.folder.now) c.args.read _ _ c.requires.may c.in-Ok.is c.in-Write.is }
+
+pub returns-in-Words-clause-answers : goal.returns-in-Words-clause-answers
+returns-in-Words-clause-answers g c = λ one is.
+    puts_more g.K.Sink.leads c.put_words.ensures (λ more m files agree. without_views files one _
+    (((g.met.W.Sink g.world.𝓛 g.world.𝓜 g.world.𝓡 ((λ s x. x), (λ x. x), (λ x. x), λ x. x))).rests c.args.side.now) (order_read one c.args.read _ _ is.0 c.in-Ok.is c.in-Words.is) refl (ends_defined m tt))
+
+pub returns-in-CheckText-clause-answers : goal.returns-in-CheckText-clause-answers
+returns-in-CheckText-clause-answers g c = λ one is.
+    puts_more g.K.Sink.leads c.put_last.ensures (λ more m files agree. without_views files one _
+    (((g.met.W.Sink g.world.𝓛 g.world.𝓜 g.world.𝓡 ((λ s x. x), (λ x. x), (λ x. x), λ x. x))).rests c.args.side.now) (order_read one c.args.read _ _ is.0 c.in-Ok.is c.in-CheckText.is) refl (ends_usage m))

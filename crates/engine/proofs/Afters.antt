@@ -1,0 +1,104 @@
+-- A run that puts a text first, and then what is due without it.
+use Rattle.engine.proofs.Common.{[], ◌≡◌, ◌++◌, ◌∷◌, Bool, true, false, List, None, Option, Some, inl, inr, refl, subst, sym, ◌∙◌, Put, Text, Status, whole_put}
+use Rattle.engine.proofs.Common.{After, Begins, Case, CutOf, Due, IsCutListing, IsFirstPut, IsListingBeside, IsListingOf, IsRun, IsRunOf, IsValid, Listing}
+use Rattle.engine.proofs.Common.{PutsMore, ReadsFolder, Task, after_text, all_due, broken_off, cut, defined, early, joined, lacks_at_first, left, listed}
+use Rattle.engine.proofs.Common.{nothing, put_not_ok, unread, wanting_not_ok, weaker, whole, ViewPutsOf, ℕ}
+use Rattle.engine.proofs.DeckEnds.{run_map}
+use Rattle.run_puts.specs.declared.puts.Status.TheVariants as status
+
+-- puts of which this holds, and then puts of which that holds
+pub puts_then : {S : Type 0} {old mid new : S} {P Q R : List Put → Type 0} (leads : S → List Put → S → Type 0) → PutsMore leads old mid P → PutsMore leads mid new Q → ((first more : List Put) → P first → Q more → R (first ++ more)) → PutsMore leads old new R
+puts_then {S} {old} {mid} {new} leads first second joins = λ start puts h.
+    let a = first start puts h in
+    let b = second start (puts ++ a.0) a.1 in
+    (a.0 ++ b.0, joined (λ ps. leads start ps new) puts a.0 b.0 b.1, joins a.0 b.0 a.2 b.2)
+
+-- a run of a listing beside which views were put, as one of its case
+pub listing_run : (beside : Type 0) (k : Task) (end : Status) (puts : List Put) → IsRun (IsListingBeside beside k) (IsCutListing k) end puts → IsRunOf ⊥ beside (Listing k) end puts
+listing_run beside k = run_map due (λ pieces c. c)
+  where
+    due : (end : Status) (pieces : List Text) → IsListingBeside beside k end pieces → Due ⊥ beside (Listing k) end pieces
+    due end pieces (listed meant all d) = defined meant all d
+    due end pieces (left all f d) = broken_off all f d
+
+-- a run in which no read failed
+pub never_unread : (failed beside : Type 0) (c : Case) (end : Status) (puts : List Put) → IsRunOf ⊥ beside c end puts → IsRunOf failed beside c end puts
+never_unread failed beside c = weaker (Due ⊥ beside c) (Due failed beside c) (CutOf c) due
+  where
+    due : (end : Status) (pieces : List Text) → Due ⊥ beside c end pieces → Due failed beside c end pieces
+    due end pieces (defined meant all d) = defined meant all d
+    due end pieces (unread f) = absurd f.0
+    due end pieces (broken_off all f d) = broken_off all f d
+
+module _ (beside : Type 0) (text : Text) (case : Case) where
+  alone : CutOf (After text case) (text ∷ [])
+  alone = record { others = []; are = refl; then = inl refl }
+
+  due_after : (end : Status) (pieces : List Text) → Due ⊥ beside case end pieces → Due ⊥ beside (After text case) end (text ∷ pieces)
+  due_after end pieces (defined meant all d) = defined meant (text ∷ all) (record { others = all; are = refl; then = d })
+  due_after end pieces (unread f) = absurd f.0
+  due_after end pieces (broken_off all f c) = broken_off (text ∷ all) f (record { others = all; are = refl; then = inr c })
+
+  begins_after : (before after : List Text) → Begins (Due ⊥ beside case) (CutOf case) before after → Begins (Due ⊥ beside (After text case)) (CutOf (After text case)) (text ∷ before) after
+  begins_after before after nothing = cut (text ∷ []) [] alone
+  begins_after before after (all_due end some next rest d) = all_due end (text ∷ some) next rest (due_after end (some ++ (next ∷ rest)) d)
+  begins_after before after (cut some rest c) = cut (text ∷ some) rest (record { others = some ++ rest; are = refl; then = inr c })
+
+  after_run : (end : Status) (more : List Put) → IsRunOf ⊥ beside case end more → IsRunOf ⊥ beside (After text case) end (whole_put text ∷ more)
+  after_run end more (whole meant pieces due) = whole meant (text ∷ pieces) (due_after meant pieces due)
+  after_run end more (early meant before after tail b t) = early meant (text ∷ before) after tail (begins_after before after b) t
+
+  -- the text was taken, and then the case was run
+  pub run_after : (end : Status) (first more : List Put) → IsFirstPut text None first → IsRunOf ⊥ beside case end more → IsRunOf ⊥ beside (After text case) end (first ++ more)
+  run_after end first more (inl is) run = let P : List Put → Type 0 = λ ps. IsRunOf ⊥ beside (After text case) end (ps ++ more) in subst P (sym is) (after_run end more run)
+  run_after end first more (inr (other, same, w)) run = absurd (let bad : Path (Option Status) None (Some other) = same in cc)
+
+  -- the text ended the run
+  pub run_before : (end : Status) (puts : List Put) → IsFirstPut text (Some end) puts → IsRunOf ⊥ beside (After text case) end puts
+  run_before end puts (inl h) = early end [] (text ∷ []) puts (cut [] (text ∷ []) alone) (h [])
+  run_before end puts (inr (other, same, w)) =
+      let is : other ≡ end = (let both : Path (Option Status) (Some end) (Some other) = same in cc) in
+      let P : Status → Type 0 = λ s. IsRunOf ⊥ beside (After text case) s puts in
+      subst P is (lacks_at_first (Due ⊥ beside (After text case)) (CutOf (After text case)) other puts w)
+
+-- a run that the text ended didn't end Ok
+pub before_not_ok : (text : Text) (end : Status) (puts : List Put) → IsFirstPut text (Some end) puts → end ≡ status.Ok → ⊥
+before_not_ok text end puts (inl h) e = put_not_ok text end puts h e
+before_not_ok text end puts (inr (other, same, w)) e =
+    let is : end ≡ other = (let both : Path (Option Status) (Some end) (Some other) = same in cc) in
+    wanting_not_ok other puts w (sym is ∙ e)
+
+-- nothing was put to the side
+pub no_views : (k : Task) (leads : List Put → Type 0) (views : Option ℕ) → leads [] → ViewPutsOf k leads views
+no_views k leads None h = h
+no_views k leads (Some n) h = inl h
+
+-- A case after a text, if that is asked for.
+module _ (deck : Bool) (text : Text) where
+  pub after_lists : (k : Task) → IsListingOf k (after_text deck text (Listing k))
+  after_lists k = by_deck deck
+    where
+      by_deck : (b : Bool) → IsListingOf k (after_text b text (Listing k))
+      by_deck true = refl
+      by_deck false = refl
+
+  pub after_valid : (case : Case) → IsValid case → IsValid (after_text deck text case)
+  after_valid case h = by_deck deck
+    where
+      by_deck : (b : Bool) → IsValid (after_text b text case)
+      by_deck true = h
+      by_deck false = h
+
+  pub valid_after : (case : Case) → IsValid (after_text deck text case) → IsValid case
+  valid_after case = by_deck deck
+    where
+      by_deck : (b : Bool) → IsValid (after_text b text case) → IsValid case
+      by_deck true h = h
+      by_deck false h = h
+
+  pub after_reads : (case : Case) → ReadsFolder case → ReadsFolder (after_text deck text case)
+  after_reads case h = by_deck deck
+    where
+      by_deck : (b : Bool) → ReadsFolder (after_text b text case)
+      by_deck true = tt
+      by_deck false = h
