@@ -14,13 +14,13 @@ use Rattle.plan_difference.proofs.DifferenceBalance.{difference_solves_it}
 use Rattle.plan_difference.proofs.DifferenceExists.{difference_step_exists}
 
 -- lists that are related place by place: from the places, one after the other, and by what both are related to
-related_at : {X Y : Type 0} (R : X → Y → Type 0) (d : X) (e : Y) (xs : List X) (ys : List Y) → length xs ≡ length ys → ((c : ℕ) → c < length xs → R (get_or xs c d) (get_or ys c e)) → AllZip R xs ys
+pub related_at : {X Y : Type 0} (R : X → Y → Type 0) (d : X) (e : Y) (xs : List X) (ys : List Y) → length xs ≡ length ys → ((c : ℕ) → c < length xs → R (get_or xs c d) (get_or ys c e)) → AllZip R xs ys
 related_at R d e [] [] same each = tt
 related_at R d e [] (y ∷ ys) same each = absurd (omega arith)
 related_at R d e (x ∷ xs) [] same each = absurd (omega arith)
 related_at R d e (x ∷ xs) (y ∷ ys) same each = (each 0 (omega arith), related_at R d e xs ys (omega arith) (λ c h. each (suc c) (omega arith)))
 
-related_after : {X Y : Type 0} (R : X → Y → Type 0) (xs zs : List X) (ys ws : List Y) → AllZip R xs ys → AllZip R zs ws → AllZip R (xs ++ zs) (ys ++ ws)
+pub related_after : {X Y : Type 0} (R : X → Y → Type 0) (xs zs : List X) (ys ws : List Y) → AllZip R xs ys → AllZip R zs ws → AllZip R (xs ++ zs) (ys ++ ws)
 related_after R [] zs [] ws first second = second
 related_after R (x ∷ xs) zs (y ∷ ys) ws first second = (first.0, related_after R xs zs ys ws first.1 second)
 related_after _ _ _ _ _ first second = absurd first
@@ -93,7 +93,7 @@ module _ (d : ℕ) (X Y : ℕ → ℤ) (qs : ℕ → List ExactFlow) (e f g : Li
   links_back c [] all = All-nil (HasLinkBack g c)
   links_back c (x ∷ ls) all = All-cons (HasLinkBack g c) x ls (link_back c x (All-head (HasLinkBack e c) x ls all)) (links_back c ls (All-tail (HasLinkBack e c) x ls all))
 
-  equal_ends : HasEqualEnds e → HasEqualEnds g
+  pub equal_ends : HasEqualEnds e → HasEqualEnds g
   equal_ends ends c h = subst (λ (ls : List ExactLink). All (HasLinkBack g c) ls) (same_links c) (links_back c (cell_at e c).links (ends c (omega (arith, is.as_many))))
 
 pub differences_are_enclosed : EnclosesDifferences

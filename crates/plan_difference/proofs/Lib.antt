@@ -1,5 +1,6 @@
 mod Common
 pub mod Differences
+pub mod ExampleMet
 pub mod Shares
 pub mod Sames
 pub mod DifferenceBalance

@@ -77,7 +77,7 @@ to_the_left a b c =
 pub nothing_after : (f : Fraction) → Same (plus f (whole (pos 0))) f
 nothing_after f = let o = four_over f f f f in same_over o.n _ f _ o.za o.some (IsOver-plus o.n f (whole (pos 0)) o.za (pos 0) o.first (IsOver-none o.n)) o.first (omega (arith, ints))
 
-nothing_before : (f : Fraction) → Same f (plus (whole (pos 0)) f)
+pub nothing_before : (f : Fraction) → Same f (plus (whole (pos 0)) f)
 nothing_before f = let o = four_over f f f f in same_over o.n f _ o.za _ o.some o.first (IsOver-plus o.n (whole (pos 0)) f (pos 0) o.za (IsOver-none o.n) o.first) (omega (arith, ints))
 
 -- the difference of two sums, term by term
