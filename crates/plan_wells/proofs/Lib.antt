@@ -1,0 +1,5 @@
+pub mod Added
+pub mod Between
+pub mod PlanForms
+pub mod PutInPlace
+pub mod Valid

@@ -1,0 +1,6 @@
+use Rattle.std.proofs.Common.{◌≡◌, replicate}
+use Rattle.model_types.specs.{no_period}
+use Rattle.plan_wells.proofs.plan.no_periods.Given as goal
+
+abbrev pub invariant-loop : goal.invariant-loop
+invariant-loop l = l.periods.items ≡ replicate l.counter no_period
