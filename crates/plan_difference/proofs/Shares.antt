@@ -15,7 +15,7 @@ pub record IsPart (x y p q : ℤ) : Type 0 where
   pub at_most : r ≤ k
   pub same : pos k *ℤ (p -ℤ q) ≡ pos r *ℤ (x -ℤ y)
 
-not_negative : (z : ℤ) → pos 0 ≤ℤ z → (s : ℕ) × (z ≡ pos s)
+pub not_negative : (z : ℤ) → pos 0 ≤ℤ z → (s : ℕ) × (z ≡ pos s)
 not_negative (pos s) h = (s, refl)
 not_negative (negsuc s) h = absurd (omega (arith, ints))
 

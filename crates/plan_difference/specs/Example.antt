@@ -13,12 +13,9 @@ use Rattle.step_problem.specs.declared.entry.FixedKind.TheVariants.{Constant, Ge
 use Rattle.step_problem.specs.declared.entry.FlowKind.TheVariants.{Wells}
 use Rattle.step_problem.specs.Entries.{Entries}
 use Rattle.step_problem.specs.{head_at}
-use Rattle.cell_balance.specs.{ExactCell, ExactFlow, SolvesStep, cell_at}
+use Rattle.cell_balance.specs.{ExactCell, ExactFlow, SolvesStep, cell_at, one}
 use Rattle.plan_difference.specs.DifferenceStep.{AreFlowsApart, AreStepsInOneWeather, IsDifferenceStep}
 use Rattle.plan_difference.specs.AnyWeather.{BoundsDifferencesOf}
-
-abbrev pub one : Ratio
-one = record { num = 1; less = 0 }
 
 abbrev pub half : Ratio
 half = record { num = 1; less = 1 }

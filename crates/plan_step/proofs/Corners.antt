@@ -11,13 +11,8 @@ use Rattle.step_problem.specs.declared.heads.Side.{Side}
 use Rattle.step_problem.specs.declared.heads.Side.TheVariants.{High, Low}
 use Rattle.plan_step.specs.{acting, divided, acting_between}
 use Rattle.plan_step.proofs.Rounding.{divided_within, down_times, high_share, low_share, up_times}
-use Rattle.plan_step.proofs.Stretches.{IsStretch, natural}
-
-is_less : (a b : ℤ) → int_lt a b ≡ true → a <ℤ b
-is_less a b e = grind (arith, ints)
-
-not_less : (a b : ℤ) → int_lt a b ≡ false → b ≤ℤ a
-not_less a b e = grind (arith, ints)
+use Rattle.plan_step.proofs.Stretches.{IsStretch}
+use Rattle.plan_difference.proofs.Shares.{not_negative}
 
 -- the three cases of what acts
 pub data IsActing (side : Side) (c : ℕ) (foot low high : ℤ) (v : ℕ) : Type 0 where
@@ -29,6 +24,12 @@ pub acting_is : (side : Side) (c : ℕ) (foot low high : ℤ) → IsActing side 
 unfolding acting_between
 acting_is side c foot low high = by (int_lt low foot) (int_lt foot high) refl refl
   where
+    is_less : (a b : ℤ) → int_lt a b ≡ true → a <ℤ b
+    is_less a b e = grind (arith, ints)
+
+    not_less : (a b : ℤ) → int_lt a b ≡ false → b ≤ℤ a
+    not_less a b e = grind (arith, ints)
+
     by : (a b : Bool) → int_lt low foot ≡ a → int_lt foot high ≡ b →
         IsActing side c foot low high (cond (not a) c (cond (not b) 0 (divided side (c * unsigned_abs (high -ℤ foot)) (unsigned_abs (high -ℤ low)))))
     by false b e d = whole (not_less low foot e) refl
@@ -88,9 +89,9 @@ module _ (n : ℕ) (some : 0 < n) where
     where
       crossing : int_min x y <ℤ f → f <ℤ int_max x y → L <ℤ B → B <ℤ H → acting_between Low c B L H ≡ divided Low (c * unsigned_abs (H -ℤ B)) (unsigned_abs (H -ℤ L)) → acting_between Low c B L H * k ≤ c * r
       crossing under over a b e =
-          let (m, me) = natural (H -ℤ L) (omega (arith, ints)) in
-          let (p, pe) = natural (H -ℤ B) (omega (arith, ints)) in
-          let (t, te) = natural (int_max x y -ℤ H *ℤ pos n) (omega (arith, ints)) in
+          let (m, me) = not_negative (H -ℤ L) (omega (arith, ints)) in
+          let (p, pe) = not_negative (H -ℤ B) (omega (arith, ints)) in
+          let (t, te) = not_negative (int_max x y -ℤ H *ℤ pos n) (omega (arith, ints)) in
           let ways = is.across under over in
           let wide : (H -ℤ L) *ℤ pos n ≡ pos (m * n) = ap (λ (z : ℤ). z *ℤ pos n) me in
           let tall : (H -ℤ B) *ℤ pos n ≡ pos (p * n) = ap (λ (z : ℤ). z *ℤ pos n) pe in
@@ -120,9 +121,9 @@ module _ (n : ℕ) (some : 0 < n) where
     where
       crossing : int_min x y <ℤ f → f <ℤ int_max x y → L <ℤ B → B <ℤ H → acting_between High c B L H ≡ divided High (c * unsigned_abs (H -ℤ B)) (unsigned_abs (H -ℤ L)) → c * r ≤ (acting_between High c B L H * k)
       crossing under over a b e =
-          let (m, me) = natural (H -ℤ L) (omega (arith, ints)) in
-          let (p, pe) = natural (H -ℤ B) (omega (arith, ints)) in
-          let (t, te) = natural (H *ℤ pos n -ℤ int_max x y) (omega (arith, ints)) in
+          let (m, me) = not_negative (H -ℤ L) (omega (arith, ints)) in
+          let (p, pe) = not_negative (H -ℤ B) (omega (arith, ints)) in
+          let (t, te) = not_negative (H *ℤ pos n -ℤ int_max x y) (omega (arith, ints)) in
           let ways = is.across under over in
           let wide : (H -ℤ L) *ℤ pos n ≡ pos (m * n) = ap (λ (z : ℤ). z *ℤ pos n) me in
           let tall : (H -ℤ B) *ℤ pos n ≡ pos (p * n) = ap (λ (z : ℤ). z *ℤ pos n) pe in

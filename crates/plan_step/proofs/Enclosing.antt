@@ -12,7 +12,7 @@ use Rattle.step_problem.specs.declared.heads.Bound.{Bound}
 use Rattle.step_problem.specs.Entries.{Entries}
 use Rattle.step_problem.specs.{entries_at, no_entries}
 use Rattle.cell_balance.proofs.Denominators.{fraction_over}
-use Rattle.cell_balance.proofs.Enclosing.{same_over}
+use Rattle.cell_balance.proofs.Enclosing.{AllZip-map, same_over}
 use Rattle.cell_balance.proofs.Scaling.{IsOver-minus, IsOver-none}
 use Rattle.cell_balance.proofs.Zips.{AllZip-at, AllZip-length}
 use Rattle.cell_balance.specs.{CellEncloses, DrainEncloses, EvapEncloses, ExactCell, ExactFixed, ExactFlow, FixedEncloses, FlowEncloses, RiverEncloses, cell_at}
@@ -47,12 +47,6 @@ listed (suc n) Q each =
     first : (n : ℕ) (Q : ℕ → ExactCell → Type 0) (x : ExactCell) (g : List ExactCell) → Q 0 x → ((c : ℕ) → c < n → Q (suc c) (cell_at g c)) → (c : ℕ) → c < suc n → Q c (cell_at (x ∷ g) c)
     first n Q x g q at zero h = q
     first n Q x g q at (suc c) h = at c (omega arith)
-
-zip_map : {A B C D : Type 0} (R : A → B → Type 0) (S : C → D → Type 0) (f : A → C) (g : B → D) → ((a : A) (b : B) → R a b → S (f a) (g b)) → (xs : List A) (ys : List B) → AllZip R xs ys → AllZip S (map f xs) (map g ys)
-zip_map R S f g each [] [] all = tt
-zip_map R S f g each [] (y ∷ ys) all = absurd all
-zip_map R S f g each (x ∷ xs) [] all = absurd all
-zip_map R S f g each (x ∷ xs) (y ∷ ys) all = (each x y all.0, zip_map R S f g each xs ys all.1)
 
 zip_drop : {A B : Type 0} (R : A → B → Type 0) (n : ℕ) (ps : List A) (xs ys : List B) → n ≡ length xs → AllZip R ps (xs ++ ys) → AllZip R (drop n ps) ys
 zip_drop R zero ps [] ys e all = all
@@ -115,7 +109,7 @@ module _ (s : ℕ) where
             },
             record {
               id = base.id;
-              flows = zip_map (FlowEncloses s) (FlowEncloses s) turned turned_flow flow_turned _ _ (zip_drop (FlowEncloses s) (length p.flows) q.flows x.flows added (AllZip-length (FlowEncloses s) p.flows x.flows base.flows) flows);
+              flows = AllZip-map (FlowEncloses s) (FlowEncloses s) turned turned_flow flow_turned _ _ (zip_drop (FlowEncloses s) (length p.flows) q.flows x.flows added (AllZip-length (FlowEncloses s) p.flows x.flows base.flows) flows);
               links = base.links;
               fixed = related_after (FixedEncloses s) _ _ _ _ known
                   (related_after (FixedEncloses s) _ _ _ _ rivers_in (related_after (FixedEncloses s) _ _ _ _ drains_in evaps_in));

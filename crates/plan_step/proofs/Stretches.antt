@@ -1,9 +1,10 @@
 -- Of the way between two heads, how much lies above a foot.
-use Rattle.std.proofs.Common.{◌≡◌, ◌≤◌, ◌<◌, ◌*◌, ◌∙◌, ℕ, ap, arith, refl, sym, ℤ, pos, negsuc, neg_ℤ, ◌+ℤ◌, ◌-ℤ◌, ◌*ℤ◌, ◌≤ℤ◌, ◌<ℤ◌}
+use Rattle.std.proofs.Common.{◌≡◌, ◌≤◌, ◌<◌, ◌*◌, ◌∙◌, ℕ, ap, arith, refl, sym, ℤ, pos, neg_ℤ, ◌+ℤ◌, ◌-ℤ◌, ◌*ℤ◌, ◌≤ℤ◌, ◌<ℤ◌}
 use Rattle.std.specs.Int.{int_max, int_min}
 use Rattle.std.proofs.lemmas.Int.{by_lt_z, clamps, ints}
 use Rattle.cell_balance.proofs.Scaling.{positive_natural}
 use Rattle.step_problem.proofs.Leasts.{mul_neg}
+use Rattle.plan_difference.proofs.Shares.{not_negative}
 
 -- Of k parts of the way between x and y, r lie above the foot f. Where the two heads are the same, one of one part, or none.
 pub record IsStretch (x y : ℤ) (k : ℕ) (f : ℤ) (r : ℕ) : Type 0 where
@@ -14,10 +15,6 @@ pub record IsStretch (x y : ℤ) (k : ℕ) (f : ℤ) (r : ℕ) : Type 0 where
   pub below : int_min x y <ℤ f → int_max x y ≤ℤ f → r ≡ 0
   pub across : int_min x y <ℤ f → f <ℤ int_max x y → (int_max x y ≡ int_min x y +ℤ pos k) × (int_max x y ≡ f +ℤ pos r)
 
-pub natural : (z : ℤ) → pos 0 ≤ℤ z → (s : ℕ) × (z ≡ pos s)
-natural (pos s) h = (s, refl)
-natural (negsuc s) h = absurd (omega (arith, ints))
-
 turn : (k r : ℕ) → pos k *ℤ pos r ≡ pos r *ℤ pos k
 turn k r = ap pos (omega arith)
 
@@ -26,7 +23,7 @@ turn_negative k r = mul_neg (pos k) (pos r) ∙ ap neg_ℤ (turn k r) ∙ sym (m
 
 falling : (x y : ℤ) (k : ℕ) → 0 < k → x -ℤ y ≡ pos k → (f : ℤ) → (r : ℕ) × IsStretch x y k f r
 falling x y k some e f =
-    let (r, g) = natural (int_max x f -ℤ int_max y f) (omega (arith, ints, clamps, e)) in (
+    let (r, g) = not_negative (int_max x f -ℤ int_max y f) (omega (arith, ints, clamps, e)) in (
       r,
       record {
         some = some;
@@ -40,7 +37,7 @@ falling x y k some e f =
 
 rising : (x y : ℤ) (k : ℕ) → 0 < k → y -ℤ x ≡ pos k → (f : ℤ) → (r : ℕ) × IsStretch x y k f r
 rising x y k some e f =
-    let (r, g) = natural (int_max y f -ℤ int_max x f) (omega (arith, ints, clamps, e)) in
+    let (r, g) = not_negative (int_max y f -ℤ int_max x f) (omega (arith, ints, clamps, e)) in
     let back : int_max x f -ℤ int_max y f ≡ neg_ℤ (pos r) = omega (arith, ints, g) in
     let down : x -ℤ y ≡ neg_ℤ (pos k) = omega (arith, ints, e) in (
       r,

@@ -1,13 +1,13 @@
 -- The problem of a step of the differences, from the base plan's problem and the other plan's.
-use Rattle.std.specs.Prelude.{◌≡◌, ℕ, ◌<◌, List, [], ◌++◌, drop, length, map, slice_index_or}
+use Rattle.std.specs.Prelude.{◌≡◌, ℕ, ◌<◌, List, [], ◌++◌, drop, length, map}
 use Rattle.step_problem.specs.declared.heads.Bound.{Bound}
 use Rattle.step_problem.specs.Entries.{Entries}
-use Rattle.step_problem.specs.{entries_at, no_bound}
+use Rattle.step_problem.specs.{entries_at, lower_at, upper_at}
 use Rattle.plan_step.specs.Branches.{drain_branch, evap_branch, known_branch, river_branch, turned}
 
 -- the bound at a place of a list
 abbrev pub bound_at : List Bound → ℕ → Bound
-bound_at bounds i = slice_index_or bounds i no_bound
+bound_at bounds i = record { low = lower_at bounds i; high = upper_at bounds i }
 
 -- A cell, where its head lies within x in the base plan and within y in the other one, and the old difference within `old`. The
 -- other plan's wells come after the flows of the base plan's cell.

@@ -2,7 +2,7 @@
 use Rattle.std.proofs.Common.{◌≡◌, refl, List, [], ◌∷◌, ◌++◌, length, sym, ap}
 use Rattle.std.specs.List.{AllZip}
 use Rattle.std.proofs.lemmas.List.Elements.{length_all_zip}
-use Rattle.deck_span.specs.{AllThree, AreEntriesAlike, ArePeriodsAlike, IsEntryBetween, IsPeriodBetween, none, next}
+use Rattle.deck_span.specs.{AllThree, AreEntriesAlike, ArePeriodsAlike, IsEntryBetween, IsPeriodBetween, none, next, drains, generals, rivers, wells}
 use Rattle.deck_span.proofs.HullBounds.{number_itself}
 use Rattle.deck_span.proofs.ThreeLists.{three_append}
 use Rattle.model_types.specs.declared.entry.Entry.{Entry}
@@ -10,7 +10,6 @@ use Rattle.model_types.specs.declared.period.Period.{Period}
 use Rattle.plan_wells.specs.{AlikeHaveOnePlan, PlannedAreAlike, PlannedLieBetween, with_wells}
 use Rattle.decimal_input.specs.{number, size}
 use Rattle.model_types.specs.declared.entry.Entry.TheVariants.{Well, River, Drain, General}
-use Rattle.deck_span.specs.{drains, generals, rivers, wells}
 use Rattle.deck_span.proofs.HullBounds.{size_itself}
 use Rattle.model_types.specs.declared.model.FlowModel.{FlowModel}
 use Rattle.plan_wells.proofs.Added.{planned_periods}

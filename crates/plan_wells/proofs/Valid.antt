@@ -4,8 +4,7 @@ use Rattle.std.proofs.Common.{le-leb, leb-true}
 use Rattle.std.proofs.lemmas.List.{length-append}
 use Rattle.std.proofs.lemmas.List.Elements.{All-append, All-weaker}
 use Rattle.std.proofs.lemmas.List.Sums.{AllPass-from_list_all, list_all-from_AllPass}
-use Rattle.model_types.specs.{IsBedChecked, IsCellValid, IsEntryValid, IsEvapValid, IsPeriod, IsTimed}
-use Rattle.model_types.specs.{cell_count, evap_sources, most_entries}
+use Rattle.model_types.specs.{IsBedChecked, IsCellValid, IsEntryValid, IsEvapValid, IsPeriod, IsTimed, cell_count, evap_sources, most_entries}
 use Rattle.model_types.specs.declared.entry.Entry.{Entry}
 use Rattle.model_types.specs.declared.entry.Entry.TheVariants.{Well, River, Drain, General}
 use Rattle.model_types.specs.declared.limits.Limits.TheVariants.{Plain}
