@@ -1,0 +1,62 @@
+-- Two plans in one weather: at each time step a model between two decks, and the same model with the plan's wells. The model is chosen
+-- anew at each step, and is the same for both plans.
+use Rattle.std.specs.Prelude.{◌≡◌, ℕ, ◌<◌, ℤ, ◌-ℤ◌, List, [], ◌∷◌, length}
+use Rattle.decimal_input.specs.{Fraction}
+use Rattle.step_problem.specs.{PairKind}
+use Rattle.step_problem.specs.declared.heads.Bound.{Bound}
+use Rattle.model_types.specs.declared.entry.Entry.{Entry}
+use Rattle.model_types.specs.declared.limits.Limits.{Limits}
+use Rattle.model_types.specs.declared.model.FlowModel.{FlowModel}
+use Rattle.model_types.specs.declared.time_steps.TimeStep.{TimeStep}
+use Rattle.model_types.specs.{start_head, times}
+use Rattle.flow_equations.specs.{SolvesAt, heads_of}
+use Rattle.deck_span.specs.{IsBetween, SolvesBetween}
+use Rattle.step_chain.specs.declared.solved.Solved.{Solved}
+use Rattle.step_chain.specs.{AreAllSteps, LiesWithin}
+use Rattle.exact_histories.specs.{ChoicesHaveOne}
+use Rattle.plan_wells.specs.{with_plan}
+
+-- One step of two plans in one weather: X over d solves some model between a and b, from the heads `old`, and Y that model with the
+-- plan's wells, from the heads `older`.
+pub record SolvesPairAt (a b : FlowModel) (plan : List (List Entry)) (at : TimeStep) (old older : ℕ → Fraction) (d : ℕ) (X Y : ℕ → ℤ) : Type 0 where
+  pub model : FlowModel
+  pub between : IsBetween a model b
+  pub base : SolvesAt model at old d X
+  pub planned : SolvesAt (with_plan plan model) at older d Y
+
+-- two vectors for each of these time steps, each from the heads of the vectors before
+abbrev pub SolvesPairsFrom : FlowModel → FlowModel → List (List Entry) → ℕ → (ℕ → Fraction) → (ℕ → Fraction) → List TimeStep → List (ℕ → ℤ) → List (ℕ → ℤ) → Type 0
+SolvesPairsFrom a b plan d old older [] [] [] = Unit {0}
+SolvesPairsFrom a b plan d old older (at ∷ ats) (X ∷ Xs) (Y ∷ Ys) =
+    SolvesPairAt a b plan at old older d X Y × SolvesPairsFrom a b plan d (heads_of d X) (heads_of d Y) ats Xs Ys
+SolvesPairsFrom a b plan d old older ats Xs Ys = ⊥
+
+-- The histories Xs and Ys over d, without the plan's wells and with them: d is above 0, and they solve all time steps in turn, from
+-- STRT of one model between.
+pub record SolvesPairs (a b : FlowModel) (plan : List (List Entry)) (d : ℕ) (Xs Ys : List (ℕ → ℤ)) : Type 0 where
+  pub some : 0 < d
+  pub first : FlowModel
+  pub between : IsBetween a first b
+  pub steps : SolvesPairsFrom a b plan d (start_head first) (start_head first) (times a) Xs Ys
+
+-- The drawdown, the head without the plan less the head with it, lies between these bounds at each active cell.
+abbrev pub DifferLess : FlowModel → List Bound → ℕ → (ℕ → ℤ) → (ℕ → ℤ) → Type 0
+DifferLess m bounds d X Y = LiesWithin m bounds d (λ c. X c -ℤ Y c)
+
+-- it does so at each time step
+abbrev pub DifferBetween : FlowModel → ℕ → List (List Bound) → List (ℕ → ℤ) → List (ℕ → ℤ) → Type 0
+DifferBetween m d [] [] [] = Unit {0}
+DifferBetween m d (bounds ∷ steps) (X ∷ Xs) (Y ∷ Ys) = DifferLess m bounds d X Y × DifferBetween m d steps Xs Ys
+DifferBetween m d steps Xs Ys = ⊥
+
+-- Each of the two is a history between two decks, the second one with the plan's wells.
+abbrev pub PairsAreHistories : Type 0
+PairsAreHistories =
+    (a b : FlowModel) (plan : List (List Entry)) (d : ℕ) (Xs Ys : List (ℕ → ℤ)) → length plan ≡ length a.periods → SolvesPairs a b plan d Xs Ys →
+    SolvesBetween a b d Xs × SolvesBetween (with_plan plan a) (with_plan plan b) d Ys
+
+-- Where both pairs of decks have all their steps, each choice of models between has one history of each plan.
+abbrev pub PairsHaveOne : Type 0
+PairsHaveOne =
+    (limits : Limits) (a b : FlowModel) (plan : List (List Entry)) (s : ℕ) (kind other : PairKind) (xs ys : List Solved) → AreAllSteps limits a b s kind xs →
+    AreAllSteps limits (with_plan plan a) (with_plan plan b) s other ys → ChoicesHaveOne a b × ChoicesHaveOne (with_plan plan a) (with_plan plan b)
