@@ -29,7 +29,7 @@ drop_part_wet x a b t w e h low =
     same x a b t e = omega arith
 
 -- the same, with the factor of both halves
-lower_head_rises : (x k z z' d d' w t : ℕ) → z' ≡ z + w → d ≡ t + d' → w ≤ t → ((x * d) ≤ (z * (x + k * z))) ⊎ (w ≡ 0) → (x * (k * z') * d' * (x + k * z)) ≤ (x * (k * z) * d * (x + k * z'))
+pub lower_head_rises : (x k z z' d d' w t : ℕ) → z' ≡ z + w → d ≡ t + d' → w ≤ t → ((x * d) ≤ (z * (x + k * z))) ⊎ (w ≡ 0) → (x * (k * z') * d' * (x + k * z)) ≤ (x * (k * z) * d * (x + k * z'))
 lower_head_rises x k z z' d d' w t wet drop part low = rw (wet, drop) (both_halves x k z t w d' (drop_part_wet x k z t w d' part (rw drop at low)))
   where
     both_halves : (x a b t w e : ℕ) → ((b + w) * e * (x + a * b)) ≤ (b * (t + e) * (x + a * (b + w))) → (x * (a * (b + w)) * e * (x + a * b)) ≤ (x * (a * b) * (t + e) * (x + a * (b + w)))
@@ -49,7 +49,7 @@ lower_head_law u c a b b' rises below low =
 pub gentle_law : GentleLaw
 gentle_law u c a b gentle = omega (arith, mul-le-mul_left (half_conductance u a) gentle)
 
-upper_head_rises : (x x' y d d' s t : ℕ) → x' ≡ x + s → d' ≡ d + t → (x * y * d * (x' + y)) ≤ (x' * y * d' * (x + y))
+pub upper_head_rises : (x x' y d d' s t : ℕ) → x' ≡ x + s → d' ≡ d + t → (x * y * d * (x' + y)) ≤ (x' * y * d' * (x + y))
 upper_head_rises x x' y d d' s t more drop = rw (more, drop) (products x y s d t)
   where
     products : (x y s d t : ℕ) → (x * y * d * (x + s + y)) ≤ ((x + s) * y * (d + t) * (x + y))
@@ -66,7 +66,7 @@ upper_head_law u c a a' b below rises =
     apart k z w = omega arith
 
 -- of three quotients in order the first is at most the last, where the middle one has a denominator above 0
-quotients_in_order : (n₁ d₁ n₂ d₂ n₃ d₃ : ℕ) → (n₁ * d₂) ≤ (n₂ * d₁) → (n₂ * d₃) ≤ (n₃ * d₂) → 0 < d₂ → (n₁ * d₃) ≤ (n₃ * d₁)
+pub quotients_in_order : (n₁ d₁ n₂ d₂ n₃ d₃ : ℕ) → (n₁ * d₂) ≤ (n₂ * d₁) → (n₂ * d₃) ≤ (n₃ * d₂) → 0 < d₂ → (n₁ * d₃) ≤ (n₃ * d₁)
 quotients_in_order n₁ d₁ n₂ d₂ n₃ d₃ h k some = le_of_mul-le-mul_right (omega (arith, mul-le-mul_left d₃ h, mul-le-mul_left d₁ k)) some
 
 pub gentle_order_law : GentleOrderLaw
@@ -85,3 +85,21 @@ gentle_order_law u c a a' b b' below rises falls gentle =
 
 pub pumped_cell_has_two : HasTwoSolutions
 pumped_cell_has_two = record { high = refl; low = refl; high_is_gentle = inl (omega arith); low_is_steep = omega arith }
+
+-- The same by thicknesses alone, whatever gives them: the upper half's rises from s to s', the lower half's falls from z to z', by no more
+-- than the drop rises from d to d'; and the drop d' is gentle, or the lower thickness stays.
+pub thicknesses_keep_order : (p q s s' z z' d d' : ℕ) → s ≤ s' → z' ≤ z → d ≤ d' → (z - z') ≤ (d' - d) → 0 < q * z → (d' ≤ z') ⊎ (z ≡ z') →
+    (p * s * (q * z) * d * (p * s' + q * z')) ≤ (p * s' * (q * z') * d' * (p * s + q * z))
+thicknesses_keep_order p q s s' z z' d d' up down more part some low =
+    let rise = s' - s in
+    let fall = z - z' in
+    let thicker : p * s' ≡ p * s + p * rise = ap (λ (k : ℕ). p * k) (let e : s' ≡ s + rise = omega arith in e) ∙ apart p s rise in
+    let first = upper_head_rises (p * s) (p * s') (q * z) d d (p * rise) 0 thicker (omega arith) in
+    let second = lower_head_rises (p * s') q z' z d' d fall (d' - d) (omega arith) (omega arith) part (elim low [
+      | inl gentle ↦ inl (omega (arith, mul-le-mul_left (p * s') gentle))
+      | inr stays ↦ inr (omega arith)
+    ]) in
+    quotients_in_order (p * s * (q * z) * d) (p * s + q * z) (p * s' * (q * z) * d) (p * s' + q * z) (p * s' * (q * z') * d') (p * s' + q * z') first second (omega arith)
+  where
+    apart : (k z w : ℕ) → k * (z + w) ≡ k * z + k * w
+    apart k z w = omega arith

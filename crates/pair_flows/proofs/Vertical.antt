@@ -2,7 +2,7 @@
 use Rattle.pair_flows.proofs.Common.{ℕ, ◌≡◌, ◌≤◌, ◌+◌, ◌*◌, ◌-◌, ◌⊎◌, arith, inl, inr, cases_lt, DownwardLaw, UpwardLaw, saturated_thickness}
 
 -- the drop d is at most the saturated thickness z, which rises by w where the upper head rises by t; the lower head falls by s
-falls_faster : (r k z z' d d' w t s : ℕ) → z' ≡ z + w → d' ≡ d + t + s → w ≤ t → (d ≤ z) ⊎ (w ≡ 0) → (d * (r * z' + k)) ≤ (d' * (r * z + k))
+pub falls_faster : (r k z z' d d' w t s : ℕ) → z' ≡ z + w → d' ≡ d + t + s → w ≤ t → (d ≤ z) ⊎ (w ≡ 0) → (d * (r * z' + k)) ≤ (d' * (r * z + k))
 falls_faster r k z z' d d' w t s thicker drop part low = rw (thicker, drop) (elim low [
   | inl gentle ↦
       let wet : z ≡ d + (z - d) = omega arith in
@@ -25,7 +25,7 @@ downward_law v a a' b b' above_bottom falls below rises =
     falls_faster v.upper.per_unit v.rest (saturated_thickness v.upper a) (saturated_thickness v.upper a') (a - b) (a' - b') w (a' - a) (b - b') thicker
     (omega arith) (omega arith) gentle_or_full
 
-rises_faster : (r k z z' e e' w t : ℕ) → z ≡ z' + w → e' ≡ e + t → (e * (r * z' + k)) ≤ (e' * (r * z + k))
+pub rises_faster : (r k z z' e e' w t : ℕ) → z ≡ z' + w → e' ≡ e + t → (e * (r * z' + k)) ≤ (e' * (r * z + k))
 rises_faster r k z z' e e' w t thicker drop = rw (thicker, drop) (products r z' w k e t)
   where
     products : (r z w k e t : ℕ) → (e * (r * z + k)) ≤ ((e + t) * (r * (z + w) + k))

@@ -1,0 +1,6 @@
+mod Common
+pub mod Orders
+pub mod Waters
+pub mod Confined
+pub mod Cases
+pub mod Pumped
