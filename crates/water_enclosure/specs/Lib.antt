@@ -1,0 +1,4 @@
+pub mod Enclosure
+pub mod Worked
+pub use Rattle.water_enclosure.specs.Enclosure.{FlowsLieAt, FlowsLieFrom, GreaterBalancesLieLower, OwnFlowsAreAtMost, SignsEncloseFlows, SignsEncloseHistories}
+pub use Rattle.water_enclosure.specs.Worked.{HasOneGentleHead}
