@@ -1,4 +1,5 @@
 -- The numbers of active cells of a valid model: what is above 0, and elevations that fall.
+use Rattle.std.proofs.Common.{refl}
 use Rattle.water_enclosure.proofs.Common.{◌≡◌, ℕ, zero, suc, negsuc, ◌+◌, ◌-◌, ◌<◌, inl, inr, Bool, true, false, cond, ℤ, pos, ap, sym, ◌∙◌, subst, arith}
 use Rattle.water_enclosure.proofs.Common.{and_parts, cases_Bool, ints, int_lt, nat_lt, not, unsigned_abs, ◌==◌, IsBelow, over-positive, times-positive}
 use Rattle.water_enclosure.proofs.Common.{Fraction, Ratio, number, size, AtMost, size_positive, FlowModel, IsModel, IsThick, bottom_at, cell_count, dec_at}
@@ -45,20 +46,21 @@ two_some = omega arith
 pub factor_some : (w k : Ratio) → 0 < w.num → 0 < k.num → 0 < (times (times two w) k).num
 factor_some w k some more = times-positive _ _ (times-positive _ _ two_some some) more
 
--- below a cell the next layer's top is the lowest elevation of the cell's own layer
-top_below : (m : FlowModel) (a : ℕ) → top_at m (a + layer_size m.grid) ≡ lowest m a
-top_below m a = ap (λ (b : Bool). cond b (dec_at m.grid.top (a + layer_size m.grid)) (lowest m (a + layer_size m.grid - layer_size m.grid))) (past a (layer_size m.grid)) ∙ ap (lowest m) (back a (layer_size m.grid))
-  where
-    past : (a n : ℕ) → nat_lt (a + n) n ≡ false
-    past a n = grind arith
+pub past_layer : (a n : ℕ) → nat_lt (a + n) n ≡ false
+past_layer a n = grind arith
 
-    back : (a n : ℕ) → a + n - n ≡ a
-    back a n = omega arith
+pub layer_back : (a n : ℕ) → a + n - n ≡ a
+layer_back a n = omega arith
+
+-- the top of the cell below is the lowest elevation of the cell's own layer
+pub top_after : (m : FlowModel) (a b : ℕ) → b ≡ a + layer_size m.grid → top_at m b ≡ lowest m a
+top_after m a b e =
+    ap (top_at m) e ∙ ap (λ (c : Bool). cond c (dec_at m.grid.top (a + layer_size m.grid)) (lowest m (a + layer_size m.grid - layer_size m.grid))) (past_layer a (layer_size m.grid)) ∙ ap (lowest m) (layer_back a (layer_size m.grid))
 
 -- of two active cells, one above the other, the lower one's top is at or below the upper one's bottom
 pub tops_below : (m : FlowModel) → IsModel m → (a : ℕ) → a + layer_size m.grid < cell_count m.grid → is_active m a ≡ true → is_active m (a + layer_size m.grid) ≡ true →
     AtMost (number (top_at m (a + layer_size m.grid))) (number (bottom_at m a))
-tops_below m valid a lt upper lower = subst (λ (d : Dec). AtMost (number d) (number (bottom_at m a))) (sym (top_below m a)) (elim (cases_Bool (has_bed m a)) [
+tops_below m valid a lt upper lower = subst (λ (d : Dec). AtMost (number d) (number (bottom_at m a))) (sym (top_after m a (a + layer_size m.grid) refl)) (elim (cases_Bool (has_bed m a)) [
   | inl bed ↦ elim (valid.beds a lt upper lower bed) [
     | inl same ↦ subst (λ (f : Fraction). AtMost f (number (bottom_at m a))) (sym same) (record { at_most = omega (arith, ints) })
     | inr is ↦ record { at_most = let b = (thick_room (bottom_at m a) (lowest m a) is.thick).below in omega (arith, ints, b) }

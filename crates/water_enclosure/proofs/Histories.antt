@@ -1,10 +1,11 @@
 -- Step by step: what lies between the listed heads at one step gives the order of the old heads at the next.
+use Rattle.std.proofs.Common.{refl}
 use Rattle.water_enclosure.proofs.Common.{◌≡◌, ℕ, ◌<◌, ◌<ℤ◌, List, [], ◌∷◌, All, true, ℤ, pos, inl, inr, sym, ◌∙◌, subst, arith, ◌*ℤ◌, cases_Bool, by_lt_z}
 use Rattle.water_enclosure.proofs.Common.{ints, All-from_get_or, All-get_or, not, ◌&&◌, ◌^◌, below_over, over_le, IsBelow, share, Fraction, IsOver, Ratio}
 use Rattle.water_enclosure.proofs.Common.{as_fraction, opposite, AtMost, FlowModel, TimeStep, IsModel, cell_count, index_of, is_active, is_constant}
 use Rattle.water_enclosure.proofs.Common.{is_variable, start_head, variable_cells, ConvertibleLayers, GainsAtLeast, HasSignsAt, HasSignsFrom, IsWithin}
 use Rattle.water_enclosure.proofs.Common.{LieInPairs, LiesInPair, ListedPair, LosesAtLeast, NearlySolvesAt, NearlySolvesFrom, heads_at, listed_heads}
-use Rattle.water_enclosure.proofs.Common.{variable_cell, water_balance, AtMost-self, among, common, FlowsLieAt, FlowsLieFrom, OwnFlowsAreAtMost}
+use Rattle.water_enclosure.proofs.Common.{variable_cell, water_balance, AtMost-of, among, common, FlowsLieAt, FlowsLieFrom, OwnFlowsAreAtMost}
 use Rattle.water_enclosure.proofs.Common.{SignsEncloseFlows, SignsEncloseHistories}
 use Rattle.decimal_input.specs.Fractions.{den}
 use Rattle.model_types.specs.{times}
@@ -52,7 +53,7 @@ module _ (m : FlowModel) (w : ConvertibleLayers) (valid : IsModel m) where
         | inl v ↦ subst (λ (f : Fraction). AtMost f (heads_at m at e Z c)) (sym (variable_at_head m at d X c v)) (subst (λ (f : Fraction). AtMost (share d (X c)) f) (sym (variable_at_head m at e Z c v)) (of_each at (λ c. AtMost (share d (X c)) (share e (Z c))) all c lt v))
         | inr k ↦
             let constant : is_constant m at.period c ≡ true = λ j. active j && not (k j) in
-            subst (λ (f : Fraction). AtMost (heads_at m at d X c) f) (known_at m at d X c constant ∙ sym (known_at m at e Z c constant)) (AtMost-self (heads_at m at d X c))
+            AtMost-of (heads_at m at d X c) (heads_at m at e Z c) (known_at m at d X c constant ∙ sym (known_at m at e Z c constant))
       ]
 
   module _ (unit : Ratio) (d : ℕ) where
@@ -89,11 +90,11 @@ module _ (m : FlowModel) (w : ConvertibleLayers) (valid : IsModel m) where
           let low_order = in_order at (10 ^ 9) d pair.low X over_low in
           let high_order = in_order at d (10 ^ 9) X pair.high under_high in
           let least = own_flows_at_most m w at valid old_low old (listed_heads m at pair.high) (heads_at m at d X) signs.high_gentle near.gentle (known_at m at (10 ^ 9) pair.high) (known_at m at d X)
-              (each at (λ c. AtMost (old_low c) (old c)) (λ c lt v. above_low c lt (variable_active m at.period c v)))
-              (each at (λ c. AtMost (heads_at m at d X c) (listed_heads m at pair.high c)) (λ c lt v. high_order c lt (variable_active m at.period c v))) in
+          (each at (λ c. AtMost (old_low c) (old c)) (λ c lt v. above_low c lt (variable_active m at.period c v)))
+          (each at (λ c. AtMost (heads_at m at d X c) (listed_heads m at pair.high c)) (λ c lt v. high_order c lt (variable_active m at.period c v))) in
           let most = own_flows_at_most m w at valid old old_high (heads_at m at d X) (listed_heads m at pair.low) near.gentle signs.low_gentle (known_at m at d X) (known_at m at (10 ^ 9) pair.low)
-              (each at (λ c. AtMost (old c) (old_high c)) (λ c lt v. below_high c lt (variable_active m at.period c v)))
-              (each at (λ c. AtMost (listed_heads m at pair.low c) (heads_at m at d X c)) (λ c lt v. low_order c lt (variable_active m at.period c v))) in
+          (each at (λ c. AtMost (old c) (old_high c)) (λ c lt v. below_high c lt (variable_active m at.period c v)))
+          (each at (λ c. AtMost (listed_heads m at pair.low c) (heads_at m at d X c)) (λ c lt v. low_order c lt (variable_active m at.period c v))) in
           each at (FlowsLieAt m w at old_low old old_high d X pair) (λ c lt v. record {
             least = of_each at (OwnFlowsAreAtMost m w at old_low (listed_heads m at pair.high) old (heads_at m at d X)) least c lt v;
             most = of_each at (OwnFlowsAreAtMost m w at old (heads_at m at d X) old_high (listed_heads m at pair.low)) most c lt v;
@@ -107,8 +108,8 @@ module _ (m : FlowModel) (w : ConvertibleLayers) (valid : IsModel m) where
     enclose_from (at ∷ steps) (pair ∷ pairs) (X ∷ Xs) old_low old old_high low high signs near = (
       between at old_low old old_high pair X signs.0 near.0 low high,
       enclose_from steps pairs Xs (listed_heads m at pair.low) (heads_at m at d X) (listed_heads m at pair.high)
-      (in_order at (10 ^ 9) d pair.low X (over_low at old_low old old_high pair X signs.0 near.0 low high))
-      (in_order at d (10 ^ 9) X pair.high (under_high at old_low old old_high pair X signs.0 near.0 low high)) signs.1 near.1,
+          (in_order at (10 ^ 9) d pair.low X (over_low at old_low old old_high pair X signs.0 near.0 low high))
+          (in_order at d (10 ^ 9) X pair.high (under_high at old_low old old_high pair X signs.0 near.0 low high)) signs.1 near.1,
     )
 
     flows_from : (steps : List TimeStep) (pairs : List ListedPair) (Xs : List (ℕ → ℤ)) (old_low old old_high : ℕ → Fraction) → AreInOrder old_low old → AreInOrder old old_high →
@@ -119,14 +120,14 @@ module _ (m : FlowModel) (w : ConvertibleLayers) (valid : IsModel m) where
     flows_from (at ∷ steps) (pair ∷ pairs) (X ∷ Xs) old_low old old_high low high signs near = (
       flows_between at old_low old old_high pair X signs.0 near.0 low high,
       flows_from steps pairs Xs (listed_heads m at pair.low) (heads_at m at d X) (listed_heads m at pair.high)
-      (in_order at (10 ^ 9) d pair.low X (over_low at old_low old old_high pair X signs.0 near.0 low high))
-      (in_order at d (10 ^ 9) X pair.high (under_high at old_low old old_high pair X signs.0 near.0 low high)) signs.1 near.1,
+          (in_order at (10 ^ 9) d pair.low X (over_low at old_low old old_high pair X signs.0 near.0 low high))
+          (in_order at d (10 ^ 9) X pair.high (under_high at old_low old old_high pair X signs.0 near.0 low high)) signs.1 near.1,
     )
 
 pub signs_enclose_histories : SignsEncloseHistories
 signs_enclose_histories unit m w pairs d Xs valid signs near =
-    enclose_from m w valid unit d (times m) pairs Xs (start_head m) (start_head m) (start_head m) (λ c lt active. AtMost-self (start_head m c)) (λ c lt active. AtMost-self (start_head m c)) signs near.steps
+    enclose_from m w valid unit d (times m) pairs Xs (start_head m) (start_head m) (start_head m) (λ c lt active. AtMost-of (start_head m c) (start_head m c) refl) (λ c lt active. AtMost-of (start_head m c) (start_head m c) refl) signs near.steps
 
 pub signs_enclose_flows : SignsEncloseFlows
 signs_enclose_flows unit m w pairs d Xs valid signs near =
-    flows_from m w valid unit d (times m) pairs Xs (start_head m) (start_head m) (start_head m) (λ c lt active. AtMost-self (start_head m c)) (λ c lt active. AtMost-self (start_head m c)) signs near.steps
+    flows_from m w valid unit d (times m) pairs Xs (start_head m) (start_head m) (start_head m) (λ c lt active. AtMost-of (start_head m c) (start_head m c) refl) (λ c lt active. AtMost-of (start_head m c) (start_head m c) refl) signs near.steps

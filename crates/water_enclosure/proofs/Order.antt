@@ -10,7 +10,7 @@ use Rattle.water_enclosure.proofs.Common.{no_cell, river_flow, share, Fraction, 
 use Rattle.water_enclosure.proofs.Common.{passing_are, All-In, In, In-All, Face, FlowModel, TimeStep, IsModel, cell_count, constant_faces, is_active}
 use Rattle.water_enclosure.proofs.Common.{is_constant, is_variable, variable_cells, variable_faces, CellFlows, AreComparable, ConvertibleLayers, FallsGently}
 use Rattle.water_enclosure.proofs.Common.{IsGentle, conductance_at, constant_branch, convertible_cell, convertible_step, heads_at, variable_branch}
-use Rattle.water_enclosure.proofs.Common.{variable_cell, water_balance, AtMost-self, common, plus_rises, GreaterBalancesLieLower, OwnFlowsAreAtMost}
+use Rattle.water_enclosure.proofs.Common.{variable_cell, water_balance, AtMost-of, common, plus_rises, GreaterBalancesLieLower, OwnFlowsAreAtMost, mul_neg}
 use Rattle.cell_balance.proofs.Encloses.{whole_step}
 use Rattle.cell_balance.proofs.Mutual.{mutual_whole}
 use Rattle.pair_flows.specs.{balance as pair_balance}
@@ -20,7 +20,7 @@ use Rattle.water_enclosure.proofs.Linked.{are_linked, cell_is, named, step_lengt
 use Rattle.water_enclosure.proofs.Cells.{variable_active}
 use Rattle.water_enclosure.proofs.Neighbours.{face_in_order, variable_in_order}
 use Rattle.water_enclosure.proofs.Own.{drain_falls, evap_falls, fixed_falls, front_falls, river_falls, total_falls}
-use Rattle.water_enclosure.proofs.Wholes.{EachInOrder, apart, everywhere, gain_is, links_by_cell, own_whole, spread, turned_flow, weights_in_order}
+use Rattle.water_enclosure.proofs.Wholes.{EachInOrder, apart, everywhere, gain_is, links_by_cell, own_whole, spread, weights_in_order}
 unfoldable use Rattle.model_types.specs.{constant_head}
 unfoldable use Rattle.water_table.specs.{storage_flow}
 
@@ -69,6 +69,9 @@ module _ (m : FlowModel) (w : ConvertibleLayers) (at : TimeStep) (valid : IsMode
 
     cancel : (i j : ℕ) → i < count → j < count → flows.pair i j ≡ neg_ℤ (flows.pair j i)
     cancel i j a b = rw (both_ways.same i j (omega (arith, a, same_length)) (omega (arith, b, same_length))) (turned_flow (weight (whole_at s.cells j).links i) (s.Y j) (s.Y i))
+      where
+        turned_flow : (a x y : ℤ) → a *ℤ (x -ℤ y) ≡ neg_ℤ (a *ℤ (y -ℤ x))
+        turned_flow a x y = ap (λ (z : ℤ). a *ℤ z) (let e : x -ℤ y ≡ neg_ℤ (y -ℤ x) = omega (arith, ints) in e) ∙ mul_neg a (y -ℤ x)
 
     balance_is : (i : ℕ) → i < count → pair_balance count flows i ≡ whole_balance (whole_at s.cells i) (s.Y i) s.Y +ℤ s.S i
     balance_is i lt =
@@ -154,11 +157,13 @@ module _ (m : FlowModel) (w : ConvertibleLayers) (at : TimeStep) (valid : IsMode
       chosen zero T f each = (λ i. pos 0, λ i lt. absurd (omega (arith, lt)))
       chosen (suc n) T f each =
           let (S, rest) = chosen n T f (λ i lt. each i (omega (arith, lt))) in
-          let (z, last) = each n (omega arith) in
-          (λ i. cond (nat_eq i n) z (S i), λ i lt. elim (cases_eq i n) [
-            | inl is ↦ subst (λ (y : ℤ). IsOver T (f i) y) (sym (cond-true (nat_eq i n) z (S i) (eq-eqb i n is))) (subst (λ (j : ℕ). IsOver T (f j) z) (sym is) last)
-            | inr other ↦ subst (λ (y : ℤ). IsOver T (f i) y) (sym (cond-false (nat_eq i n) z (S i) (ne_eqb i n other))) (rest i (omega (arith, lt, other)))
-          ])
+          let (z, last) = each n (omega arith) in (
+            λ i. cond (nat_eq i n) z (S i),
+            λ i lt. elim (cases_eq i n) [
+              | inl is ↦ subst (λ (y : ℤ). IsOver T (f i) y) (sym (cond-true (nat_eq i n) z (S i) (eq-eqb i n is))) (subst (λ (j : ℕ). IsOver T (f j) z) (sym is) last)
+              | inr other ↦ subst (λ (y : ℤ). IsOver T (f i) y) (sym (cond-false (nat_eq i n) z (S i) (ne_eqb i n other))) (rest i (omega (arith, lt, other)))
+            ],
+          )
 
   module _ (gentle_h : IsGentle m w at.period h) (gentle_g : IsGentle m w at.period g)
       (known_h : (c : ℕ) → is_constant m at.period c ≡ true → h c ≡ constant_head m at.period at.step c)
@@ -183,18 +188,18 @@ module _ (m : FlowModel) (w : ConvertibleLayers) (at : TimeStep) (valid : IsMode
           let active_end = (and_parts (is_active m x.end) _ ends).0 in
           let eh = known_h x.end ends in
           let eg = known_g x.end ends in
-          let same : AtMost (h x.end) (g x.end) = subst (λ (f : Fraction). AtMost (h x.end) f) (eh ∙ sym eg) (AtMost-self (h x.end)) in
-          let back : AtMost (g x.end) (h x.end) = subst (λ (f : Fraction). AtMost (g x.end) f) (eg ∙ sym eh) (AtMost-self (g x.end)) in
+          let same : AtMost (h x.end) (g x.end) = AtMost-of (h x.end) (g x.end) (eh ∙ sym eg) in
+          let back : AtMost (g x.end) (h x.end) = AtMost-of (g x.end) (h x.end) (eg ∙ sym eh) in
           let fact = face_in_order m w valid at.period h g gentle_h gentle_g c x within active face active_end falls same (In-All (λ (f : Face). FallsGently m w g c f.axis f.end) (constant_faces m at.period c) x (gentle_g.falls c within variable).1 is_in) (inr back) in
           subst (λ (f : Fraction). AtMost (times (as_fraction (conductance_at m w h x.axis x.first)) (minus f (h c))) (times (as_fraction (conductance_at m w g x.axis x.first)) (minus (constant_head m at.period at.step x.end) (g c)))) eh
           (subst (λ (f : Fraction). AtMost (times (as_fraction (conductance_at m w h x.axis x.first)) (minus (h x.end) (h c))) (times (as_fraction (conductance_at m w g x.axis x.first)) (minus f (g c)))) eg fact)
 
       own_falls : AtMost (own_flow (convertible_cell m w at h c) (h c)) (own_flow (convertible_cell m w at g c) (g c))
       own_falls =
-          plus_rises _ _ _ _ (AtMost-self _)
+          plus_rises _ _ _ _ (AtMost-of _ _ refl)
           (plus_rises _ _ _ _ (front_falls (fixed_flow (h c)) (fixed_flow (g c)) (constant_branch m w at h) (constant_branch m w at g) (constant_faces m at.period c) _
-            (All-In (λ (x : Face). AtMost (fixed_flow (h c) (constant_branch m w at h x)) (fixed_flow (g c) (constant_branch m w at g x))) (constant_faces m at.period c) constant_falls)
-            (total_falls (fixed_flow (h c)) (fixed_flow (g c)) (fixed_falls (h c) (g c) falls) _))
+          (All-In (λ (x : Face). AtMost (fixed_flow (h c) (constant_branch m w at h x)) (fixed_flow (g c) (constant_branch m w at g x))) (constant_faces m at.period c) constant_falls)
+          (total_falls (fixed_flow (h c)) (fixed_flow (g c)) (fixed_falls (h c) (g c) falls) _))
           (plus_rises _ _ _ _ (total_falls (river_flow (h c)) (river_flow (g c)) (river_falls (h c) (g c) falls) _)
           (plus_rises _ _ _ _ (total_falls (drain_flow (h c)) (drain_flow (g c)) (drain_falls (h c) (g c) falls) _)
           (total_falls (evap_flow (h c)) (evap_flow (g c)) (evap_falls (h c) (g c) falls) _))))
@@ -215,8 +220,8 @@ module _ (m : FlowModel) (w : ConvertibleLayers) (at : TimeStep) (valid : IsMode
     own_in_order i lt less =
         let falls = fall_of i (omega (arith, ints, less)) in
         let o = over_le (both.k * both.d) _ _ _ _
-            (own_over both.k both.d (convertible_cell m w at h (named_cell i)) (whole_at both.at_h.cells i) (h (named_cell i)) (both.at_h.Y i) (both.at_h.heads i) (cell_over m w at valid both.k both.d old h both.at_h i lt))
-            (own_over both.k both.d (convertible_cell m w at g (named_cell i)) (whole_at both.at_g.cells i) (g (named_cell i)) (both.at_g.Y i) (both.at_g.heads i) (cell_over m w at valid both.k both.d older g both.at_g i lt)) (own_falls i lt falls) in
+        (own_over both.k both.d (convertible_cell m w at h (named_cell i)) (whole_at both.at_h.cells i) (h (named_cell i)) (both.at_h.Y i) (both.at_h.heads i) (cell_over m w at valid both.k both.d old h both.at_h i lt))
+        (own_over both.k both.d (convertible_cell m w at g (named_cell i)) (whole_at both.at_g.cells i) (g (named_cell i)) (both.at_g.Y i) (both.at_g.heads i) (cell_over m w at valid both.k both.d older g both.at_g i lt)) (own_falls i lt falls) in
         let s = over_le (both.k * both.d) _ _ _ _ (both.at_h.stores i lt) (both.at_g.stores i lt) (stored_falls i lt falls) in
         omega (arith, ints, o, s)
 
@@ -251,7 +256,7 @@ module _ (m : FlowModel) (w : ConvertibleLayers) (at : TimeStep) (valid : IsMode
     heads_in_order gains = All-from_get_or (λ c. AtMost (h c) (g c)) (variable_cells m at.period) 0 (λ i lt.
         le_over both.d _ _ _ _ both.some_d (both.at_h.heads i) (both.at_g.heads i) (pairs_lie_lower n both.at_h.Y both.at_g.Y F G comparable
         (λ j lt' higher. below_over (both.k * both.d) _ _ _ _ both.some (balance_is_over m w at valid both.k both.d older g both.at_g j lt') (balance_is_over m w at valid both.k both.d old h both.at_h j lt')
-          (All-get_or (λ c. IsBelow (water_balance m w at older g c) (water_balance m w at old h c)) (variable_cells m at.period) j 0 lt' gains)) i lt))
+        (All-get_or (λ c. IsBelow (water_balance m w at older g c) (water_balance m w at old h c)) (variable_cells m at.period) j 0 lt' gains)) i lt))
 
     -- each flow that follows from a cell's own head
     pub own_flows_at_most : All (λ c. AtMost (g c) (h c)) (variable_cells m at.period) → All (OwnFlowsAreAtMost m w at old h older g) (variable_cells m at.period)
@@ -287,7 +292,7 @@ greater_balances_lie_lower m w at old older d e X Z valid gentle gentle' olds ga
     let g = heads_at m at e Z in
     let order = heads_in_order m w at valid old older h g gentle gentle' (known_at m at d X) (known_at m at e Z) olds gains in
     All-from_get_or (λ c. AtMost (share d (X c)) (share e (Z c))) (variable_cells m at.period) 0 (λ i lt.
-      let is = (variable_at m at valid.grid.size i lt).passes in
-      let c = variable_cell m at.period i in
-      subst (λ (f : Fraction). AtMost f (share e (Z c))) (variable_at_head m at d X c is)
-      (subst (λ (f : Fraction). AtMost (h c) f) (variable_at_head m at e Z c is) (All-get_or (λ c. AtMost (h c) (g c)) (variable_cells m at.period) i 0 lt order)))
+    let is = (variable_at m at valid.grid.size i lt).passes in
+    let c = variable_cell m at.period i in
+    subst (λ (f : Fraction). AtMost f (share e (Z c))) (variable_at_head m at d X c is)
+    (subst (λ (f : Fraction). AtMost (h c) f) (variable_at_head m at e Z c is) (All-get_or (λ c. AtMost (h c) (g c)) (variable_cells m at.period) i 0 lt order)))

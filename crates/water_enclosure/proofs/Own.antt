@@ -2,7 +2,7 @@
 use Rattle.water_enclosure.proofs.Common.{◌*◌, ◌++◌, List, [], ◌∷◌, All, map, arith, mul-pos, refl, clamps, ints, All-head, All-tail, le_over, over_le}
 use Rattle.water_enclosure.proofs.Common.{DrainOver, EvapOver, FixedOver, RiverOver, drain_over, evap_over, fixed_over, river_over, WholeEntry, ExactDrain}
 use Rattle.water_enclosure.proofs.Common.{ExactEvap, ExactFixed, ExactRiver, drain_flow, evap_flow, fixed_flow, river_flow, Fraction, fraction_total, AtMost}
-use Rattle.water_enclosure.proofs.Common.{den, mul_mono, AtMost-self, among, common, plus_rises}
+use Rattle.water_enclosure.proofs.Common.{den, mul_mono, AtMost-of, among, common, plus_rises}
 use Rattle.step_problem.proofs.Falls.{loss_falls}
 
 module _ (v v' : Fraction) (falls : AtMost v' v) where
@@ -54,7 +54,7 @@ module _ (v v' : Fraction) (falls : AtMost v' v) where
 
 -- sums of flows that fall
 pub total_falls : {X : Type 0} (f f' : X → Fraction) → ((x : X) → AtMost (f x) (f' x)) → (xs : List X) → AtMost (fraction_total f xs) (fraction_total f' xs)
-total_falls f f' each [] = AtMost-self _
+total_falls f f' each [] = AtMost-of _ _ refl
 total_falls f f' each (x ∷ xs) = plus_rises _ _ _ _ (each x) (total_falls f f' each xs)
 
 -- of entries that come from the same sources, before the others

@@ -1,8 +1,6 @@
 -- The pumped cell's pair has the signs, so it encloses.
-use Rattle.decimal_input.specs.{ratio}
-use Rattle.std.specs.Prelude.{[], ◌∷◌, ◌^◌}
-use Rattle.water_enclosure.specs.{HasOneGentleHead}
-use Rattle.water_table.specs.{narrow_pair, pumped_layers, pumped_model}
+use Rattle.water_enclosure.proofs.Common.{ratio, ◌^◌, HasOneGentleHead, narrow_pair, pumped_layers, pumped_model}
+use Rattle.std.specs.Prelude.{[], ◌∷◌}
 use Rattle.water_table.proofs.Pumped.{has_two_solutions}
 use Rattle.water_enclosure.proofs.Histories.{signs_enclose_histories}
 

@@ -6,7 +6,6 @@ use Rattle.pair_flows.proofs.Horizontal.{thicknesses_keep_order}
 unfoldable use Rattle.decimal_input.specs.Ratios.{times}
 unfoldable use Rattle.model_types.specs.{half, in_a_row}
 
-
 -- Flows U * D over W, signed. Where D rises, they are in order if they are where both go one way.
 signed : (z : ℤ) → ((d : ℕ) × (z ≡ pos d)) ⊎ ((d : ℕ) × (z ≡ neg_ℤ (pos d)))
 signed (pos d) = inl (d, refl)

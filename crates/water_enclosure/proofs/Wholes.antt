@@ -1,14 +1,14 @@
 -- A step at given heads in whole numbers: what each cell gets over its links, and by its own head.
-use Rattle.water_enclosure.proofs.Common.{◌≡◌, ℕ, zero, suc, ◌*◌, ◌+◌, ◌<◌, ◌≤◌, inl, inr, List, [], ◌∷◌, All, map, ℤ, pos, neg_ℤ, ◌+ℤ◌, ◌-ℤ◌, ◌*ℤ◌, ◌≤ℤ◌, refl}
+use Rattle.water_enclosure.proofs.Common.{wider, ◌≡◌, ℕ, zero, suc, ◌*◌, ◌+◌, ◌<◌, ◌≤◌, inl, inr, List, [], ◌∷◌, All, map, ℤ, pos, ◌+ℤ◌, ◌-ℤ◌, ◌*ℤ◌, ◌≤ℤ◌, refl}
 use Rattle.water_enclosure.proofs.Common.{ap, sym, ◌∙◌, subst, arith, cases_eq, cases_lt, eq-eqb, ne_eqb, ints, All-head, All-tail, AllZip, Goes, by_weight}
 use Rattle.water_enclosure.proofs.Common.{weight, LinkOver, WholeCell, WholeLink, whole_balance, whole_drain, whole_evap, whole_fixed, whole_link, whole_river}
-use Rattle.water_enclosure.proofs.Common.{ExactLink, sum_below, Fraction, IsOver, IsShare, CellFlows, gain_from_first, mul_neg, scaled_over}
+use Rattle.water_enclosure.proofs.Common.{ExactLink, sum_below, Fraction, IsOver, IsShare, CellFlows, gain_from_first}
 use Rattle.step_problem.specs.{total}
 use Rattle.std.proofs.Math.IntN.{zero-*ℤ}
 use Rattle.cell_balance.proofs.Deep.{add_mul}
 
 pub spread : (M T : ℕ) (f : Fraction) (z : ℤ) → Goes M T → IsOver M f z → (y : ℤ) × IsOver T f y
-spread M T f z (q, e) o = (z *ℤ pos q, subst (λ (k : ℕ). IsOver k f (z *ℤ pos q)) (sym e) (scaled_over M q f z o))
+spread M T f z (q, e) o = (z *ℤ pos q, subst (λ (k : ℕ). IsOver k f (z *ℤ pos q)) (sym e) (wider M q f z o))
 
 -- a family of fractions that stays the same from place n on
 pub everywhere : (M n : ℕ) (f : ℕ → Fraction) → ((k : ℕ) → n < k → f k ≡ f n) → ((k : ℕ) → k < suc n → (z : ℤ) × IsOver M (f k) z) → (k : ℕ) → (z : ℤ) × IsOver M (f k) z
@@ -26,9 +26,6 @@ apart w y Y = six (total (λ q. q) w.flows) (total (whole_link Y y) w.links) (to
   where
     six : (a b c d e f : ℤ) → a +ℤ b +ℤ c +ℤ d +ℤ e +ℤ f ≡ a +ℤ (c +ℤ (d +ℤ (e +ℤ f))) +ℤ b
     six a b c d e f = omega (arith, ints)
-
-pub turned_flow : (a x y : ℤ) → a *ℤ (x -ℤ y) ≡ neg_ℤ (a *ℤ (y -ℤ x))
-turned_flow a x y = ap (λ (z : ℤ). a *ℤ z) (let e : x -ℤ y ≡ neg_ℤ (y -ℤ x) = omega (arith, ints) in e) ∙ mul_neg a (y -ℤ x)
 
 -- what a cell gets over its links, by the cells that they lead to
 pub gain_is : (f : CellFlows) (i n : ℕ) → gain_from_first f i n ≡ sum_below n (f.pair i)

@@ -1,16 +1,14 @@
 -- What signs of the balances at gentle heads say of all other gentle heads of a model with convertible layers.
-use Rattle.std.specs.Prelude.{ℕ, ℤ, List, [], ◌∷◌, All, map}
-use Rattle.std.specs.List.{filter_map}
+use Rattle.std.specs.Prelude.{ℕ, ℤ, List, [], ◌∷◌, All}
 use Rattle.decimal_input.specs.{Fraction, Ratio}
 use Rattle.decimal_input.specs.Fractions.{AtMost}
 use Rattle.cell_balance.specs.{IsBelow, drain_flow, evap_flow, fixed_flow, river_flow, share}
-use Rattle.flow_equations.specs.{exact_fixed}
 use Rattle.model_types.specs.declared.model.FlowModel.{FlowModel}
 use Rattle.model_types.specs.declared.time_steps.TimeStep.{TimeStep}
-use Rattle.model_types.specs.{IsModel, as_general, constant_faces, local_entries, start_head, times, variable_cells}
+use Rattle.model_types.specs.{IsModel, constant_faces, start_head, times, variable_cells}
 use Rattle.water_table.specs.declared.convertible_layers.ConvertibleLayers.{ConvertibleLayers}
-use Rattle.water_table.specs.{HasSigns, IsGentle, LieInPairs, ListedPair, NearlySolves, constant_branch, convertible_cell, heads_at, listed_heads}
-use Rattle.water_table.specs.{water_balance}
+use Rattle.water_table.specs.{HasSigns, IsGentle, LieInPairs, ListedPair, NearlySolves, constant_branch, convertible_cell, general_branches, heads_at}
+use Rattle.water_table.specs.{listed_heads, water_balance}
 unfoldable use Rattle.water_table.specs.{storage_flow}
 
 -- At one step, heads X over d and Z over e that are gentle, from old heads of which those for X are nowhere above the others: where each
@@ -30,19 +28,23 @@ SignsEncloseHistories = (unit : Ratio) (m : FlowModel) (w : ConvertibleLayers) (
 -- The flows into the variable cell c that follow from its own head, at the heads h with old heads `old`, are at most those at the heads g with `older`:
 -- branches to constant-head neighbours, general heads, rivers, drains, evapotranspiration and storage, each. (Wells and recharge are the same at all heads.)
 pub record OwnFlowsAreAtMost (m : FlowModel) (w : ConvertibleLayers) (at : TimeStep) (old h older g : ℕ → Fraction) (c : ℕ) : Type 0 where
-  pub constants : All (λ x. AtMost (fixed_flow (h c) (constant_branch m w at h x)) (fixed_flow (g c) (constant_branch m w at g x))) (constant_faces m at.period c)
-  pub generals : All (λ x. AtMost (fixed_flow (h c) x) (fixed_flow (g c) x)) (map (exact_fixed m at.period at.step (start_head m) c) (filter_map as_general (local_entries m at.period c)))
+  pub constants : All (λ x. AtMost (fixed_flow (h c) (constant_branch m w at h x)) (fixed_flow (g c) (constant_branch m w at g x)))
+      (constant_faces m at.period c)
+  pub generals : All (λ x. AtMost (fixed_flow (h c) x) (fixed_flow (g c) x)) (general_branches m w at h c)
   pub rivers : All (λ x. AtMost (river_flow (h c) x) (river_flow (g c) x)) (convertible_cell m w at h c).rivers
   pub drains : All (λ x. AtMost (drain_flow (h c) x) (drain_flow (g c) x)) (convertible_cell m w at h c).drains
   pub evaps : All (λ x. AtMost (evap_flow (h c) x) (evap_flow (g c) x)) (convertible_cell m w at h c).evaps
   pub storage : AtMost (storage_flow m w at.period at.step c (old c) (h c)) (storage_flow m w at.period at.step c (older c) (g c))
 
--- At a step the history's flows lie between: the least ones are those of the old lower heads and the new upper ones, the greatest those of the old upper heads and the new lower ones.
-pub record FlowsLieAt (m : FlowModel) (w : ConvertibleLayers) (at : TimeStep) (old_low old old_high : ℕ → Fraction) (d : ℕ) (X : ℕ → ℤ) (pair : ListedPair) (c : ℕ) : Type 0 where
+-- At a step the history's flows lie between: the least ones are those of the old lower heads and the new upper ones, the greatest
+-- those of the old upper heads and the new lower ones.
+pub record FlowsLieAt (m : FlowModel) (w : ConvertibleLayers) (at : TimeStep) (old_low old old_high : ℕ → Fraction) (d : ℕ)
+    (X : ℕ → ℤ) (pair : ListedPair) (c : ℕ) : Type 0 where
   pub least : OwnFlowsAreAtMost m w at old_low (listed_heads m at pair.high) old (heads_at m at d X) c
   pub most : OwnFlowsAreAtMost m w at old (heads_at m at d X) old_high (listed_heads m at pair.low) c
 
-abbrev pub FlowsLieFrom : FlowModel → ConvertibleLayers → ℕ → (ℕ → Fraction) → (ℕ → Fraction) → (ℕ → Fraction) → List TimeStep → List (ℕ → ℤ) → List ListedPair → Type 0
+abbrev pub FlowsLieFrom : FlowModel → ConvertibleLayers → ℕ → (ℕ → Fraction) → (ℕ → Fraction) → (ℕ → Fraction) → List TimeStep →
+    List (ℕ → ℤ) → List ListedPair → Type 0
 FlowsLieFrom m w d old_low old old_high (at ∷ steps) (X ∷ Xs) (pair ∷ pairs) =
     All (FlowsLieAt m w at old_low old old_high d X pair) (variable_cells m at.period)
     × FlowsLieFrom m w d (listed_heads m at pair.low) (heads_at m at d X) (listed_heads m at pair.high) steps Xs pairs

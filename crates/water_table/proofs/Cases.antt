@@ -3,7 +3,7 @@ use Rattle.water_table.proofs.Common.{◌≡◌, ℕ, ◌*◌, ◌<◌, arith, a
 use Rattle.water_table.proofs.Common.{over_le, same_over, IsOver-plus, IsOver-minus, IsOver-times, IsOver-lesser, IsOver-greater, IsOver-none, Fraction, IsOver}
 use Rattle.water_table.proofs.Common.{Ratio, as_fraction, number, whole, AtMost, Same, minus, lesser, greater, mul_sub, FlowModel, ConvertibleLayers, size}
 use Rattle.water_table.proofs.Common.{area, dec_at, storage_capacity, top_at, compressed_water, drainable_water, is_convertible, LosesByCases, over_fall}
-use Rattle.std.proofs.Math.IntN.{*ℤ-zero}
+use Rattle.water_table.proofs.Common.{*ℤ-zero}
 use Rattle.std.specs.Int.{int_max, int_min}
 use Rattle.decimal_input.specs.Fractions.{plus, times}
 use Rattle.decimal_input.specs.Ratios.{times as product}
@@ -134,7 +134,7 @@ loses_by_cases m w c old v e =
   where
     turn : (m : FlowModel) (w : ConvertibleLayers) (c : ℕ) (old v : Fraction) → is_convertible m w c ≡ true → (g : Fraction) →
         Same (minus (stored (product (size (dec_at w.sy c)) (area m c)) (storage_capacity m c) (number (top_at m c)) old)
-          (stored (product (size (dec_at w.sy c)) (area m c)) (storage_capacity m c) (number (top_at m c)) v)) g →
+        (stored (product (size (dec_at w.sy c)) (area m c)) (storage_capacity m c) (number (top_at m c)) v)) g →
         Same (minus (stored_water m w c old) (stored_water m w c v)) g
     turn m w c old v e g p = subst (λ (x : Fraction). Same (minus x (stored_water m w c v)) g) (stored_is m w c e old)
         (subst (λ (y : Fraction). Same (minus (stored (product (size (dec_at w.sy c)) (area m c)) (storage_capacity m c) (number (top_at m c)) old) y) g) (stored_is m w c e v) p)

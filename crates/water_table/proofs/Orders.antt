@@ -1,13 +1,11 @@
 -- Fractions in order: their sums, differences, multiples, and the lesser and the greater of two. Each is shown in whole numbers over one denominator.
-use Rattle.water_table.proofs.Common.{ℕ, zero, suc, ◌*◌, ◌<◌, refl, sym, ap, ◌∙◌, subst, arith, ℤ, pos, ◌*ℤ◌, List, [], ◌∷◌, inl, inr, cases_eq, mul-pos}
-use Rattle.water_table.proofs.Common.{slice_index_or, ints, clamps, le_over, over_le, IsOver-plus, IsOver-minus, IsOver-times, IsOver-signed, IsOver-lesser}
-use Rattle.water_table.proofs.Common.{IsOver-greater, greater, lesser, minus, Fraction, IsOver, Ratio, as_fraction, whole, AtMost, den, mul_assoc, mul_mono}
-use Rattle.decimal_input.proofs.FloorLaws.{le-add, le-of, swap}
+use Rattle.std.proofs.Common.{◌≡◌}
+use Rattle.water_table.proofs.Common.{ℕ, zero, suc, ◌*◌, ◌<◌, refl, sym, subst, arith, ℤ, pos, ◌*ℤ◌, List, [], ◌∷◌, inl, inr, cases_eq, mul-pos, slice_index_or}
+use Rattle.water_table.proofs.Common.{ints, clamps, le_over, over_le, IsOver-plus, IsOver-minus, IsOver-times, IsOver-signed, IsOver-lesser, IsOver-greater}
+use Rattle.water_table.proofs.Common.{greater, lesser, minus, Fraction, IsOver, Ratio, as_fraction, whole, AtMost, den, mul_assoc, mul_mono, le-add, le-of}
 use Rattle.decimal_input.specs.Fractions.{plus, times}
 use Rattle.decimal_input.specs.Ratios.{den as ratio_den}
-
-pub scaled_over : (M e : ℕ) (f : Fraction) (z : ℤ) → IsOver M f z → IsOver (M * e) f (z *ℤ pos e)
-scaled_over M e f z p = record { is = sym (mul_assoc f.num (pos M) (pos e)) ∙ ap (λ (k : ℤ). k *ℤ pos e) p.is ∙ swap z (pos (den f)) (pos e) }
+use Rattle.flow_equations.proofs.GivenAtSteps.{wider}
 
 pub own_over : (M : ℕ) (f : Fraction) → IsOver (M * den f) f (f.num *ℤ pos M)
 own_over M f = record { is = sym (mul_assoc f.num (pos M) (pos (den f))) }
@@ -22,14 +20,14 @@ common (suc n) f =
     one_more : (n : ℕ) (f : ℕ → Fraction) (M : ℕ) → ((k : ℕ) → k < n → (z : ℤ) × IsOver M (f k) z) → (k : ℕ) → k < suc n → (z : ℤ) × IsOver (M * den (f n)) (f k) z
     one_more n f M at k h = elim (cases_eq k n) [
       | inl last ↦ subst (λ (j : ℕ). (z : ℤ) × IsOver (M * den (f n)) (f j) z) (sym last) ((f n).num *ℤ pos M, own_over M (f n))
-      | inr early ↦ let (z, o) = at k (omega (arith, h, early)) in (z *ℤ pos (den (f n)), scaled_over M (den (f n)) (f k) z o)
+      | inr early ↦ let (z, o) = at k (omega (arith, h, early)) in (z *ℤ pos (den (f n)), wider M (den (f n)) (f k) z o)
     ]
 
 abbrev pub among : List Fraction → ℕ → Fraction
 among xs k = slice_index_or xs k (whole (pos 0))
 
-pub AtMost-self : (f : Fraction) → AtMost f f
-AtMost-self f = record { at_most = le-of _ _ refl }
+pub AtMost-of : (f g : Fraction) → f ≡ g → AtMost f g
+AtMost-of f g e = subst (AtMost f) e (record { at_most = le-of _ _ refl })
 
 pub plus_rises : (f f' g g' : Fraction) → AtMost f f' → AtMost g g' → AtMost (plus f g) (plus f' g')
 plus_rises f f' g g' p q =

@@ -3,13 +3,9 @@ use Rattle.water_table.proofs.Common.{◌≡◌, ℕ, zero, suc, ◌<◌, inl, i
 use Rattle.water_table.proofs.Common.{IsEntryValid, IsHeadNumber, IsModel, IsNotNegative, IsPositive, IsTimed, no_number, bottom_at, constant_faces}
 use Rattle.water_table.proofs.Common.{is_variable, start_head, variable_cells, variable_faces, HasTwoSolutions, IsGentle, HasSigns, middle_balance, middle_head}
 use Rattle.water_table.proofs.Common.{narrow_pair, only_step, pumped_layers, pumped_model, pumping, FallsGently, FallsWithin, GainsAtLeast, HasSignsAt}
-use Rattle.water_table.proofs.Common.{LosesAtLeast, listed_heads, water_balance, Row, ◌^◌, Fraction, number, sym}
-use Rattle.std.proofs.Math.IntN.{zero-*ℤ}
+use Rattle.water_table.proofs.Common.{LosesAtLeast, listed_heads, water_balance, Row, ◌^◌, Fraction, number, sym, zero-*ℤ, neg_times, ◌*◌, ◌*ℤ◌, ◌<ℤ◌, mul-pos}
+use Rattle.water_table.proofs.Common.{Ratio, den, IsWithin, NearlySolves, middle_history}
 use Rattle.std.proofs.lemmas.List.Elements.{All-nil, All-cons, All-head}
-use Rattle.decimal_input.proofs.FloorLaws.{neg_times}
-use Rattle.std.proofs.Common.{◌*◌, ◌*ℤ◌, ◌<ℤ◌, mul-pos}
-use Rattle.water_table.proofs.Common.{Ratio, den}
-use Rattle.water_table.specs.{IsWithin, NearlySolves, middle_history}
 use Rattle.flow_equations.specs.{cell, decimal, period_with}
 use Rattle.flow_equations.proofs.Validity.{row_valid}
 use Rattle.model_types.specs.declared.entry.Entry.TheVariants.{Well}

@@ -1,8 +1,9 @@
 -- More water is stored at a higher head, and a cell gives more from storage from a higher old head and to a lower new one.
+use Rattle.std.proofs.Common.{refl}
 use Rattle.water_table.proofs.Common.{ℕ, Bool, true, false, cond, pos, Fraction, AtMost, as_fraction, number, whole, minus, FlowModel, ConvertibleLayers, over}
 use Rattle.water_table.proofs.Common.{one, period_at, step_length, storage_capacity, top_at, compressed_water, drainable_water, is_convertible}
 use Rattle.decimal_input.specs.Fractions.{plus, times}
-use Rattle.water_table.proofs.Orders.{AtMost-self, plus_rises, minus_rises, times_rises, lesser_rises, greater_rises}
+use Rattle.water_table.proofs.Orders.{AtMost-of, plus_rises, minus_rises, times_rises, lesser_rises, greater_rises}
 unfoldable use Rattle.water_table.specs.{storage_flow, stored_water}
 
 module _ (m : FlowModel) (w : ConvertibleLayers) (c : ℕ) where
@@ -12,7 +13,7 @@ module _ (m : FlowModel) (w : ConvertibleLayers) (c : ℕ) where
   water_by v v' h true =
       let top = number (top_at m c) in
       plus_rises _ _ _ _ (times_rises _ _ _ (lesser_rises v v' top h))
-      (times_rises _ _ _ (greater_rises (minus v top) (minus v' top) (whole (pos 0)) (minus_rises v v' top top h (AtMost-self top))))
+      (times_rises _ _ _ (greater_rises (minus v top) (minus v' top) (whole (pos 0)) (minus_rises v v' top top h (AtMost-of top top refl))))
   water_by v v' h false = times_rises (storage_capacity m c) v v' h
 
   pub stored_water_rises : (v v' : Fraction) → AtMost v v' → AtMost (stored_water m w c v) (stored_water m w c v')
@@ -26,5 +27,5 @@ module _ (m : FlowModel) (w : ConvertibleLayers) (c : ℕ) where
       by_steady : (b : Bool) →
           AtMost (cond b (whole (pos 0)) (times (as_fraction (over one (step_length (period_at m p) n))) (minus (stored_water m w c old) (stored_water m w c v))))
           (cond b (whole (pos 0)) (times (as_fraction (over one (step_length (period_at m p) n))) (minus (stored_water m w c old') (stored_water m w c v'))))
-      by_steady true = AtMost-self (whole (pos 0))
+      by_steady true = AtMost-of (whole (pos 0)) (whole (pos 0)) refl
       by_steady false = times_rises _ _ _ (minus_rises _ _ _ _ (stored_water_rises old old' h) (stored_water_rises v' v k))

@@ -41,7 +41,8 @@ module _ (m : FlowModel) (thick : ℕ → Ratio) where
   branch Vertical a = vertical_branch a (a + stride m.grid Vertical)
 
 module _ (m : FlowModel) (w : ConvertibleLayers) where
-  -- a cell of a convertible layer: LAYTYP isn't 0 (TM 6-A16, chapter 5, LPF; that a LAYTYP below 0 counts as convertible where the option THICKSTRT isn't set is LPF's code)
+  -- A cell of a convertible layer: LAYTYP isn't 0 (TM 6-A16, chapter 5, LPF). That a LAYTYP below 0 counts as convertible where the
+  -- option THICKSTRT isn't set rests on knowledge of LPF's code.
   abbrev pub is_convertible : ℕ → Bool
   is_convertible c = is_nonzero (int_at w.laytyp (layer_of m.grid c))
 

@@ -49,7 +49,8 @@ listed_heads m at l = heads_at m at (10 ^ 9) l
 
 -- At one step: both vectors are gentle. At the lower heads each variable cell gains at least a unit of flow, with the stored
 -- water of the lower heads of the step before; at the upper heads it loses at least one, with that of the upper heads.
-pub record HasSignsAt (unit : Ratio) (m : FlowModel) (w : ConvertibleLayers) (at : TimeStep) (old_low old_high : ℕ → Fraction) (pair : ListedPair) : Type 0 where
+pub record HasSignsAt (unit : Ratio) (m : FlowModel) (w : ConvertibleLayers) (at : TimeStep) (old_low old_high : ℕ → Fraction)
+    (pair : ListedPair) : Type 0 where
   pub low_gentle : IsGentle m w at.period (listed_heads m at pair.low)
   pub high_gentle : IsGentle m w at.period (listed_heads m at pair.high)
   pub low : All (λ c. GainsAtLeast unit (water_balance m w at old_low (listed_heads m at pair.low) c)) (variable_cells m at.period)

@@ -32,7 +32,16 @@ module _ (m : FlowModel) (w : ConvertibleLayers) (at : TimeStep) (h : ℕ → Fr
   variable_branch x = record { cell = index_of m at.period x.end; conductance = conductance_at m w h x.axis x.first }
 
   abbrev pub constant_branch : Face → ExactFixed
-  constant_branch x = record { kind = Constant; source = x.end; conductance = conductance_at m w h x.axis x.first; head = constant_head m at.period at.step x.end }
+  constant_branch x = record {
+    kind = Constant;
+    source = x.end;
+    conductance = conductance_at m w h x.axis x.first;
+    head = constant_head m at.period at.step x.end;
+  }
+
+  -- general heads: they don't depend on the heads of the step
+  abbrev pub general_branches : ℕ → List ExactFixed
+  general_branches c = map (exact_fixed m at.period at.step (start_head m) c) (filter_map as_general (local_entries m at.period c))
 
   -- All that flows into cell c but for storage: what a confined model's exact cell has, with the conductances at these heads. Wells, recharge,
   -- general heads and evapotranspiration don't depend on old heads: STRT stands in their place.
@@ -41,7 +50,7 @@ module _ (m : FlowModel) (w : ConvertibleLayers) (at : TimeStep) (h : ℕ → Fr
     id = c;
     flows = map (exact_flow m at.period at.step (start_head m) c) (flow_sources m at.period c);
     links = map variable_branch (variable_faces m at.period c);
-    fixed = map constant_branch (constant_faces m at.period c) ++ map (exact_fixed m at.period at.step (start_head m) c) (filter_map as_general (local_entries m at.period c));
+    fixed = map constant_branch (constant_faces m at.period c) ++ general_branches c;
     rivers = map exact_river (river_sources m at.period c);
     drains = map exact_drain (drain_sources m at.period c);
     evaps = map (exact_evap m at.period at.step (start_head m) c) (evap_sources m at.period c);

@@ -25,4 +25,6 @@ module _ (m : FlowModel) (w : ConvertibleLayers) where
   -- What cell c gives from storage in step n of period p, from the head `old` to the head v: the water that it loses, over the
   -- step's length. In a steady period it is nothing.
   unfoldable pub storage_flow : ℕ → ℕ → ℕ → Fraction → Fraction → Fraction
-  storage_flow p n c old v = cond (period_at m p).steady (whole (pos 0)) (times (as_fraction (over one (step_length (period_at m p) n))) (minus (stored_water c old) (stored_water c v)))
+  storage_flow p n c old v =
+      cond (period_at m p).steady (whole (pos 0))
+      (times (as_fraction (over one (step_length (period_at m p) n))) (minus (stored_water c old) (stored_water c v)))

@@ -19,7 +19,9 @@ pumping = record { neg = true; digits = 6; exp = negsuc 0 }
 
 -- Three cells in a row, from 0 up to 1 m, of width and conductivity 1: heads of 1 m at the ends, and a well in the middle.
 abbrev pub pumped_model : FlowModel
-pumped_model = row_model (negsuc 0 ∷ pos 1 ∷ negsuc 0 ∷ []) (decimal 1 0 ∷ no_number ∷ decimal 1 0 ∷ []) [] (period_with true (decimal 1 0) 1 (Well (cell 1) pumping ∷ [])) 3
+pumped_model =
+    row_model (negsuc 0 ∷ pos 1 ∷ negsuc 0 ∷ []) (decimal 1 0 ∷ no_number ∷ decimal 1 0 ∷ []) []
+    (period_with true (decimal 1 0) 1 (Well (cell 1) pumping ∷ [])) 3
 
 -- LAYTYP is 1
 abbrev pub pumped_layers : ConvertibleLayers
@@ -40,7 +42,10 @@ middle_balance z = water_balance pumped_model pumped_layers only_step (start_hea
 
 -- listed heads of the middle cell from 0.59999999 to 0.60000001 m
 abbrev pub narrow_pair : ListedPair
-narrow_pair = record { low = head_at (pos 1000000000 ∷ pos 599999990 ∷ pos 1000000000 ∷ []); high = head_at (pos 1000000000 ∷ pos 600000010 ∷ pos 1000000000 ∷ []) }
+narrow_pair = record {
+  low = head_at (pos 1000000000 ∷ pos 599999990 ∷ pos 1000000000 ∷ []);
+  high = head_at (pos 1000000000 ∷ pos 600000010 ∷ pos 1000000000 ∷ []);
+}
 
 -- At 0.6 m and at 0.25 m the balance is 0. The first is gentle and solves the model, and a narrow pair about it has the signs; at the second the
 -- head falls to the cell by 0.75 m, which is more than its saturated thickness.
