@@ -1,0 +1,3 @@
+mod Common
+pub mod Same
+pub mod Frozen
