@@ -2,7 +2,7 @@
 ghost use Rattle.std.specs.Prelude.{IfOk};
 ghost use Rattle.cell_relax.specs.{AreWords};
 
-use crate::guess::{Guess, guess_of};
+use crate::guess::{Guess, guess_of, pattern_of};
 use crate::half::{VISITS_OF_NEWTON, half_guess};
 use crate::linear::Linear;
 use crate::links::Links;
@@ -98,7 +98,7 @@ pub fn guess_in_two_threads<'a, R: Threads>(
     ensures { IfOk result (λ g. AreWords p.now (Guess.bounds g).items) }
 {
     let links = Links::of(alloc, p)?;
-    let pattern = kept.eliminable.pattern(alloc, &links, false)?;
+    let pattern = pattern_of(alloc, &links, &mut kept.eliminable)?;
     let step = Step {
         alloc,
         problem: p,

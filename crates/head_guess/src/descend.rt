@@ -5,8 +5,8 @@ use crate::work::Work;
 use std::alloc::AllocError;
 use std::mem;
 
-// The greatest number of fires.
-const MOST_FIRES: u32 = 1_000_000;
+// The greatest number of sets that fall, one after the other.
+const MOST_SETS: u32 = 1_000_000;
 
 // The number of units before the first gallop, between two gallops that gain, and at most between two.
 const FIRST_WAIT: u32 = 24;
@@ -33,7 +33,7 @@ pub fn descend(
     let mut from = heads.clone()?;
     let mut wait = if is_near { WAIT_OF_FEW } else { FIRST_WAIT };
     let mut since = 0_u32;
-    for _ in 0..MOST_FIRES {
+    for _ in 0..MOST_SETS {
         let units = wait.saturating_sub(since).max(1);
         let mut sink = Sink::new(side, heads.as_slice(), units)?;
         if sink.is_empty() || work.budget.left <= end {

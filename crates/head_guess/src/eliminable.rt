@@ -12,6 +12,9 @@ const MOST_OPERATIONS: u64 = 12_000;
 // And with at most this number where nothing else solves a system.
 const MOST_OF_DEAR: u64 = 100_000;
 
+/// With more cells than these a factor takes many operations.
+pub const MANY_CELLS: usize = 1 << 17;
+
 /// What is known of the elimination of a problem's links. It is kept from one step to the next, since links stay.
 #[derive(Drop)]
 pub enum Eliminable {

@@ -6,10 +6,10 @@ use multigrid::numbers::{clamp_long, greatest};
 pub const WHOLE: i64 = 1_048_576;
 
 // The number of turns at each cell that a trial may take, at least: heads that are settled or a little too low settle in fewer.
-const TURNS: u64 = 12;
+const TURNS_OF_TRIAL: u64 = 12;
 
 // Most turns at each cell of a trial, where the room is wide.
-const MOST_TURNS: u64 = 48;
+const MOST_TURNS_OF_TRIAL: u64 = 48;
 
 // A step up, where turns say nothing of the next share.
 const STEP: i64 = WHOLE / 64;
@@ -29,7 +29,7 @@ const HALVES: i128 = 5;
 
 // Heads are near each other if they differ by at most this number of units. Where the room is wide, so that gallops follow anyway, by at most
 // 2^-NEAR_BITS of it. Where it is one of the widest, shares for each cell follow, which start from the search's.
-const NEAR: i128 = 64;
+const NEAR_UNITS: i128 = 64;
 
 const NEAR_BITS: u32 = 10;
 
@@ -84,7 +84,7 @@ impl Extent {
         }
     }
 
-    /// The turns of a trial: TURNS of each cell; after a first one in an even problem more, where falls by a unit cost more than those.
+    /// The turns of a trial: TURNS_OF_TRIAL of each cell; after a first one in an even problem more, where falls by a unit cost more than those.
     pub fn most_turns(&self, is_next: bool) -> u64 {
         let square = if is_next && self.is_even() {
             self.room.saturating_mul(2).checked_div(self.parts)
@@ -92,8 +92,10 @@ impl Extent {
             None
         };
         let turns = square.unwrap_or(0).unsigned_abs().isqrt();
-        let turns = u64::try_from(turns).unwrap_or(TURNS);
-        turns.clamp(TURNS, MOST_TURNS).saturating_mul(self.cells)
+        let turns = u64::try_from(turns).unwrap_or(TURNS_OF_TRIAL);
+        turns
+            .clamp(TURNS_OF_TRIAL, MOST_TURNS_OF_TRIAL)
+            .saturating_mul(self.cells)
     }
 
     /// Whether falls by a unit from heads that settled in these turns cost less than one more trial.
@@ -115,7 +117,7 @@ impl Extent {
         let near = if self.room >= WIDE && !self.is_widest() {
             self.room >> NEAR_BITS
         } else {
-            NEAR
+            NEAR_UNITS
         };
         units <= near
     }

@@ -41,7 +41,7 @@ pub fn way_between(
 const MOST_STEPS: u32 = 64;
 
 // The number of turns that a step may take at each cell that it moves.
-const TURNS: u64 = 8;
+const TURNS_OF_GALLOP: u64 = 8;
 
 /// Lowers settled heads along a way, and then by twice what was kept of the last step, as long as they settle within a few turns at each cell that
 /// moves, and keep half. Where they do not settle, half the step is the last one. They stay settled. Returns the longest fall.
@@ -57,7 +57,7 @@ pub fn gallop(work: &mut Work, heads: &mut Vec<i64>, way: Vec<i64>) -> Result<i6
         if wanted.cells == 0 {
             break;
         }
-        let most = wanted.cells.saturating_mul(TURNS).max(turns / 2);
+        let most = wanted.cells.saturating_mul(TURNS_OF_GALLOP).max(turns / 2);
         let raised = raise_within(work, &mut lower, Some(heads.as_slice()), most)?;
         turns = turns.saturating_add(raised.turns);
         if raised.is_settled {

@@ -2,6 +2,7 @@
 ghost use Rattle.std.specs.Prelude.{IfOk};
 ghost use Rattle.cell_relax.specs.{AreWords};
 
+use crate::eliminable::{Eliminable, MANY_CELLS};
 use crate::half::{HalfGuess, half_guess};
 use crate::linear::Linear;
 use crate::links::Links;
@@ -10,6 +11,7 @@ use crate::search::first_share;
 use crate::steps::{Kept, LastStep, high_start, low_start, take_last};
 use crate::work::both;
 use multigrid::numbers::at;
+use star_mesh::Pattern;
 use std::alloc::{AllocError, Global};
 use step_problem::{Barrier, Bound, Problem, Side};
 
@@ -80,6 +82,19 @@ fn halves_in_turn(
     Ok(LastStep { low, high })
 }
 
+/// The pattern of the links, if elimination may be of use in guessing settled heads: it takes long with many cells, and cycles do as well where
+/// links are even.
+pub fn pattern_of<'k>(
+    alloc: Global,
+    links: &Links,
+    eliminable: &'k mut Eliminable,
+) -> Result<Option<&'k Pattern>, AllocError> {
+    if links.len() > MANY_CELLS && links.are_even() && links.are_nearly_straight() {
+        return Ok(None);
+    }
+    eliminable.pattern(alloc, links, false)
+}
+
 /// A guess of the settled pair of a problem and a barrier. It begins with what the guess of the last step has kept, which may be that of any problem.
 pub fn guess_heads<'a>(
     alloc: Global,
@@ -90,7 +105,7 @@ pub fn guess_heads<'a>(
     ensures { IfOk result (λ g. AreWords p.now (Guess.bounds g).items) }
 {
     let links = Links::of(alloc, p)?;
-    let pattern = kept.eliminable.pattern(alloc, &links, false)?;
+    let pattern = pattern_of(alloc, &links, &mut kept.eliminable)?;
     let step = Step {
         alloc,
         problem: p,

@@ -33,10 +33,13 @@ pub const VISITS_OF_NEWTON: u64 = 12_000;
 
 const VISITS_OF_DESCENT: u64 = 2_000;
 
-const MOST_VISITS: u64 = 65_536;
+const MOST_VISITS_OF_DESCENT: u64 = 65_536;
 
 // The number of turns at each cell that heads near those of the last step may take to settle.
-const TURNS: u64 = 12;
+const TURNS_NEAR_LAST: u64 = 12;
+
+// They begin lower than the last settled ones by this number of units more: to raise cells by them takes less than as many falls.
+const UNITS_BELOW_LAST: i128 = 5;
 
 // A descent from heads of the last step, moved as far as the balanced ones have. None where they did not settle within a few turns, or the
 // descent did not end.
@@ -50,11 +53,13 @@ fn lowest_near(
     };
     let fall = |cell| {
         let below = at(last.balanced.as_slice(), cell) as i128;
-        below.wrapping_sub(at(lowest.heads.as_slice(), cell) as i128)
+        below
+            .wrapping_sub(at(lowest.heads.as_slice(), cell) as i128)
+            .wrapping_add(UNITS_BELOW_LAST)
     };
     let mut heads = side.heads_below(balanced, fall)?;
     let mut work = Work::new(side, VISITS_OF_DESCENT);
-    let turns = TURNS.saturating_mul(side.len() as u64);
+    let turns = TURNS_NEAR_LAST.saturating_mul(side.len() as u64);
     if !raise_within(&mut work, &mut heads, None, turns)?.is_settled {
         drop(heads);
         return Ok(None);
@@ -85,7 +90,7 @@ fn lowest_of(
     };
     let room = linear.room(work)?;
     let units = greatest(room).unsigned_abs() >> 10;
-    let visits = units.max(VISITS_OF_DESCENT).min(MOST_VISITS);
+    let visits = units.max(VISITS_OF_DESCENT).min(MOST_VISITS_OF_DESCENT);
     let mut work = Work::new(work.side, visits);
     lowest_below(&mut work, balanced, room, share)
 }

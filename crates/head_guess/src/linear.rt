@@ -13,7 +13,7 @@ use std::mem;
 const VISITS_OF_LEVELS: u64 = 20;
 
 // Rounds of conjugate gradients, those for the room, and those where no elimination would follow: then a room to a few parts in a hundred will do.
-const ROUNDS: u32 = 30;
+const ROUNDS_OF_SOLUTION: u32 = 30;
 
 const ROUNDS_OF_ROOM: u32 = 60;
 
@@ -33,8 +33,8 @@ const BITS_OF_ROOM: u32 = 10;
 // Elimination always pays with at most this number of operations for each cell, as in a layer of 256 x 256, where slopes stay as they are.
 const FEW_OPERATIONS: u64 = 1_500;
 
-// With at most this number of cells it pays where slopes change from round to round, too.
-const FEW_CELLS: usize = 4_096;
+/// With at most this number of cells it pays where slopes change from round to round, too.
+pub const FEW_CELLS: usize = 4_096;
 
 /// A system with what its method needs: conjugate gradients with multigrid cycles, or elimination.
 enum Method {
@@ -85,7 +85,7 @@ pub struct Linear {
     pub is_hard: bool,
 }
 
-// Whether a factor takes few operations, and serves more than a round of Newton's method or has few cells.
+// Whether a factor takes few operations, and is of use in more than one round of Newton's method or has few cells.
 fn is_cheap(pattern: &Pattern, links: &Links) -> bool {
     pattern.operations <= FEW_OPERATIONS.saturating_mul(pattern.len() as u64)
         && (pattern.len() <= FEW_CELLS || links.are_nearly_straight())
@@ -206,7 +206,7 @@ impl Linear {
         for (right, number) in self.method.right_side().iter_mut().zip(numbers) {
             *right = shift(*number, places).wrapping_shr(scale);
         }
-        self.unknowns(work, ROUNDS, bits)
+        self.unknowns(work, ROUNDS_OF_SOLUTION, bits)
     }
 
     /// How small a residual has to be, in bits, for unknowns of 2^-places in a round of Newton's method after which the slopes change: a factor

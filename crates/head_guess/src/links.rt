@@ -33,6 +33,9 @@ impl Part {
     }
 }
 
+// Sums of lower and upper conductances that differ by at most this are taken as one.
+const MOST_BETWEEN: i64 = 12;
+
 /// A cell's edges, branches to known heads and ramps, and how far its balance falls when its head rises by a unit: at least, and at most where
 /// it is straight.
 #[derive(Clone, Copy, Default)]
@@ -68,6 +71,11 @@ impl Row {
     /// Whether the balance is linear but for rounding: the cell has only links and known heads.
     pub fn is_straight(&self) -> bool {
         self.ramps.first == self.ramps.end
+    }
+
+    /// Whether the bounds of its conductances are so near each other that its slope is one number but for a few units.
+    pub fn is_narrow(&self) -> bool {
+        self.greatest.saturating_sub(self.least) <= MOST_BETWEEN
     }
 
     fn add_branch(&mut self, branch: Branch) {

@@ -18,7 +18,7 @@ const SHORT: i64 = 1 << 15;
 const LONG: i128 = 1 << 24;
 
 // A round is the last one if it moves no head by more than these units: few cells pass a bend.
-const NEAR: i128 = 256;
+const STILL: i128 = 256;
 
 // After a round that began with longer moves another one follows in any case where balances bend.
 const FAR_FROM_LAST: i64 = 1 << 14;
@@ -26,8 +26,11 @@ const FAR_FROM_LAST: i64 = 1 << 14;
 // The longest move leaves at most this part of it, if its system was solved.
 const BITS_OF_SLACK: u32 = 12;
 
+// A round by a solved system leaves at most this part of the longest move by one balance alone, where all balances are straight.
+const BITS_SOLVED: u32 = 8;
+
 // The longest last move after which a system still takes all that is left.
-const LONGEST: i128 = 1 << 44;
+const LONGEST_LAST: i128 = 1 << 44;
 
 // Heads are far from the balanced ones where a balance alone would move its head by more than this.
 const FAR: i64 = 1 << 36;
@@ -127,6 +130,11 @@ impl Newton {
             .all(|(cell, head)| !side.bends_within(cell, *head, self.slack))
     }
 
+    // Whether balances are as small beside those before a round as a solved system leaves them: they are not where branches bend.
+    fn is_solved_from(&self, alone: i64) -> bool {
+        self.longest_move() < SHORT.max(alone >> BITS_SOLVED)
+    }
+
     // The longest of the moves that would each cancel one balance alone.
     fn longest_move(&self) -> i64 {
         let mut longest = 0_i64;
@@ -174,7 +182,7 @@ impl Newton {
         let bits_of_slack = if is_solved { BITS_OF_SLACK } else { 0 };
         self.slack = clamp_long(longest.wrapping_shr(bits_of_slack));
         let may_end = match until {
-            Until::Straight => longest < LONGEST && self.is_straight(work.side),
+            Until::Straight => longest < LONGEST_LAST && self.is_straight(work.side),
             _ => alone < SHORT && longest < LONG,
         };
         (longest, may_end && is_solved)
@@ -190,7 +198,7 @@ impl Newton {
         for _ in 0..MOST_ROUNDS {
             let linear = Linear::of(work, self.slopes.as_slice(), kept)?;
             let alone = self.longest_move();
-            if until == Until::Near && alone < SHORT {
+            if until != Until::Balanced && alone < SHORT {
                 break;
             }
             let slack = self.slack;
@@ -199,8 +207,9 @@ impl Newton {
                 break;
             }
             self.linearize(work.side);
+            let is_last = is_last && (until != Until::Straight || self.is_solved_from(alone));
             // A ramp whose foot is near counts by the slack before the move, and may not by the one after it.
-            let is_still = longest <= NEAR && slack <= NEAR as i64;
+            let is_still = longest <= STILL && slack <= STILL as i64;
             if is_still || is_last && linear.is_near(self.slopes.as_slice()) {
                 if !self.set_tops(work.side) {
                     break;

@@ -6,32 +6,27 @@ use multigrid::numbers::{at, clamp_long, put, width};
 use std::alloc::AllocError;
 use step_problem::problem::HEAD_LIMIT;
 
-/// A cell's balance at its head, the head that it may reach, and the least balance at which it can rise.
+/// How far a cell's balance at its head exceeds the least one at which it can rise, and the head that it may reach. Half a line of a
+/// processor's cache, since a turn waits for memory.
 #[derive(Clone, Copy, Default)]
 struct Node {
-    balance: i128,
+    excess: i128,
     head: i64,
     cap: i64,
-    least: i64,
-    // The number of times that it may still rise.
-    rises: u32,
 }
 
 impl Node {
     fn can_rise(&self) -> bool {
-        (self.balance >= self.least as i128) & (self.head < self.cap)
+        (self.excess >= 0) & (self.head < self.cap)
     }
 
     // The node after a rise that makes its balance fall. It stays there if that was its last one.
-    fn after_rise(self, units: i64, fall: i128) -> Node {
-        let rises = self.rises.saturating_sub(1);
+    fn after_rise(self, units: i64, fall: i128, is_last: bool) -> Node {
         let head = self.head.wrapping_add(units);
         Node {
-            balance: self.balance.wrapping_sub(fall),
+            excess: self.excess.wrapping_sub(fall),
             head,
-            cap: if rises == 0 { head } else { self.cap },
-            rises,
-            ..self
+            cap: if is_last { head } else { self.cap },
         }
     }
 }
@@ -40,6 +35,8 @@ impl Node {
 #[derive(Drop)]
 pub struct Nodes {
     nodes: Vec<Node>,
+    // The number of times that each cell may still rise; none where that is not bounded.
+    rises: Vec<u32>,
 }
 
 // A quotient by a divisor that is not 0, or a little less.
@@ -52,23 +49,25 @@ fn quotient(number: i128, divisor: i64) -> i64 {
 
 impl Nodes {
     /// The nodes of heads that may rise to their caps, if there are any.
-    pub fn new(
-        side: &OneSide,
-        heads: &[i64],
-        caps: Option<&[i64]>,
-        rises: u32,
-    ) -> Result<Nodes, AllocError> {
+    pub fn new(side: &OneSide, heads: &[i64], caps: Option<&[i64]>) -> Result<Nodes, AllocError> {
         let mut nodes = Vec::with_capacity(side.alloc, heads.len())?;
         for (cell, head) in heads.iter().enumerate() {
+            let least = side.links.row(cell).least as i128;
             nodes.push(Node {
-                balance: side.balance(cell, *head, heads),
+                excess: side.balance(cell, *head, heads).wrapping_sub(least),
                 head: *head,
                 cap: caps.map_or(HEAD_LIMIT, |caps| at(caps, cell)),
-                least: side.links.row(cell).least,
-                rises,
             })?;
         }
-        Ok(Nodes { nodes })
+        Ok(Nodes {
+            nodes,
+            rises: Vec::new(side.alloc),
+        })
+    }
+
+    /// Bounds how often each cell may rise.
+    pub fn bound_rises(&mut self, rises: u32) -> Result<(), AllocError> {
+        self.rises.resize(self.nodes.len(), rises)
     }
 
     /// Writes the heads of all cells.
@@ -80,9 +79,9 @@ impl Nodes {
 
     /// Whether each cell has risen as often as it may.
     pub fn are_spent(&self, side: &OneSide) -> Result<Vec<bool>, AllocError> {
-        self.nodes
+        self.rises
             .iter()
-            .map(|node| node.rises == 0)
+            .map(|rises| *rises == 0)
             .collect(side.alloc)
     }
 
@@ -109,12 +108,15 @@ impl Nodes {
                 cap = cap.min(ramp.bend_above(node.head));
             }
         }
-        let long = greatest as i128;
-        let units = if node.balance >= long.wrapping_mul(2) {
-            quotient(node.balance, greatest)
+        let (long, balance) = (
+            greatest as i128,
+            node.excess.wrapping_add(row.least as i128),
+        );
+        let units = if balance >= long.wrapping_mul(2) {
+            quotient(balance, greatest)
         } else {
             let fall = || side.unit_fall(row, node.head, |other| self.node(other).head) as i128;
-            (node.balance >= long || node.balance >= fall()) as i64
+            (balance >= long || balance >= fall()) as i64
         };
         units.min(cap.wrapping_sub(node.head))
     }
@@ -129,7 +131,7 @@ impl Nodes {
                 let above = head.wrapping_sub(node.head);
                 taken = taken.wrapping_add(edge.branch.loss(above, units));
                 let gain = edge.branch.gain(above, units);
-                node.balance = node.balance.wrapping_add(gain);
+                node.excess = node.excess.wrapping_add(gain);
                 marks.set_if(other, node.can_rise());
             }
         }
@@ -145,11 +147,22 @@ impl Nodes {
                 let above = head.wrapping_sub(node.head);
                 taken = taken.wrapping_add(edge.branch.unit_loss(above));
                 let gain = edge.branch.unit_gain(above);
-                node.balance = node.balance.wrapping_add(gain as i128);
+                node.excess = node.excess.wrapping_add(gain as i128);
                 marks.set_if(other, node.can_rise());
             }
         }
         taken
+    }
+
+    // Counts a rise of a cell. Returns whether it is the last one that it may make.
+    fn count_rise(&mut self, cell: usize) -> bool {
+        match self.rises.as_mut_slice().get_mut(cell) {
+            Some(rises) => {
+                *rises = rises.saturating_sub(1);
+                *rises == 0
+            }
+            None => false,
+        }
     }
 
     /// Raises a cell, at most to its cap, and marks the cells that may rise after that. Returns whether it moved.
@@ -170,7 +183,8 @@ impl Nodes {
             self.spread(edges, node.head, units, marks)
         };
         let fall = taken.wrapping_add(side.fall_beside_links(&row, node.head, units));
-        let risen = node.after_rise(units, fall);
+        let is_last = self.count_rise(cell);
+        let risen = node.after_rise(units, fall, is_last);
         put(self.nodes.as_mut_slice(), cell, risen);
         marks.set_if(cell, risen.can_rise());
         true

@@ -88,6 +88,7 @@ impl OneSide<'_> {
         filled_value(one_side, added)
     }
 
+    // Adds the floor, the branches and the flows of each cell.
     fn add_all(&mut self, step: &Step) -> Result<(), AllocError> {
         let (side, problem, barrier) = (self.side, step.problem, step.barrier);
         for cell in 0..problem.len() {
@@ -155,9 +156,10 @@ impl OneSide<'_> {
         head <= self.floor(cell)
     }
 
-    /// A balance and its slope, or nothing for a cell that would fall below its floor: it is fixed there.
+    /// A balance and its slope, or nothing for a cell that would fall below its floor or rise beyond the range of heads: it is fixed there.
     pub fn held(&self, cell: usize, head: i64, piece: (i128, i64)) -> (i128, i64) {
-        if head == self.floor(cell) && piece.0 < 0 {
+        let is_at_floor = head == self.floor(cell) && piece.0 < 0;
+        if is_at_floor || head == HEAD_LIMIT && piece.0 > 0 {
             (0, 0)
         } else {
             piece

@@ -3,8 +3,9 @@ ghost use Rattle.std.specs.Prelude.{IfOk};
 ghost use Rattle.cell_relax.specs.{AreWords};
 
 use crate::branch::head_on;
+use crate::eliminable::MANY_CELLS;
 use crate::guess::bounds_of;
-use crate::linear::Linear;
+use crate::linear::{FEW_CELLS, Linear};
 use crate::links::Links;
 use crate::newton::{Until, find_balanced};
 use crate::one_side::{OneSide, Step};
@@ -16,12 +17,9 @@ use std::alloc::{AllocError, Global};
 use step_problem::{Barrier, Bound, Problem, Side};
 
 // The visits at each cell for one side, and where no pattern was looked for.
-const VISITS: u64 = 12_000;
+const VISITS_OF_PAIR: u64 = 12_000;
 
-const FEW_VISITS: u64 = 1_000;
-
-// With more cells than these a factor takes many operations, so a pattern is looked for only where cycles leave a system unsolved.
-const MANY: usize = 1 << 17;
+const FEW_VISITS_OF_PAIR: u64 = 1_000;
 
 /// A pair that has failed, which may be any, and how many have failed up to this one.
 #[derive(Clone, Copy)]
@@ -185,6 +183,12 @@ fn may_be_dear(failed: Option<Failed>, kept: &Option<Linear>) -> bool {
     }
 }
 
+// Whether a pattern is looked for only where cycles leave a system unsolved: a factor would take many operations, or be of use in few rounds.
+fn needs_no_pattern(links: &Links) -> bool {
+    let cells = links.len();
+    cells > MANY_CELLS || cells > FEW_CELLS && !links.are_nearly_straight()
+}
+
 /// Bounds of the heads that may be a certificate of a problem and a barrier: balanced heads, moved outwards so that each balance is about the
 /// slope at its cell, and rounded outwards. If a pair has failed: heads moved from it so that each balance is about the slope, or twice that
 /// after some tries. It begins with what the last pair or guess has kept, which may be that of any problem.
@@ -199,8 +203,17 @@ pub fn guess_pair(
 {
     let links = Links::of(alloc, p)?;
     let linear = &mut kept.linear;
-    if p.len() > MANY && !is_hard(linear) {
-        let pair = pair_of(alloc, p, b, &links, None, failed, FEW_VISITS, linear)?;
+    if needs_no_pattern(&links) && !is_hard(linear) {
+        let pair = pair_of(
+            alloc,
+            p,
+            b,
+            &links,
+            None,
+            failed,
+            FEW_VISITS_OF_PAIR,
+            linear,
+        )?;
         if !is_hard(linear) {
             return Ok(pair);
         }
@@ -208,9 +221,9 @@ pub fn guess_pair(
     let is_dear = may_be_dear(failed, linear);
     let pattern = kept.eliminable.pattern(alloc, &links, is_dear)?;
     let visits = if pattern.is_none() {
-        FEW_VISITS
+        FEW_VISITS_OF_PAIR
     } else {
-        VISITS
+        VISITS_OF_PAIR
     };
     pair_of(alloc, p, b, &links, pattern, failed, visits, linear)
 }

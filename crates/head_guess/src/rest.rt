@@ -7,10 +7,10 @@ use multigrid::numbers::at;
 use std::alloc::AllocError;
 
 // The bits of a solution below a unit.
-const PLACES: u32 = 14;
+const PLACES_OF_REST: u32 = 14;
 
 // The bits of its residuals: they are at most 2^-5 of each slope.
-const BITS: u32 = 9;
+const BITS_OF_REST: u32 = 9;
 
 // Where heads move too far for those places: few places, and residuals of at most 2^-4 of each slope.
 const FEW_PLACES: u32 = 4;
@@ -20,7 +20,9 @@ const FEW_BITS: u32 = 0;
 // What is left as a balance: the slope as often, and the part of it by which the solution may be off. Rounding changes a balance by at most
 // its slope, so that the sign of what is left is sure where balances are straight.
 fn rest_of(slope: i64, times: i64) -> i128 {
-    product(times, slope).wrapping_add((slope >> PLACES.saturating_sub(BITS)) as i128)
+    product(times, slope).wrapping_add(
+        (slope >> PLACES_OF_REST.saturating_sub(BITS_OF_REST)) as i128,
+    )
 }
 
 // Heads that are moved by the correction of these balances, rounded down.
@@ -67,8 +69,8 @@ fn solved_heads(
 ) -> Result<Vec<i64>, AllocError> {
     for _ in 0..2 {
         let linear = Linear::of(work, slopes, kept)?;
-        let lower = corrected_heads(work, linear, heads, balances, PLACES, BITS)?;
-        if linear.is_solved(BITS) || work.side.pattern.is_none() {
+        let lower = corrected_heads(work, linear, heads, balances, PLACES_OF_REST, BITS_OF_REST)?;
+        if linear.is_solved(BITS_OF_REST) || work.side.pattern.is_none() {
             return Ok(lower);
         }
         drop(lower);

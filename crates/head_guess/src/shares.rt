@@ -10,9 +10,9 @@ use std::alloc::AllocError;
 use std::mem;
 
 // The bits of a solution below a unit, and those to which its residuals are solved.
-const PLACES: u32 = 10;
+const PLACES_OF_SHARES: u32 = 10;
 
-const BITS: u32 = 12;
+const BITS_OF_SHARES: u32 = 12;
 
 // A cell that rises as often in a round is too low: in a round of the first cycle, of the second one, whose steps are shorter, and where shares only fall.
 const RISES: u32 = 4;
@@ -22,7 +22,7 @@ const MORE_RISES: u32 = 6;
 const RISES_OF_FALLS: u32 = 8;
 
 // The rounds of a cycle, and at most those after it in which shares only fall: few where another cycle is left.
-const ROUNDS: u32 = 60;
+const ROUNDS_OF_CYCLE: u32 = 60;
 
 const FEW_FALLS: u32 = 20;
 
@@ -32,16 +32,16 @@ const MOST_FALLS: u32 = 200;
 const BITS_OF_CYCLE: u32 = 5;
 
 // The visits that a round takes at each cell beside its solution.
-const VISITS: u64 = 11;
+const VISITS_OF_ROUND: u64 = 11;
 
 // The turns at each cell in which heads settle where no cell is too low.
-const TURNS: u64 = 20;
+const TURNS_TO_SETTLE: u64 = 20;
 
 /// The visits that a cycle takes.
 pub fn visits_of_cycle(pattern: &Pattern) -> u64 {
-    let cells = (pattern.len() as u64).saturating_mul(VISITS);
+    let cells = (pattern.len() as u64).saturating_mul(VISITS_OF_ROUND);
     let visits = cells.saturating_add(visits_of_solution(pattern));
-    visits.saturating_mul(ROUNDS as u64)
+    visits.saturating_mul(ROUNDS_OF_CYCLE as u64)
 }
 
 // Heads that are lowered by a share of the room for each cell, and how these shares change.
@@ -84,11 +84,15 @@ impl Shares {
         let flows = self
             .changes
             .flows(side.alloc, self.linear.slopes.as_slice())?;
-        let places = PLACES as i64 - Changes::PLACES;
-        let unknowns = self.linear.solve(work, flows.as_slice(), places, BITS);
+        let places = PLACES_OF_SHARES as i64 - Changes::PLACES;
+        let unknowns = self
+            .linear
+            .solve(work, flows.as_slice(), places, BITS_OF_SHARES);
         let way = |cell| {
             let unknown = at(unknowns, cell) as i128;
-            unknown.wrapping_add(1 << (PLACES - 1)).wrapping_shr(PLACES)
+            unknown
+                .wrapping_add(1 << (PLACES_OF_SHARES - 1))
+                .wrapping_shr(PLACES_OF_SHARES)
         };
         self.heads = side.heads_below(self.heads.as_slice(), way)?;
         Ok(())
@@ -97,7 +101,7 @@ impl Shares {
     // A cycle: rounds in which shares fall and rise, in steps that are at most as long. Those cells are too low that rise as often.
     fn turn_all(&mut self, work: &mut Work, longest: i64, rises: u32) -> Result<(), AllocError> {
         self.changes.begin(longest);
-        for _ in 1..ROUNDS {
+        for _ in 1..ROUNDS_OF_CYCLE {
             let are_low = raise_counted(work, &mut self.heads, rises)?;
             self.changes.turn(are_low.as_slice());
             self.lower(work)?;
@@ -108,7 +112,7 @@ impl Shares {
 
     // Rounds in which shares only fall, until the heads settle. Returns whether they do.
     fn settle(&mut self, work: &mut Work, most_falls: u32) -> Result<bool, AllocError> {
-        let turns = TURNS.saturating_mul(work.side.len() as u64);
+        let turns = TURNS_TO_SETTLE.saturating_mul(work.side.len() as u64);
         self.changes.begin_falls();
         for _ in 0..most_falls {
             let are_low = raise_counted(work, &mut self.heads, RISES_OF_FALLS)?;

@@ -6,9 +6,27 @@ use multigrid::numbers::at;
 use std::alloc::AllocError;
 
 impl OneSide<'_> {
-    // How far a balance without its ramps falls when its cell's head rises by a unit from `own`, where `around` are the heads of the cells
-    // that it is linked with.
-    fn straight_fall<F: Fn(usize) -> i64>(&self, row: &Row, own: i64, around: F) -> i64
+    // The slope of a balance without its ramps: the greater fall to either side, or nearly that where conductances are known well.
+    fn straight_slope(&self, row: &Row, own: i64, heads: &[i64]) -> i64 {
+        if row.is_narrow() {
+            return row.greatest;
+        }
+        let (mut left, mut right) = (0_i64, 0_i64);
+        for edge in self.links.edges(row) {
+            let above = own.wrapping_sub(at(heads, edge.other as usize));
+            left = left.saturating_add(edge.branch.unit_loss(above.wrapping_sub(1)));
+            right = right.saturating_add(edge.branch.unit_loss(above));
+        }
+        for known in self.knowns(row) {
+            let above = own.wrapping_sub(known.head);
+            left = left.saturating_add(known.branch.unit_loss(above.wrapping_sub(1)));
+            right = right.saturating_add(known.branch.unit_loss(above));
+        }
+        left.max(right)
+    }
+
+    /// How far a balance falls when its cell's head rises by a unit from `own`, where `around` are the heads of the cells that it is linked with.
+    pub fn unit_fall<F: Fn(usize) -> i64>(&self, row: &Row, own: i64, around: F) -> i64
         requires { F.IsAlwaysCallable around }
     {
         let mut sum = 0_i64;
@@ -18,17 +36,6 @@ impl OneSide<'_> {
         }
         for known in self.knowns(row) {
             sum = sum.saturating_add(known.branch.unit_loss(own.wrapping_sub(known.head)));
-        }
-        sum
-    }
-
-    /// How far a balance falls when its cell's head rises by a unit from `own`.
-    pub fn unit_fall<F: Fn(usize) -> i64>(&self, row: &Row, own: i64, around: F) -> i64
-        requires { F.IsAlwaysCallable around }
-    {
-        let mut sum = self.straight_fall(row, own, around);
-        if row.is_straight() {
-            return sum;
         }
         for ramp in self.ramps(row) {
             sum = sum.saturating_add(ramp.fall(own));
@@ -79,11 +86,9 @@ impl OneSide<'_> {
         let row = self.links.row(cell);
         let own = at(heads, cell);
         let mut balance = self.straight_balance(cell, &row, own, heads);
-        let left = self.straight_fall(&row, own.saturating_sub(1), |other| at(heads, other));
-        let right = self.straight_fall(&row, own, |other| at(heads, other));
         let (gain, more) = self.line_gain(&row, own, bends.top);
         balance = balance.wrapping_add(gain);
-        let mut slope = left.max(right).saturating_add(more);
+        let mut slope = self.straight_slope(&row, own, heads).saturating_add(more);
         for ramp in self.ramps(&row) {
             let (flow, fall) = ramp.piece(self.side, own, bends);
             balance = balance.wrapping_add(flow);
@@ -119,9 +124,13 @@ impl OneSide<'_> {
         let mut slopes = Vec::with_capacity(self.alloc, heads.len())?;
         for (cell, own) in heads.iter().enumerate() {
             let row = self.links.row(cell);
-            let left = self.unit_fall(&row, own.saturating_sub(1), |other| at(heads, other));
-            let right = self.unit_fall(&row, *own, |other| at(heads, other));
-            slopes.push(left.max(right).max(1))?;
+            let (mut left, mut right) = (0_i64, 0_i64);
+            for ramp in self.ramps(&row) {
+                left = left.saturating_add(ramp.fall(own.saturating_sub(1)));
+                right = right.saturating_add(ramp.fall(*own));
+            }
+            let slope = self.straight_slope(&row, *own, heads);
+            slopes.push(slope.saturating_add(left.max(right)).max(1))?;
         }
         Ok(slopes)
     }
