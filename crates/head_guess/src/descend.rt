@@ -1,9 +1,8 @@
 // From settled heads down to the first settled ones.
 use crate::gallop::{gallop, way_between};
 use crate::sink::Sink;
-use crate::work::Work;
+use crate::work::{Work, both};
 use std::alloc::AllocError;
-use std::mem;
 
 // The greatest number of sets that fall, one after the other.
 const MOST_SETS: u32 = 1_000_000;
@@ -36,14 +35,20 @@ pub fn descend(
     for _ in 0..MOST_SETS {
         let units = wait.saturating_sub(since).max(1);
         let mut sink = Sink::new(side, heads.as_slice(), units)?;
-        if sink.is_empty() || work.budget.left <= end {
-            let order = mem::replace(&mut sink.order, Vec::new(side.alloc));
+        let is_over = work.budget.left <= end;
+        let fallen = if is_over {
+            Ok(0)
+        } else {
+            sink.fall_through(side, heads.as_mut_slice())
+        };
+        work.budget.spend(sink.visits);
+        if is_over || sink.is_empty() {
+            let order = sink.last_order(side.alloc);
             drop(sink);
             drop(from);
+            let (order, _) = both(order, fallen)?;
             return Ok(order);
         }
-        let fallen = sink.fall_through(side, heads.as_mut_slice());
-        work.budget.spend(sink.visits);
         drop(sink);
         since = since.saturating_add(fallen?);
         if since >= wait {

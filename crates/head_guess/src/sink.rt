@@ -4,7 +4,7 @@ use crate::marks::{CELLS, Marks, Sweep};
 use crate::one_side::OneSide;
 use crate::spot::{Depth, NEVER, Spot};
 use multigrid::numbers::{clamp_long, filled_value, label, put};
-use std::alloc::AllocError;
+use std::alloc::{AllocError, Global};
 
 /// All cells, and how far the set has fallen.
 #[derive(Drop)]
@@ -15,8 +15,8 @@ pub struct Sink {
     joining: Vec<u32>,
     leaving: Vec<u32>,
     depth: Depth,
-    /// The cells that have left, in their order.
-    pub order: Vec<u32>,
+    // The cells that have left, in their order.
+    order: Vec<u32>,
     members: u64,
     /// The number of cells that were visited.
     pub visits: u64,
@@ -82,6 +82,17 @@ impl Sink {
     /// Whether all cells rise again.
     pub fn is_empty(&self) -> bool {
         self.members == 0
+    }
+
+    /// The cells that have left and not joined again, in their order: each rises by what those before it give.
+    pub fn last_order(&self, alloc: Global) -> Result<Vec<u32>, AllocError> {
+        let mut order = Vec::with_capacity(alloc, self.spots.len())?;
+        for (place, cell) in self.order.iter().enumerate() {
+            if self.spot(*cell as usize).burnt_at == label(place.saturating_add(1)) {
+                order.push(*cell)?;
+            }
+        }
+        Ok(order)
     }
 
     fn spot(&self, cell: usize) -> Spot {
@@ -225,10 +236,10 @@ impl Sink {
     /// Lowers the heads: the set falls until it is empty, or has fallen as far as it may. Returns by how many units.
     pub fn fall_through(&mut self, side: &OneSide, heads: &mut [i64]) -> Result<u32, AllocError> {
         for _ in 0..self.depth.last {
-            self.fall(side)?;
             if self.is_empty() {
                 break;
             }
+            self.fall(side)?;
         }
         for (head, spot) in heads.iter_mut().zip(self.spots.as_slice()) {
             *head = self.depth.head_of(spot);
