@@ -9,6 +9,8 @@ GONE = re.compile(r"has no field|is not in scope|has no `|was not admitted")
 # What the check says of a function that isn't proved, and of one that only calls such a function.
 UNPROVED = re.compile(r"fn (\S+): (?:not proved|no proof)")
 CALLS = re.compile(r"fn \S+: (?:not proved|no proof): it calls")
+# A function that the borrow checker doesn't read, so that none of its goals was tried.
+NOT_COVERED = re.compile(r"borrow checker does not cover")
 # An error of types, and one of a text that can't be read.
 TYPES = re.compile(r"error\[")
 UNREAD = re.compile(r"has no field|is not in scope|is no name|operand is missing|expected the end|cannot continue")
@@ -38,6 +40,9 @@ def fault_of(status, lines):
     if status != 1 or not open_goals:
         raise NotTried(f"the check ended with {status}: {' '.join(lines[-3:])}")
     own = [line for path, text, line in errors if not (path.startswith("proofs/") and GONE.search(text))]
+    unread = [line for line in open_goals if NOT_COVERED.search(line)]
+    if unread:
+        raise NotTried(f"the goals of the edited text were not tried: {unread[0]}")
     if errors and not own:
         raise NotTried(f"a proof file only names what the edit took away: {errors[0][2]}")
     return (own or open_goals)[0]
@@ -50,5 +55,5 @@ def own_fault(function, status, lines):
     own = [line for text, line in errors if not GONE.search(text)]
     if not errors:
         own = [line for line in lines if (found := UNPROVED.match(line)) and found[1].partition("::")[2] == function
-               and not CALLS.match(line)]
+               and not CALLS.match(line) and not NOT_COVERED.search(line)]
     return own[0] if status == 1 and own else ""
