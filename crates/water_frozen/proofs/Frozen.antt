@@ -3,7 +3,7 @@ use Rattle.water_frozen.proofs.Common.{◌≡◌, ℕ, zero, suc, ◌+◌, ◌-�
 use Rattle.water_frozen.proofs.Common.{cases_Bool, not, nat_lt, ◌&&◌, or_right, IsBelow, lesser, AtMost-trans, ints, ◌≤◌, ◌/◌, ◌%◌, Same-of, times-positive}
 use Rattle.water_frozen.proofs.Common.{Fraction, Ratio, number, size, AtMost, Same, times, IsModel, bed_thickness, bottom_at, cell_count, dec_at, delc_at}
 use Rattle.water_frozen.proofs.Common.{delr_at, gap, hani_at, hk_at, int_at, is_active, is_nonzero, layer_size, lowest, thickness, top_at, two}
-use Rattle.water_frozen.proofs.Common.{vertical_conductivity, vkcb_at}
+use Rattle.water_frozen.proofs.Common.{vertical_conductivity, vkcb_at, over-positive}
 use Rattle.decimal_input.proofs.Orders.{Same-sym, Same-trans}
 use Rattle.decimal_input.proofs.FloorLaws.{Same-sym as FractionSame-sym}
 use Rattle.std.proofs.lemmas.Bool.Decides.{nat_tests}
@@ -13,7 +13,7 @@ use Rattle.model_types.specs.declared.model.FlowModel.{FlowModel}
 use Rattle.water_table.specs.declared.convertible_layers.ConvertibleLayers.{ConvertibleLayers}
 use Rattle.water_table.specs.{IsGentle, is_convertible}
 use Rattle.water_frozen.specs.{FrozenBranchesAreAtHeads, IsFrozenAt, has_water_table, is_covered, whole_heads}
-use Rattle.water_frozen.proofs.Same.{below_lesser, gap_same, gap_some, lesser_full, half_same, half_some, series_same, some_of_same, way_same}
+use Rattle.water_frozen.proofs.Same.{below_lesser, gap_same, gap_some, lesser_full, half_same, series_same, some_of_same, way_same}
 use Rattle.water_enclosure.proofs.Cells.{conductivity_some, delc_some, delr_some, factor_some, hani_some, hk_some, layer_back, past_layer, room, top_after}
 use Rattle.water_enclosure.proofs.Cells.{tops_below}
 unfoldable use Rattle.decimal_input.specs.{over}
@@ -116,20 +116,20 @@ module _ (m f : FlowModel) (w : ConvertibleLayers) (l : ℕ → ℤ) (p : ℕ) (
     column_is = λ j. in_a_row (half (size (delc_is a j)) (size (delr_is a j)) (times (size (hk_is a j)) (size (hani_is a j))) (thickness f a)) (half (size (delc_is b j)) (size (delr_is a j)) (times (size (hk_is b j)) (size (hani_is b j))) (thickness f b))
 
     row_same : Same (row_branch m (thickness f) a b) (row_branch m (saturated_thickness m w h) a b)
-    unfolding row_branch
+    unfolding row_branch half
     row_same =
         let some = factor_some _ _ (delc_some m valid a) (hk_some m valid a lt active) in
         let some' = factor_some _ _ (delc_some m valid a) (hk_some m valid b lt' active') in
-        series_same _ _ _ _ (half_some _ _ _ _ (delr_some m valid a)) (half_some _ _ _ _ (delr_some m valid a))
+        series_same _ _ _ _ (over-positive _ _ (delr_some m valid a)) (over-positive _ _ (delr_some m valid a))
         (half_same _ _ _ _ _ some (frozen_some a lt active) (thick_some a lt active) (thick_same a lt active))
         (half_same _ _ _ _ _ some' (frozen_some b lt' active') (thick_some b lt' active') (thick_same b lt' active'))
 
     column_same : Same (column_branch m (thickness f) a b) (column_branch m (saturated_thickness m w h) a b)
-    unfolding column_branch
+    unfolding column_branch half
     column_same =
         let some = factor_some _ _ (delr_some m valid a) (times-positive _ _ (hk_some m valid a lt active) (hani_some m valid a lt active)) in
         let some' = factor_some _ _ (delr_some m valid a) (times-positive _ _ (hk_some m valid b lt' active') (hani_some m valid b lt' active')) in
-        series_same _ _ _ _ (half_some _ _ _ _ (delc_some m valid a)) (half_some _ _ _ _ (delc_some m valid a))
+        series_same _ _ _ _ (over-positive _ _ (delc_some m valid a)) (over-positive _ _ (delc_some m valid a))
         (half_same _ _ _ _ _ some (frozen_some a lt active) (thick_some a lt active) (thick_same a lt active))
         (half_same _ _ _ _ _ some' (frozen_some b lt' active') (thick_some b lt' active') (thick_same b lt' active'))
 

@@ -64,10 +64,6 @@ pub half_same : (d w k t t' : Ratio) → 0 < (times (times two w) k).num → 0 <
 unfolding half
 half_same d w k t t' some thick thick' s = over-Same (times-positive _ _ some thick) (times-positive _ _ some thick') (Same-self d) (times-Same (Same-self _) s)
 
-pub half_some : (d w k t : Ratio) → 0 < d.num → 0 < (half d w k t).num
-unfolding half
-half_some d w k t long = over-positive _ _ long
-
 pub series_same : (r r' q q' : Ratio) → 0 < r.num → 0 < r'.num → Same r r' → Same q q' → Same (in_a_row r q) (in_a_row r' q')
 unfolding in_a_row
 series_same r r' q q' some some' s z = over-Same (plus-positive _ _ some) (plus-positive _ _ some') (Same-self one) (plus-Same s z)
