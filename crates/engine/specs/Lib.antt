@@ -28,10 +28,9 @@ pub use Rattle.engine.specs.Cases.{decks_text, job_of, job_task, jobs_read, list
 pub use Rattle.engine.specs.Cases.{steps_read, task_of, zones_read}
 pub use Rattle.engine.specs.Checked.{IsCheck, certified_line, verdict_line, verdict_status}
 pub use Rattle.engine.specs.Commands.{MayRead}
-pub use Rattle.engine.specs.DeckListing.{DeckHeadline, DeckSpanHeadline, OneDeckListing, OneDeckSpan}
+pub use Rattle.engine.specs.DeckListing.{OneDeckListing, OneDeckSpan}
 pub use Rattle.engine.specs.Decks.{IsDeck, OneDeck}
-pub use Rattle.engine.specs.Defined.{CutOf, Defines, Due, IsAfter, IsDue, IsJobEnd, IsRunText, IsSaid, JobDefines, ReadsFolder, broken_off, defined, model_line}
-pub use Rattle.engine.specs.Defined.{unread}
+pub use Rattle.engine.specs.Defined.{CutOf, Defines, Due, IsDue, IsJobEnd, IsRunText, IsSaid, JobDefines, ReadsFolder, broken_off, defined, model_line, unread}
 pub use Rattle.engine.specs.Headline.{ListsPairs}
 pub use Rattle.engine.specs.Made.{IsMade, made_task, summed_text}
 pub use Rattle.engine.specs.OneListing.{AreItsSteps, OneSummary, OneVerdict}

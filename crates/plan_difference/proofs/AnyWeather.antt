@@ -3,10 +3,9 @@ use Rattle.plan_difference.proofs.Common.{◌≡◌, ℕ, suc, ◌*◌, ◌<◌,
 use Rattle.plan_difference.proofs.Common.{get_or, inl, inr, All, Contains, zero-*ℤ, le_of_mul-le-mul_right, mul-le-mul_right, ints, AllZip, Encloses, Fraction}
 use Rattle.plan_difference.proofs.Common.{Ratio, AtMost, entries_at, no_entries, CellEncloses, ExactCell, ExactFixed, ExactLink, FixedEncloses, HasEqualEnds}
 use Rattle.plan_difference.proofs.Common.{HasLinkBack, cell_at, no_cell, BoundsDifferences, SolutionsBoundDifferences, EnclosesDifferences, IsDifferenceCell}
-use Rattle.plan_difference.proofs.Common.{IsDifferenceStep, IsOpenBranch, IsRampBranch, ExactFlow}
+use Rattle.plan_difference.proofs.Common.{IsDifferenceStep, IsOpenBranch, IsRampBranch, ExactFlow, All-cons, All-head, All-nil, All-tail}
 use Rattle.std.proofs.lemmas.Bool.{cases_lt}
 use Rattle.std.proofs.lemmas.List.{get_or_past}
-use Rattle.std.proofs.lemmas.List.Elements.{All-cons, All-head, All-nil, All-tail}
 use Rattle.decimal_input.specs.Ratios.{den}
 use Rattle.step_problem.specs.Entries.{Entries}
 use Rattle.step_problem.specs.declared.entry.Fixed.{Fixed}

@@ -1,14 +1,9 @@
 -- The worked example meets the premises of the laws.
-use Rattle.std.proofs.Common.{◌≡◌, ℕ, zero, suc, ◌<◌, refl, arith, pos, ◌-ℤ◌, All, [], ◌∷◌}
-use Rattle.std.proofs.lemmas.Int.{ints}
-use Rattle.std.proofs.lemmas.List.Elements.{All-cons, All-nil}
-use Rattle.decimal_input.specs.{Encloses, whole}
-use Rattle.step_problem.specs.declared.entry.FixedKind.TheVariants.{Constant, General, Storage}
-use Rattle.step_problem.specs.{entries_at}
-use Rattle.cell_balance.specs.{HasEqualEnds, HasLinkBack, SolvesStep, balance, cell_at, share, one}
-use Rattle.plan_difference.specs.{AreFlowsApart, AreInOneWeather, AreStepsInOneWeather, BoundsDifferences, BoundsDifferencesOf, IsDifferenceCell}
-use Rattle.plan_difference.specs.{IsDifferenceStep, IsMetByExample, added, base_heads, base_step, planned_heads, planned_step, problem_of_differences}
-use Rattle.plan_difference.specs.{step_of_differences, half}
+use Rattle.plan_difference.proofs.Common.{◌≡◌, ℕ, zero, suc, ◌<◌, refl, arith, pos, ◌-ℤ◌, All, [], ◌∷◌, ints, All-cons, All-nil, Encloses, whole, Constant}
+use Rattle.plan_difference.proofs.Common.{General, Storage, entries_at, HasEqualEnds, HasLinkBack, SolvesStep, balance, cell_at, share, one, AreFlowsApart}
+use Rattle.plan_difference.proofs.Common.{AreInOneWeather, AreStepsInOneWeather, BoundsDifferences, BoundsDifferencesOf, IsDifferenceCell, IsDifferenceStep}
+use Rattle.plan_difference.proofs.Common.{IsMetByExample, added, base_heads, base_step, planned_heads, planned_step, problem_of_differences}
+use Rattle.plan_difference.proofs.Common.{step_of_differences, half}
 
 -- what holds of each of two cells
 of_two : (P : ℕ → Type 0) → P 0 → P 1 → (c : ℕ) → c < 2 → P c

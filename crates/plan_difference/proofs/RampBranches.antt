@@ -3,10 +3,9 @@ use Rattle.plan_difference.proofs.Common.{◌≡◌, ℕ, suc, ◌-◌, ◌*◌,
 use Rattle.plan_difference.proofs.Common.{mul-le-mul_left, clamps, ints, Fraction, IsOver, Ratio, as_fraction, whole, den, as_diff, diffs, mul_assoc, mul_neg}
 use Rattle.plan_difference.proofs.Common.{same_diff, sub_mul, Goes-first, Goes-second, fraction_over, same_over, heads_over, IsOver-minus, IsOver-none}
 use Rattle.plan_difference.proofs.Common.{IsOver-signed, IsOver-times, ExactDrain, ExactEvap, ExactFixed, ExactRiver, drain_flow, evap_flow, fixed_flow, minus}
-use Rattle.plan_difference.proofs.Common.{river_flow, share, IsRampBranch}
+use Rattle.plan_difference.proofs.Common.{river_flow, share, IsRampBranch, General}
 use Rattle.std.specs.Int.{int_max, int_min}
 use Rattle.decimal_input.specs.Ratios.{den as ratio_den}
-use Rattle.step_problem.specs.declared.entry.FixedKind.TheVariants.{General}
 use Rattle.cell_balance.proofs.Over.{EntryOver, drain_over, evap_over, river_over}
 use Rattle.cell_balance.proofs.Zips.{WholeEntry, whole_drain, whole_evap, whole_river}
 use Rattle.plan_difference.proofs.Shares.{IsOnTheWay, IsPart, part_of_way}

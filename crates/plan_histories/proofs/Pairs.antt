@@ -1,18 +1,10 @@
 -- Two plans' histories are histories between two decks, and each choice of weathers has one of each.
-use Rattle.std.proofs.Common.{◌≡◌, ℕ, subst, sym, List, [], ◌∷◌, length, map, ℤ}
-use Rattle.std.specs.List.{flat_map, range_with_len}
-use Rattle.decimal_input.specs.{Fraction}
-use Rattle.model_types.specs.declared.entry.Entry.{Entry}
-use Rattle.model_types.specs.declared.model.FlowModel.{FlowModel}
+use Rattle.plan_histories.proofs.Common.{◌≡◌, ℕ, subst, sym, List, [], ◌∷◌, length, map, ℤ, flat_map, range_with_len, Fraction, Entry, FlowModel, start_head}
+use Rattle.plan_histories.proofs.Common.{times, heads_of, as_many, period_is, with_plan, PairsAreHistories, PairsHaveOne, SolvesPairsFrom}
 use Rattle.model_types.specs.declared.time_steps.TimeStep.{TimeStep}
-use Rattle.model_types.specs.{start_head, times}
-use Rattle.flow_equations.specs.{heads_of}
 use Rattle.deck_span.specs.{SolvesBetweenFrom}
 use Rattle.exact_histories.proofs.ChosenHistories.{choices_history, choices_one}
-use Rattle.plan_wells.proofs.Added.{as_many, period_is}
 use Rattle.plan_wells.proofs.Between.{planned_lie_between}
-use Rattle.plan_wells.specs.{with_plan}
-use Rattle.plan_histories.specs.{PairsAreHistories, PairsHaveOne, SolvesPairsFrom}
 
 -- wells change no time step
 times_same : (m : FlowModel) (plan : List (List Entry)) → length plan ≡ length m.periods → times (with_plan plan m) ≡ times m

@@ -1,11 +1,6 @@
 -- The entries of one cell, of lists one after the other.
-use Rattle.std.proofs.Common.{◌≡◌, ◌∙◌, ℕ, ap, refl, sym, All, List, [], ◌∷◌, ◌++◌, None, Option}
-use Rattle.std.specs.List.{cons_option, filter, filter_map}
-use Rattle.std.proofs.lemmas.List.{append-nil}
-use Rattle.std.proofs.lemmas.List.Elements.{All-filter, All-head, All-tail, filter-append, filter_map-append}
-use Rattle.std.specs.Prelude.{◌==◌}
-use Rattle.model_types.specs.{cell_of, entries_of}
-use Rattle.model_types.specs.declared.entry.Entry.{Entry}
+use Rattle.plan_histories.proofs.Common.{◌≡◌, ◌∙◌, ℕ, ap, refl, sym, All, List, [], ◌∷◌, ◌++◌, None, Option, cons_option, filter, filter_map, append-nil}
+use Rattle.plan_histories.proofs.Common.{All-filter, All-head, All-tail, filter-append, filter_map-append, ◌==◌, cell_of, entries_of, Entry}
 
 module _ {X : Type 0} (f : Entry → Option X) (c : ℕ) where
   abbrev pub picked : List Entry → List X

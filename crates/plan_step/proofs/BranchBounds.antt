@@ -1,26 +1,14 @@
 -- The branch of a river, a drain or an evapotranspiration lies within the bounds that both plans' heads give it.
-use Rattle.std.proofs.Common.{◌≡◌, ◌≤◌, ◌<◌, ◌*◌, ◌+◌, ◌-◌, ◌^◌, ◌∙◌, inl, inr, min, ℕ, ap, arith, mul-pos, refl, subst, sym, ℤ, pos, ◌+ℤ◌, ◌-ℤ◌, ◌*ℤ◌, ◌≤ℤ◌, ◌<ℤ◌}
-use Rattle.std.specs.Int.{int_max, int_min}
+use Rattle.plan_step.proofs.Common.{◌≡◌, ◌≤◌, ◌<◌, ◌*◌, ◌+◌, ◌-◌, ◌^◌, ◌∙◌, inl, inr, min, ℕ, ap, arith, mul-pos, refl, subst, sym, ℤ, pos, ◌+ℤ◌, ◌-ℤ◌, ◌*ℤ◌}
+use Rattle.plan_step.proofs.Common.{◌≤ℤ◌, ◌<ℤ◌, int_max, int_min, mul-le-mul_left, mul-le-mul_right, cases_lt, by_lt_z, clamps, ints, mul_mono_right, Encloses}
+use Rattle.plan_step.proofs.Common.{Fraction, IsOver, Ratio, den, sub_mul, Goes-first, Goes-second, fraction_over, whole_drain, whole_evap, whole_river}
+use Rattle.plan_step.proofs.Common.{ExactFixed, FixedEncloses, drain_flow, evap_flow, river_flow, share, IsRampBranch, IsPart, mul_sub, High, Low}
+use Rattle.plan_step.proofs.Common.{DrainsAreEnclosed, EvapsAreEnclosed, RiversAreEnclosed, acting, branch}
 use Rattle.std.proofs.Math.IntN.{zero-*ℤ}
-use Rattle.std.proofs.Math.Nat.{mul-le-mul_left, mul-le-mul_right}
-use Rattle.std.proofs.lemmas.Bool.{cases_lt}
-use Rattle.std.proofs.lemmas.Int.{by_lt_z, clamps, ints}
-use Rattle.decimal_input.proofs.FloorLaws.{mul_mono_right}
-use Rattle.decimal_input.specs.{Encloses, Fraction, IsOver, Ratio}
-use Rattle.decimal_input.specs.Fractions.{den}
 use Rattle.decimal_input.specs.Ratios.{den as ratio_den}
-use Rattle.cell_balance.proofs.Deep.{sub_mul}
-use Rattle.cell_balance.proofs.Denominators.{Goes-first, Goes-second, fraction_over}
 use Rattle.cell_balance.proofs.Enclosed.{between_over}
 use Rattle.cell_balance.proofs.ExactLaws.{heads_over}
-use Rattle.cell_balance.proofs.Zips.{whole_drain, whole_evap, whole_river}
-use Rattle.cell_balance.specs.{ExactFixed, FixedEncloses, drain_flow, evap_flow, river_flow, share}
-use Rattle.plan_difference.specs.{IsRampBranch}
 use Rattle.plan_difference.proofs.RampBranches.{branch_over, drain_kind, evap_kind, part_den, part_of, river_kind}
-use Rattle.plan_difference.proofs.Shares.{IsPart}
-use Rattle.step_problem.proofs.Leasts.{mul_sub}
-use Rattle.step_problem.specs.declared.heads.Side.TheVariants.{High, Low}
-use Rattle.plan_step.specs.{DrainsAreEnclosed, EvapsAreEnclosed, RiversAreEnclosed, acting, branch}
 use Rattle.plan_step.proofs.Corners.{high_corner, low_corner}
 use Rattle.plan_step.proofs.Stretches.{IsStretch, stretch}
 

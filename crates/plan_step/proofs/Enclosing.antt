@@ -1,28 +1,16 @@
 -- The problem of the differences encloses a step of the differences at any heads of both plans within their bounds.
-use Rattle.std.proofs.Common.{◌≡◌, ◌≤◌, ◌<◌, ◌+◌, ◌*◌, ◌-◌, ◌^◌, ◌∙◌, mul-pos, ℕ, zero, suc, ap, arith, refl, subst, sym, ℤ, pos, ◌-ℤ◌, ◌*ℤ◌, ◌≤ℤ◌, List, [], ◌∷◌, ◌++◌, length, map, drop}
-use Rattle.std.specs.List.{AllZip}
-use Rattle.std.proofs.lemmas.Int.{ints}
-use Rattle.decimal_input.specs.{EnclosesSigned, Fraction, fraction_total, opposite, whole}
-use Rattle.decimal_input.specs.Fractions.{Same, den}
-use Rattle.decimal_input.proofs.FloorLaws.{Same-sym, Same-trans, negated_enclosed}
-use Rattle.step_problem.specs.declared.entry.Fixed.{Fixed}
-use Rattle.step_problem.specs.declared.entry.FixedKind.{FixedKind}
-use Rattle.step_problem.specs.declared.entry.Flow.{Flow}
-use Rattle.step_problem.specs.declared.heads.Bound.{Bound}
-use Rattle.step_problem.specs.Entries.{Entries}
-use Rattle.step_problem.specs.{entries_at, no_entries}
-use Rattle.cell_balance.proofs.Denominators.{fraction_over}
+use Rattle.plan_step.proofs.Common.{◌≡◌, ◌≤◌, ◌<◌, ◌+◌, ◌*◌, ◌-◌, ◌^◌, ◌∙◌, mul-pos, ℕ, zero, suc, ap, arith, refl, subst, sym, ℤ, pos, ◌-ℤ◌, ◌*ℤ◌, ◌≤ℤ◌, List}
+use Rattle.plan_step.proofs.Common.{[], ◌∷◌, ◌++◌, length, map, drop, AllZip, ints, EnclosesSigned, Fraction, fraction_total, opposite, whole, Same, den}
+use Rattle.plan_step.proofs.Common.{Same-sym, Same-trans, negated_enclosed, Fixed, FixedKind, Flow, Bound, Entries, entries_at, no_entries, fraction_over}
+use Rattle.plan_step.proofs.Common.{IsOver-minus, IsOver-none, AllZip-at, AllZip-length, CellEncloses, DrainEncloses, EvapEncloses, ExactCell, ExactFixed}
+use Rattle.plan_step.proofs.Common.{ExactFlow, FixedEncloses, FlowEncloses, RiverEncloses, cell_at, drain_flow, evap_flow, minus, no_cell, river_flow, share}
+use Rattle.plan_step.proofs.Common.{AreFlowsApart, IsDifferenceCell, IsDifferenceStep, IsRampBranch, known_difference, known_differences, DifferencesHaveAStep}
+use Rattle.plan_step.proofs.Common.{IsApartBy, IsPlannedCell, SolutionsBoundPlans, are_turned, bound_at, difference_cell, drain_branch, evap_branch}
+use Rattle.plan_step.proofs.Common.{known_branch, known_high, known_low, river_branch, turned, turned_flow}
 use Rattle.cell_balance.proofs.Enclosing.{AllZip-map, same_over}
-use Rattle.cell_balance.proofs.Scaling.{IsOver-minus, IsOver-none}
-use Rattle.cell_balance.proofs.Zips.{AllZip-at, AllZip-length}
-use Rattle.cell_balance.specs.{CellEncloses, DrainEncloses, EvapEncloses, ExactCell, ExactFixed, ExactFlow, FixedEncloses, FlowEncloses, RiverEncloses, cell_at}
-use Rattle.cell_balance.specs.{drain_flow, evap_flow, minus, no_cell, river_flow, share}
-use Rattle.plan_difference.specs.{AreFlowsApart, IsDifferenceCell, IsDifferenceStep, IsRampBranch, known_difference, known_differences}
 use Rattle.plan_difference.proofs.AnyWeather.{equal_ends, related_after, related_at}
 use Rattle.plan_difference.proofs.DifferenceBalance.{difference_solves_it}
 use Rattle.plan_difference.proofs.Sames.{difference_of_sums, nothing_before}
-use Rattle.plan_step.specs.{DifferencesHaveAStep, IsApartBy, IsPlannedCell, SolutionsBoundPlans, are_turned, bound_at, difference_cell, drain_branch}
-use Rattle.plan_step.specs.{evap_branch, known_branch, known_high, known_low, river_branch, turned, turned_flow}
 use Rattle.plan_step.proofs.BranchBounds.{drains_are_enclosed, evaps_are_enclosed, rivers_are_enclosed}
 
 -- what each pair of elements has, two lists have

@@ -1,3 +1,4 @@
+mod Common
 pub mod BranchBounds
 pub mod Corners
 pub mod Enclosing

@@ -1,12 +1,7 @@
 -- Parts of a conductance, rounded.
-use Rattle.std.proofs.Common.{◌≤◌, ◌<◌, ◌+◌, ◌*◌, ◌/◌, ◌-◌, ℕ, arith, inl, inr}
-use Rattle.std.proofs.Math.Nat.{le_of_mul-le-mul_right, mul-le-mul_left, mul-le-mul_right}
-use Rattle.std.proofs.lemmas.Bool.{cases_lt}
-use Rattle.std.specs.Int.{div_ceil}
+use Rattle.plan_step.proofs.Common.{◌≤◌, ◌<◌, ◌+◌, ◌*◌, ◌/◌, ◌-◌, ℕ, arith, inl, inr, le_of_mul-le-mul_right, mul-le-mul_left, mul-le-mul_right, cases_lt}
+use Rattle.plan_step.proofs.Common.{div_ceil, Side, High, Low, divided}
 use Rattle.std.proofs.lemmas.Grind.{div_ceil_times}
-use Rattle.step_problem.specs.declared.heads.Side.{Side}
-use Rattle.step_problem.specs.declared.heads.Side.TheVariants.{High, Low}
-use Rattle.plan_step.specs.{divided}
 
 -- rounded down, a / b times b is at most a; rounded up, at least a
 pub down_times : (a b : ℕ) → 0 < b → (a / b) * b ≤ a

@@ -1,17 +1,10 @@
 -- Models that are alike, or between two, stay so with the same plan's wells.
-use Rattle.std.proofs.Common.{◌≡◌, refl, List, [], ◌∷◌, ◌++◌, length, sym, ap}
-use Rattle.std.specs.List.{AllZip}
-use Rattle.std.proofs.lemmas.List.Elements.{length_all_zip}
+use Rattle.plan_wells.proofs.Common.{◌≡◌, refl, List, [], ◌∷◌, ◌++◌, length, sym, ap, AllZip, length_all_zip, Entry, Period, AlikeHaveOnePlan, PlannedAreAlike}
+use Rattle.plan_wells.proofs.Common.{PlannedLieBetween, with_wells, Well, River, Drain, General, FlowModel}
 use Rattle.deck_span.specs.{AllThree, AreEntriesAlike, ArePeriodsAlike, IsEntryBetween, IsPeriodBetween, none, next, drains, generals, rivers, wells}
-use Rattle.deck_span.proofs.HullBounds.{number_itself}
+use Rattle.deck_span.proofs.HullBounds.{number_itself, size_itself}
 use Rattle.deck_span.proofs.ThreeLists.{three_append}
-use Rattle.model_types.specs.declared.entry.Entry.{Entry}
-use Rattle.model_types.specs.declared.period.Period.{Period}
-use Rattle.plan_wells.specs.{AlikeHaveOnePlan, PlannedAreAlike, PlannedLieBetween, with_wells}
 use Rattle.decimal_input.specs.{number, size}
-use Rattle.model_types.specs.declared.entry.Entry.TheVariants.{Well, River, Drain, General}
-use Rattle.deck_span.proofs.HullBounds.{size_itself}
-use Rattle.model_types.specs.declared.model.FlowModel.{FlowModel}
 use Rattle.plan_wells.proofs.Added.{planned_periods}
 
 -- each entry lies between itself and itself, and is alike itself

@@ -1,6 +1,5 @@
 -- A list whose first items are replaced one after the other, each by what it makes with an item of a second list.
-use Rattle.std.proofs.Common.{◌≡◌, ℕ, zero, suc, ◌<◌, ap, refl, arith, List, [], ◌∷◌, length, get_or, set}
-use Rattle.problem_hull.specs.{zip_with}
+use Rattle.plan_wells.proofs.Common.{◌≡◌, ℕ, zero, suc, ◌<◌, ap, refl, arith, List, [], ◌∷◌, length, get_or, set, zip_with}
 
 module _ {X Y : Type 0} (f : X → Y → X) where
   -- the first items replaced

@@ -1,16 +1,9 @@
 -- A valid model with a plan's wells is valid.
-use Rattle.std.proofs.Common.{◌≡◌, ◌≤◌, ℕ, refl, true, inl, inr, arith, All, List, length, nat_le}
-use Rattle.std.proofs.Common.{le-leb, leb-true}
-use Rattle.std.proofs.lemmas.List.{length-append}
-use Rattle.std.proofs.lemmas.List.Elements.{All-append, All-weaker}
-use Rattle.std.proofs.lemmas.List.Sums.{AllPass-from_list_all, list_all-from_AllPass}
-use Rattle.model_types.specs.{IsBedChecked, IsCellValid, IsEntryValid, IsEvapValid, IsPeriod, IsTimed, cell_count, evap_sources, most_entries}
-use Rattle.model_types.specs.declared.entry.Entry.{Entry}
-use Rattle.model_types.specs.declared.entry.Entry.TheVariants.{Well, River, Drain, General}
+use Rattle.plan_wells.proofs.Common.{◌≡◌, ◌≤◌, ℕ, refl, true, inl, inr, arith, All, List, length, nat_le, le-leb, leb-true, length-append, All-append}
+use Rattle.plan_wells.proofs.Common.{All-weaker, AllPass-from_list_all, list_all-from_AllPass, IsBedChecked, IsCellValid, IsEntryValid, IsEvapValid, IsPeriod}
+use Rattle.plan_wells.proofs.Common.{IsTimed, cell_count, evap_sources, most_entries, Entry, Well, River, Drain, General, FlowModel, Period, IsWell}
+use Rattle.plan_wells.proofs.Common.{PlainAreFew, PlannedAreValid, are_few, with_plan, with_wells}
 use Rattle.model_types.specs.declared.limits.Limits.TheVariants.{Plain}
-use Rattle.model_types.specs.declared.model.FlowModel.{FlowModel}
-use Rattle.model_types.specs.declared.period.Period.{Period}
-use Rattle.plan_wells.specs.{IsWell, PlainAreFew, PlannedAreValid, are_few, with_plan, with_wells}
 use Rattle.plan_wells.proofs.Added.{all_planned, as_many, period_is, planned_periods, sum_kept}
 
 well_valid : (cells : ℕ) (x : Entry) → IsWell cells x → IsEntryValid cells x

@@ -2,7 +2,7 @@
 ghost use Rattle.std.specs.Prelude.{◌≡◌, IfOk, length, map, replicate};
 ghost use Rattle.record_lines.specs.{HasText};
 ghost use Rattle.model_types.specs.{HasSize, no_period};
-ghost use Rattle.plan_wells.specs.{IsPlan, plan_of};
+ghost use Rattle.plan_wells.specs.Plans.{IsPlan, plan_of};
 
 use model_types::layers::dec_at;
 use model_types::{Entry, FlowModel, Limits, Listed, Period, Shared, Stresses};

@@ -2,10 +2,10 @@ pub mod Cut
 pub mod Parts
 pub mod Faults
 pub mod Stated
-pub use Rattle.stated_text.specs.Cut.{TextFile, after_byte, cut_at, file_of, files_of, first_is, is_file_line, joined, later, opened}
+pub use Rattle.stated_text.specs.Cut.{TextFile, after_byte, cut_at, file_of, first_is, is_file_line, joined}
 unfoldable pub use Rattle.stated_text.specs.Cut.{after_due, pieces}
-pub use Rattle.stated_text.specs.Faults.{Gives, IsLaterFault, IsMovedFault, IsRefused, after, cut_after}
-pub use Rattle.stated_text.specs.Parts.{at_lines, begins_part, has_zones, in_text, is_current, last_of, later_by, line_of, moved, or_bad, part_of, second_at}
+pub use Rattle.stated_text.specs.Faults.{Gives, IsLaterFault, IsMovedFault, IsRefused, cut_after}
+pub use Rattle.stated_text.specs.Parts.{at_lines, begins_part, has_zones, in_text, is_current, last_of, later_by, line_of, or_bad, part_of, second_at}
 pub use Rattle.stated_text.specs.Parts.{steps_after, unlike, zoned_model, zones_in}
 unfoldable pub use Rattle.stated_text.specs.Parts.{part_at, parts_in}
-pub use Rattle.stated_text.specs.Stated.{IsStated, StandsIn, parts_text, text_if}
+pub use Rattle.stated_text.specs.Stated.{IsStated, StandsIn}

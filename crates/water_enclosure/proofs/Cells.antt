@@ -1,6 +1,5 @@
 -- The numbers of active cells of a valid model: what is above 0, and elevations that fall.
-use Rattle.std.proofs.Common.{refl}
-use Rattle.water_enclosure.proofs.Common.{◌≡◌, ℕ, zero, suc, negsuc, ◌+◌, ◌-◌, ◌<◌, inl, inr, Bool, true, false, cond, ℤ, pos, ap, sym, ◌∙◌, subst, arith}
+use Rattle.water_enclosure.proofs.Common.{refl, ◌≡◌, ℕ, zero, suc, negsuc, ◌+◌, ◌-◌, ◌<◌, inl, inr, Bool, true, false, cond, ℤ, pos, ap, sym, ◌∙◌, subst, arith}
 use Rattle.water_enclosure.proofs.Common.{and_parts, cases_Bool, ints, int_lt, nat_lt, not, unsigned_abs, ◌==◌, IsBelow, over-positive, times-positive}
 use Rattle.water_enclosure.proofs.Common.{Fraction, Ratio, number, size, AtMost, size_positive, FlowModel, IsModel, IsThick, bottom_at, cell_count, dec_at}
 use Rattle.water_enclosure.proofs.Common.{delc_at, delr_at, hani_at, has_bed, hk_at, int_at, is_active, is_ratio, is_variable, layer_size, lowest, top_at, two}

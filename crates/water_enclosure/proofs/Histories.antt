@@ -1,8 +1,7 @@
 -- Step by step: what lies between the listed heads at one step gives the order of the old heads at the next.
-use Rattle.std.proofs.Common.{refl}
-use Rattle.water_enclosure.proofs.Common.{◌≡◌, ℕ, ◌<◌, ◌<ℤ◌, List, [], ◌∷◌, All, true, ℤ, pos, inl, inr, sym, ◌∙◌, subst, arith, ◌*ℤ◌, cases_Bool, by_lt_z}
-use Rattle.water_enclosure.proofs.Common.{ints, All-from_get_or, All-get_or, not, ◌&&◌, ◌^◌, below_over, over_le, IsBelow, share, Fraction, IsOver, Ratio}
-use Rattle.water_enclosure.proofs.Common.{as_fraction, opposite, AtMost, FlowModel, TimeStep, IsModel, cell_count, index_of, is_active, is_constant}
+use Rattle.water_enclosure.proofs.Common.{refl, ◌≡◌, ℕ, ◌<◌, ◌<ℤ◌, List, [], ◌∷◌, All, true, ℤ, pos, inl, inr, sym, ◌∙◌, subst, arith, ◌*ℤ◌, cases_Bool}
+use Rattle.water_enclosure.proofs.Common.{by_lt_z, ints, All-from_get_or, All-get_or, not, ◌&&◌, ◌^◌, below_over, over_le, IsBelow, share, Fraction, IsOver}
+use Rattle.water_enclosure.proofs.Common.{Ratio, as_fraction, opposite, AtMost, FlowModel, TimeStep, IsModel, cell_count, index_of, is_active, is_constant}
 use Rattle.water_enclosure.proofs.Common.{is_variable, start_head, variable_cells, ConvertibleLayers, GainsAtLeast, HasSignsAt, HasSignsFrom, IsWithin}
 use Rattle.water_enclosure.proofs.Common.{LieInPairs, LiesInPair, ListedPair, LosesAtLeast, NearlySolvesAt, NearlySolvesFrom, heads_at, listed_heads}
 use Rattle.water_enclosure.proofs.Common.{variable_cell, water_balance, AtMost-of, among, common, FlowsLieAt, FlowsLieFrom, OwnFlowsAreAtMost}

@@ -1,6 +1,4 @@
-use Rattle.std.proofs.Common.{◌≡◌, ◌<◌, ℕ, length}
-use Rattle.step_problem.specs.{entries_at}
-use Rattle.plan_step.specs.{bound_at, difference_cell}
+use Rattle.plan_step.proofs.Common.{◌≡◌, ◌<◌, ℕ, length, entries_at, bound_at, difference_cell}
 use Rattle.plan_step.proofs.problem.difference_cells.Given as goal
 
 abbrev pub invariant-loop-c : goal.invariant-loop-c

@@ -1,5 +1,4 @@
-use Rattle.std.proofs.Common.{◌≡◌, map, take}
-use Rattle.plan_step.specs.{known_branch}
+use Rattle.plan_step.proofs.Common.{◌≡◌, map, take, known_branch}
 use Rattle.plan_step.proofs.problem.known_branches.Given as goal
 
 abbrev pub invariant-loop-i : goal.invariant-loop-i

@@ -1,5 +1,4 @@
-use Rattle.std.proofs.Common.{◌≡◌, map, take}
-use Rattle.plan_step.specs.{turned}
+use Rattle.plan_step.proofs.Common.{◌≡◌, map, take, turned}
 use Rattle.plan_step.proofs.problem.turned_flows.Given as goal
 
 abbrev pub invariant-loop-i : goal.invariant-loop-i

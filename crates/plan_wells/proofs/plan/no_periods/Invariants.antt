@@ -1,5 +1,4 @@
-use Rattle.std.proofs.Common.{◌≡◌, replicate}
-use Rattle.model_types.specs.{no_period}
+use Rattle.plan_wells.proofs.Common.{◌≡◌, replicate, no_period}
 use Rattle.plan_wells.proofs.plan.no_periods.Given as goal
 
 abbrev pub invariant-loop : goal.invariant-loop

@@ -1,8 +1,4 @@
-use Rattle.std.proofs.Common.{◌≡◌, ◌∙◌, ap, length, List, map, Ok, refl, subst, sym}
-use Rattle.model_types.specs.declared.entry.Entry.{Entry}
-use Rattle.model_types.specs.declared.model.FlowModel.{FlowModel}
-use Rattle.model_types.specs.declared.period.Period.{Period}
-use Rattle.plan_wells.specs.{IsPlan}
+use Rattle.plan_wells.proofs.Common.{◌≡◌, ◌∙◌, ap, length, List, map, Ok, refl, subst, sym, Entry, FlowModel, Period, IsPlan}
 use Rattle.plan_wells.proofs.PlanForms.{given, is_plan, plan_reads, plan_stops}
 use Rattle.plan_wells.proofs.plan.read_plan.Goals as goal
 

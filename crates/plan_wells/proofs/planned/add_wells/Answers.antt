@@ -1,8 +1,5 @@
-use Rattle.std.proofs.Common.{◌≡◌, ◌++◌, ◌<◌, ◌∙◌, ℕ, suc, ap, arith, get_or, length, List, refl, set, subst, sym}
-use Rattle.std.proofs.lemmas.List.{get_or_default}
-use Rattle.model_types.specs.declared.entry.Entry.{Entry}
-use Rattle.model_types.specs.declared.period.Period.{Period}
-use Rattle.plan_wells.specs.{with_wells}
+use Rattle.plan_wells.proofs.Common.{◌≡◌, ◌++◌, ◌<◌, ◌∙◌, ℕ, suc, ap, arith, get_or, length, List, refl, set, subst, sym, get_or_default, Entry, Period}
+use Rattle.plan_wells.proofs.Common.{with_wells}
 use Rattle.plan_wells.proofs.PutInPlace.{put_all, put_first, put_length, put_next}
 use Rattle.plan_wells.proofs.planned.add_wells.Goals as goal
 

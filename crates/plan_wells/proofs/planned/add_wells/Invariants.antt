@@ -1,5 +1,4 @@
-use Rattle.std.proofs.Common.{◌≡◌}
-use Rattle.plan_wells.specs.{with_wells}
+use Rattle.plan_wells.proofs.Common.{◌≡◌, with_wells}
 use Rattle.plan_wells.proofs.PutInPlace.{put_first}
 use Rattle.plan_wells.proofs.planned.add_wells.Given as goal
 
