@@ -22,10 +22,10 @@ import scipy.sparse
 
 sys.path.insert(0, os.path.join(os.path.dirname(os.path.realpath(__file__)), "..", "..", "tools"))
 
-from heads_tools.certify import UNIT, Bounds  # noqa: E402  the repository's tools are found by the path above
-from heads_tools.equations import Step, given_heads  # noqa: E402
-from heads_tools.model import read_model  # noqa: E402
-from heads_tools.solvers import solved  # noqa: E402
+from heads_tools.numbers.certify import UNIT, Bounds  # noqa: E402  the repository's tools are found by the path above
+from heads_tools.numbers.equations import Step, given_heads  # noqa: E402
+from heads_tools.deck.model import read_model  # noqa: E402
+from heads_tools.numbers.solvers import solved  # noqa: E402
 
 MOST_OUTSIDE = 1e-6
 # Balances count as zero below these parts of a cell's conductances times 10^-9 of a head, and times its head.

@@ -2,7 +2,7 @@
 import sys
 from types import ModuleType
 
-from .drawdown import changes_of  # before the call drawdown, whose name the module would take
+from .listing.drawdown import changes_of  # before the call drawdown, whose name the module would take
 from .calls import (
     Answer,
     between,
@@ -19,15 +19,15 @@ from .calls import (
     plain,
     run,
 )
-from .exports import Place, heads_frame, terms_frame
-from .failures import NoBounds, RunFailed
-from .files import to_geotiff, to_vtk
-from .headfile import read_heads, write_heads
-from .listing import Listing, Step, read_listing
-from .model import Model, read_model
-from .netcdf import to_netcdf, to_xarray
-from .text import VERSION, Problem
-from .verdict import Verdict
+from .exports.exports import Place, heads_frame, terms_frame
+from .program.failures import NoBounds, RunFailed
+from .exports.files import to_geotiff, to_vtk
+from .listing.headfile import read_heads, write_heads
+from .listing.listing import Listing, Step, read_listing
+from .deck.model import Model, read_model
+from .exports.netcdf import to_netcdf, to_xarray
+from .common.text import VERSION, Problem
+from .listing.verdict import Verdict
 
 __version__ = VERSION
 CALLS = ("between", "certify", "compare", "drawdown", "inside", "look", "observe", "plain", "run")

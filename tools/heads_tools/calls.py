@@ -8,12 +8,12 @@ from dataclasses import dataclass
 from pathlib import Path
 from typing import TYPE_CHECKING, Any
 
-from .failures import failure_of
-from .listing import Listing
-from .text import Problem
+from .program.failures import failure_of
+from .listing.listing import Listing
+from .common.text import Problem
 
 if TYPE_CHECKING:
-    from .verdict import Verdict
+    from .listing.verdict import Verdict
 
 
 @dataclass(repr=False)
@@ -74,7 +74,7 @@ def arguments(command: str, given: dict[str, Any], options: dict[str, Any]) -> t
 
 def call(command: str, given: dict[str, Any], options: dict[str, Any]) -> Answer:
     """Does a command, whose words are `given` by their names in the parser."""
-    from . import commands
+    from .commands import doing as commands
 
     args, rest = arguments(command, given, options)
     said = io.StringIO()
@@ -85,7 +85,7 @@ def call(command: str, given: dict[str, Any], options: dict[str, Any]) -> Answer
 
 def made(command: str, given: dict[str, Any], options: dict[str, Any]) -> Answer:
     """Does a command that makes a listing, and raises RunFailed where it makes none."""
-    from . import commands
+    from .commands import doing as commands
 
     args, rest = arguments(command, given, options)
     said = io.StringIO()
@@ -146,7 +146,7 @@ def drawdown_whatever(
     """What a plan does to a base deck in every weather between it and the deck `to`, in any weather (any=True), or in
     its own. `plan`: a file of WEL or a name file. `.listing` is that of the difference decks. cell, at, digits, quick,
     wide."""
-    from .listing import read_listing
+    from .listing.listing import read_listing
 
     answer = call("drawdown", {"plan": base, "base": plan, "folder": folder}, {"to": to} | options)
     answer.written = read_listing(Path(folder) / "difference.heads")
@@ -170,9 +170,9 @@ def observe(listing: str | Path | Listing, points: str | Path, name: str | Path,
 
 def check(nam: str | Path, listing: str | Path | Listing, **options: Any) -> Verdict:
     """What `heads check` says of a listing: to, zones, wide. It goes with the listing into to_netcdf and the like."""
-    from . import commands
-    from .spans import second_deck
-    from .verdict import check_listing
+    from .commands import doing as commands
+    from .listing.spans import second_deck
+    from .listing.verdict import check_listing
 
     args, rest = arguments("check", {"nam": nam, "listing": listing}, options)
     if args.parts is not None:

@@ -12,7 +12,7 @@ from pathlib import Path
 from typing import NoReturn
 
 from . import __version__
-from .text import Problem
+from .common.text import Problem
 
 EPILOG = """\
 Nothing in heads-tools is proved. The program is found by the environment variable HEADS, else in this checkout,
@@ -94,7 +94,7 @@ that don't differ are written once. MODFLOW-2005 runs each of the two where it r
 
 
 def stress_range(text: str) -> object:
-    from .ranges import range_of
+    from .deck.ranges import range_of
 
     try:
         return range_of(text)
@@ -536,7 +536,7 @@ def main(words: list[str] | None = None) -> int:
     """Does what the words say; the status."""
     top = parser()
     complete(top)
-    from . import commands
+    from .commands import doing as commands
 
     # Where the home can't be written, matplotlib warns of its own folder, which a user can't act on.
     logging.getLogger("matplotlib").setLevel(logging.ERROR)

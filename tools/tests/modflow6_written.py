@@ -1,7 +1,7 @@
 """A deck of MODFLOW-2005 whose layers are confined, written as a MODFLOW 6 simulation: number by number, in the
 spelling that MODFLOW 6's own documents show."""
-from heads_tools.packages import read_deck
-from heads_tools.sources import Array
+from heads_tools.deck.packages import read_deck
+from heads_tools.deck.sources import Array
 
 ORDER = {"WEL": 1, "RIV": 3, "DRN": 2, "GHB": 2}
 AREAL = {

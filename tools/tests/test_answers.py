@@ -137,7 +137,7 @@ def test_pages_in_threads_are_drawn(valley, tmp_path):
 
 def test_heads_that_are_not_certified_raise_and_leave_the_certified_listing(valley, tmp_path, monkeypatch):
     """The listing that is checked has the upper heads on both sides."""
-    module = importlib.import_module("heads_tools.certify")
+    module = importlib.import_module("heads_tools.numbers.certify")
     heads_tools.write_heads(tmp_path / "m.hds", heads_tools.run(valley).listing)
     good = heads_tools.certify(valley, tmp_path / "m.hds").listing
     before = good.path.read_bytes()
@@ -155,7 +155,7 @@ def test_heads_that_are_not_certified_raise_and_leave_the_certified_listing(vall
 
 
 def test_a_command_writes_to_the_stream_that_it_is_given(valley):
-    from heads_tools import commands
+    from heads_tools.commands import doing as commands
     from heads_tools.calls import arguments
 
     args, rest = arguments("model", {"nam": valley}, {})

@@ -5,9 +5,9 @@ import numpy as np
 import pytest
 from conftest import TOP, heads
 
-from heads_tools.below_top import ALL_FULL, BelowTop, below_top
-from heads_tools.listing import read_listing
-from heads_tools.packages import read_deck
+from heads_tools.listing.below_top import ALL_FULL, BelowTop, below_top
+from heads_tools.listing.listing import read_listing
+from heads_tools.deck.packages import read_deck
 
 UNITS = 10**9
 TWO_LAYERS = {

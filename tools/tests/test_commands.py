@@ -114,12 +114,12 @@ def test_a_batch_that_would_take_half_the_memory_is_run_model_by_model(
     held, has_batch, example, tool, tmp_path, monkeypatch
 ):
     """The larger of the two folders has a model of 600 cells and one step, the other one of 3 cells."""
-    import heads_tools.batch
+    import heads_tools.program.batch
 
     called = []
-    by_program = heads_tools.batch.run_by_program
-    monkeypatch.setattr(heads_tools.batch, "memory", lambda: 2 * held)
-    monkeypatch.setattr(heads_tools.batch, "run_by_program", lambda *words: called.append(1) or by_program(*words))
+    by_program = heads_tools.program.batch.run_by_program
+    monkeypatch.setattr(heads_tools.program.batch, "memory", lambda: 2 * held)
+    monkeypatch.setattr(heads_tools.program.batch, "run_by_program", lambda *words: called.append(1) or by_program(*words))
     for name in ("three_cells", "river_valley"):
         example(name)
     (tmp_path / "list.txt").write_text("three_cells/a.nam\nriver_valley/m.nam\n")
@@ -143,7 +143,7 @@ def test_a_listing_from_before_is_not_taken_for_a_run(ran, tool, tmp_path, monke
 
 
 def test_a_batch_of_the_program_is_parted_by_model(tmp_path):
-    from heads_tools.batch import Job, split_batch
+    from heads_tools.program.batch import Job, split_batch
 
     jobs = [Job(n, tmp_path / n) for n in ("a.nam", "b.nam", "c.nam")]
     split_batch(
@@ -270,7 +270,7 @@ def test_the_script_runs_from_anywhere(tmp_path):
 def test_a_slow_step_shows_its_phase_and_how_many_cells_move(capfd, monkeypatch):
     import io
 
-    from heads_tools.follow import Progress
+    from heads_tools.program.follow import Progress
 
     progress = Progress("m.nam", 3)
     views = (
@@ -288,7 +288,7 @@ def test_a_slow_step_shows_its_phase_and_how_many_cells_move(capfd, monkeypatch)
 
 @pytest.mark.program
 def test_a_run_that_is_followed_writes_the_same_listing(example):
-    from heads_tools.program import run
+    from heads_tools.program.program import run
 
     nam = example("tide")
     ended = run(nam, [], nam.with_suffix(".heads"), 48, is_followed=True)

@@ -8,14 +8,14 @@ from conftest import TOP
 from water_reference import HOLE, LOWER_HOLE, Small, draw, pumped, tank
 
 import heads_tools
-from heads_tools.certify_convertible import Bounds, Found, Refused
-from heads_tools.convertible import read_convertible
-from heads_tools.frozen import Frozen
-from heads_tools.gentle import first_not_gentle
-from heads_tools.listing import read_listing
-from heads_tools.run_heads import RunHeads
-from heads_tools.text import Problem
-from heads_tools.water_steps import steps_of
+from heads_tools.water.certify_convertible import Bounds, Found, Refused
+from heads_tools.water.convertible import read_convertible
+from heads_tools.water.frozen import Frozen
+from heads_tools.water.gentle import first_not_gentle
+from heads_tools.listing.listing import read_listing
+from heads_tools.water.run_heads import RunHeads
+from heads_tools.common.text import Problem
+from heads_tools.water.water_steps import steps_of
 
 D = Decimal
 ONE = 10**9

@@ -206,7 +206,7 @@ def test_the_word_that_is_not_taken_is_named(words, part, tmp_path, tool):
 
 
 def test_words_that_are_taken_have_no_fault():
-    from heads_tools.option_faults import option_faults
+    from heads_tools.program.option_faults import option_faults
 
     words = "--digits 9 --workers 4 --rounds 4000000000 --zones m.zon --watch 1000 --to b.nam --wide".split()
     assert option_faults(words) == [] and option_faults(["--quick", "--digits=0"]) == []

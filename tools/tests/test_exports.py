@@ -15,7 +15,7 @@ from conftest import TOOLS, TOP
 
 import heads_tools
 from heads_tools import Place, Problem, read_model
-from heads_tools.exports import outward, place_of
+from heads_tools.exports.exports import outward, place_of
 
 pytestmark = pytest.mark.program
 
@@ -45,8 +45,8 @@ def test_a_listing_is_shown_in_one_line(tide):
 
 
 def test_calls_keep_their_names_beside_the_modules(tide, tmp_path):
-    import heads_tools.inside
-    import heads_tools.plain  # noqa: F401
+    import heads_tools.commands.inside
+    import heads_tools.deck.plain  # noqa: F401
 
     assert heads_tools.inside(tide[0]).is_good and heads_tools.plain(tide[0], tmp_path / "plain").is_good
     answer = heads_tools.certify(tide[0], write_middle(tide, tmp_path), digits=9)
@@ -233,15 +233,16 @@ def test_the_wheels_carry_the_program(tmp_path):
         env={"PATH": "/usr/bin:/bin", "PYTHON": sys.executable},
     )
     assert done.returncode == 0, done.stderr
-    modules = set(p.name for p in (TOOLS / "heads_tools").iterdir() if p.is_file())
+    package = TOOLS / "heads_tools"
+    modules = {str(p.relative_to(TOOLS)) for p in package.rglob("*") if p.is_file() and "__pycache__" not in p.parts}
     record = (TOP / "dist" / "heads.txt").read_text()
     for wheel in tmp_path.glob("*.whl"):
         with zipfile.ZipFile(wheel) as file:
             names = file.namelist()
-            assert "heads_tools/bin/recheck.py" in names and modules <= {n.split("/")[-1] for n in names}
+            assert "heads_tools/bin/recheck.py" in names and modules <= set(names)
             program = next((n for n in names if re.fullmatch("heads_tools/bin/heads(.exe)?", n)), None)
             commands = file.read(next(n for n in names if n.endswith("/entry_points.txt"))).decode()
-            has_command, is_pure = "heads = heads_tools.program:main" in commands, "none-any" in wheel.name
+            has_command, is_pure = "heads = heads_tools.program.program:main" in commands, "none-any" in wheel.name
             assert has_command == (program is not None) == (not is_pure)
             if program:
                 assert hashlib.sha256(file.read(program)).hexdigest() in record

@@ -6,7 +6,7 @@ from conftest import TOP
 
 import heads_tools
 from heads_tools import Problem
-from heads_tools.kept_files import demand_free, is_ours
+from heads_tools.common.kept_files import demand_free, is_ours
 
 pytestmark = pytest.mark.program
 FOREIGN = "nothing shows that heads-tools made it. Another name, or --force"
@@ -165,9 +165,9 @@ def test_a_device_is_no_place_for_a_whole_file():
 
 
 def test_a_batch_by_single_runs_keeps_files_and_may_be_forced(valley, tool, monkeypatch):
-    import heads_tools.batch
+    import heads_tools.program.batch
 
-    monkeypatch.setattr(heads_tools.batch, "fits_memory", lambda jobs: False)
+    monkeypatch.setattr(heads_tools.program.batch, "fits_memory", lambda jobs: False)
     (valley / "list.txt").write_text("m.nam\n")
     (valley / "m.heads").write_text("my own heads\n")
     status, out, err = tool("batch", valley / "list.txt")

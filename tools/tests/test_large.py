@@ -6,12 +6,14 @@ from decimal import Decimal
 import numpy as np
 import pytest
 
-from heads_tools import cell_lines, read_listing, sources
-from heads_tools.cell_lines import write_cells
-from heads_tools.pictures import plan_of
-from heads_tools.sources import Report, Source
-from heads_tools.spelling import number
-from heads_tools.text import Problem, decimal_text
+from heads_tools import read_listing
+from heads_tools.listing import cell_lines
+from heads_tools.deck import sources
+from heads_tools.listing.cell_lines import write_cells
+from heads_tools.pages.pictures import plan_of
+from heads_tools.deck.sources import Report, Source
+from heads_tools.common.spelling import number
+from heads_tools.common.text import Problem, decimal_text
 
 FAR = 4 * 10**18
 HEADS = [0, 1, -1, 10**9, -(10**9), 999_999_999, -1_000_000_001, FAR, -FAR, 2 * FAR, -2 * FAR]

@@ -9,9 +9,9 @@ import zlib
 import numpy as np
 import pytest
 
-from heads_tools import live_map
-from heads_tools.below_top import below_top
-from heads_tools.listing import read_listing
+from heads_tools.pages import live_map
+from heads_tools.listing.below_top import below_top
+from heads_tools.listing.listing import read_listing
 
 
 def unpacked(text, cells):

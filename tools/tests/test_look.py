@@ -9,9 +9,9 @@ from conftest import heads
 from matplotlib.backends.backend_agg import FigureCanvasAgg
 from matplotlib.text import Text
 
-from heads_tools.drawdown import difference
-from heads_tools.listing import Step, read_listing
-from heads_tools.zones import net_flows
+from heads_tools.listing.drawdown import difference
+from heads_tools.listing.listing import Step, read_listing
+from heads_tools.pages.zones import net_flows
 
 
 def listed(nam, *options):
@@ -77,7 +77,7 @@ def test_the_discrepancy_is_written_without_an_exponent(example, tool, tmp_path)
 def test_labels_of_contours_keep_apart():
     from matplotlib.figure import Figure
 
-    from heads_tools.maps import apart
+    from heads_tools.pages.maps import apart
 
     axes = Figure(figsize=(4, 4)).add_axes((0, 0, 1, 1))
     axes.set(xlim=(0, 4), ylim=(0, 4))
@@ -89,7 +89,7 @@ def test_labels_of_contours_keep_apart():
 def test_no_label_of_a_contour_lies_on_the_edge_of_a_map():
     from matplotlib.figure import Figure
 
-    from heads_tools.maps import apart
+    from heads_tools.pages.maps import apart
 
     axes = Figure(figsize=(4, 4)).add_axes((0, 0, 1, 1))
     axes.set(xlim=(0, 4), ylim=(0, 4))
@@ -99,8 +99,8 @@ def test_no_label_of_a_contour_lies_on_the_edge_of_a_map():
 
 
 def test_long_numbers_beside_an_axis_stay_in_the_picture(tmp_path):
-    from heads_tools.curves import bands
-    from heads_tools.pictures import Album
+    from heads_tools.pages.curves import bands
+    from heads_tools.pages.pictures import Album
 
     class Kept(Album):
         """An album that keeps its figure."""

@@ -9,9 +9,9 @@ import pytest
 import spelled
 from conftest import TOOLS, heads
 
-from heads_tools.headfile import read_heads
-from heads_tools.listing import read_listing
-from heads_tools.model import read_model
+from heads_tools.listing.headfile import read_heads
+from heads_tools.listing.listing import read_listing
+from heads_tools.deck.model import read_model
 
 pytestmark = pytest.mark.program
 SAVED = "HEAD SAVE UNIT 61\n" + "".join(f"PERIOD {p} STEP {s}\nSAVE HEAD\n" for p, s in ((1, 1), (2, 1), (2, 3)))

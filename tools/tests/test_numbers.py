@@ -5,10 +5,10 @@ from fractions import Fraction
 
 import pytest
 
-from heads_tools.spelling import exact, fortran, number, product
-from heads_tools.tables import budget_of
-from heads_tools.listing import Step
-from heads_tools.text import Problem, decimal_text, down, short_down, short_up, signed_down, signed_up, up
+from heads_tools.common.spelling import exact, fortran, number, product
+from heads_tools.listing.tables import budget_of
+from heads_tools.listing.listing import Step
+from heads_tools.common.text import Problem, decimal_text, down, short_down, short_up, signed_down, signed_up, up
 
 
 @pytest.mark.parametrize(

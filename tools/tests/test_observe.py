@@ -11,11 +11,11 @@ import pytest
 
 import heads_tools
 from heads_tools import Place, Problem, read_model
-from heads_tools.between import Spot, mixed, weights_of
-from heads_tools.listing import Listing
-from heads_tools.model import exact_ends
-from heads_tools.points import Points
-from heads_tools.sources import Array
+from heads_tools.listing.between import Spot, mixed, weights_of
+from heads_tools.listing.listing import Listing
+from heads_tools.deck.model import exact_ends
+from heads_tools.listing.points import Points
+from heads_tools.deck.sources import Array
 
 WIDTHS, DEPTHS = "10 20 35 5".split(), "7.5 2.5 40".split()
 

@@ -7,8 +7,8 @@ from conftest import TOP
 
 import heads_tools
 from heads_tools import read_listing
-from heads_tools.page import Page, bare, shown, write_page
-from heads_tools.text import sha256
+from heads_tools.pages.page import Page, bare, shown, write_page
+from heads_tools.common.text import sha256
 
 STEPS = """HEADS 2 DIGITS 0 UNIT 2
 STEP 1 1

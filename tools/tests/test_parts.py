@@ -9,12 +9,12 @@ import recheck
 import scipy.sparse
 from conftest import heads
 
-from heads_tools.listing import read_listing
-from heads_tools.model import read_model
-from heads_tools.multigrid import multigrid
-from heads_tools.parts import steps_of
-from heads_tools.pieces import lengths_of
-from heads_tools.solvers import by_incomplete, by_multigrid, by_scaling, conjugate, direct, solved
+from heads_tools.listing.listing import read_listing
+from heads_tools.deck.model import read_model
+from heads_tools.numbers.multigrid import multigrid
+from heads_tools.numbers.parts import steps_of
+from heads_tools.numbers.pieces import lengths_of
+from heads_tools.numbers.solvers import by_incomplete, by_multigrid, by_scaling, conjugate, direct, solved
 
 pytestmark = pytest.mark.program
 WHOLE = ["three_cells", "river_valley", "drained_field", "three_aquifers", "tide", "pumping_test"]

@@ -7,8 +7,8 @@ from matplotlib.collections import LineCollection
 from matplotlib.colors import Normalize, to_rgb
 from matplotlib.figure import Figure
 
-from heads_tools import curves, maps
-from heads_tools.pictures import Album, plan_of
+from heads_tools.pages import curves, maps
+from heads_tools.pages.pictures import Album, plan_of
 
 PLAN = plan_of(np.ones(31), np.ones(31), "m", "m")
 

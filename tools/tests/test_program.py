@@ -6,7 +6,8 @@ import subprocess
 import pytest
 from conftest import TOP
 
-from heads_tools import Problem, program
+from heads_tools import Problem
+from heads_tools.program import program
 
 PATH = "/usr/bin:/bin"
 KEPT = "#!/bin/sh\necho ran\n"

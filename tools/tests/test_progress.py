@@ -92,7 +92,7 @@ printf 'HEADS 2 DIGITS 12 UNIT 2\\nSTEP 1 1\\nEND\\n'
 )
 def test_a_slow_step_shows_its_phase_and_its_time(most, shown, example, tool, tmp_path, monkeypatch):
     """A stand-in for the program, whose one step takes long. Of a model that is too large to be watched: the time."""
-    from heads_tools import follow
+    from heads_tools.program import follow
 
     program = tmp_path / "heads"
     program.write_text(SLOW_PROGRAM)

@@ -4,9 +4,9 @@ import os
 import pytest
 from conftest import TOOLS, heads
 
-from heads_tools.exhibit import same_bytes
-from heads_tools.explain import explain
-from heads_tools.made_by import QUICK_PAIRS, SETTLED_PAIRS, keep_words, made_by
+from heads_tools.commands.exhibit import same_bytes
+from heads_tools.program.explain import explain
+from heads_tools.listing.made_by import QUICK_PAIRS, SETTLED_PAIRS, keep_words, made_by
 
 PLAIN, QUICK = SETTLED_PAIRS.split(":")[0], QUICK_PAIRS.split(",")[0]
 
@@ -99,7 +99,7 @@ printf 'HEADS 2 DIGITS 12 UNIT 2\\nSTEP 1 1\\nEND\\n'
 def test_the_progress_of_a_step_that_takes_over_a_minute_names_the_word(
     options, is_said, example, tool, tmp_path, monkeypatch
 ):
-    from heads_tools import follow
+    from heads_tools.program import follow
 
     program = tmp_path / "heads"
     program.write_text(SLOW_PROGRAM)

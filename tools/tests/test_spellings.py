@@ -33,7 +33,7 @@ def test_there_are_as_many_spellings_as_promised():
 
 @pytest.mark.parametrize("name", INSIDE)
 def test_the_model_is_the_same_in_each_spelling(name, tmp_path):
-    from heads_tools.model import read_model
+    from heads_tools.deck.model import read_model
 
     same_model(
         read_model(spelled.write(tmp_path / "plain", "as it is")), read_model(spelled.write(tmp_path / "other", name))
@@ -42,8 +42,8 @@ def test_the_model_is_the_same_in_each_spelling(name, tmp_path):
 
 @pytest.mark.parametrize("name", INSIDE)
 def test_plain_writes_the_same_model(name, tmp_path, tool):
-    from heads_tools.model import read_model
-    from heads_tools.packages import read_deck
+    from heads_tools.deck.model import read_model
+    from heads_tools.deck.packages import read_deck
 
     nam = spelled.write(tmp_path / "other", name)
     status, out, err = tool("plain", nam, tmp_path / "out")
@@ -74,7 +74,7 @@ def test_plain_takes_what_heads_writes_where_the_deck_is_read_as_it_is(name, tmp
 
 
 def test_files_are_cut_out_of_a_whole_deck_that_can_be_read_again():
-    from heads_tools import program
+    from heads_tools.program import program
 
     text = b"FILE p.nam\nDIS 11 p.dis\nFILE p.dis\n1 1 1\nEND\n"
     assert program.files_of(text) == {"p.nam": b"DIS 11 p.dis\n", "p.dis": b"1 1 1\n"}

@@ -10,11 +10,11 @@ import pytest
 from conftest import heads
 
 from heads_tools import Problem
-from heads_tools.drawdown_weather import Asked, weathered
-from heads_tools.packages import read_deck
-from heads_tools.plain import package_lines
-from heads_tools.plan_sources import FLOW_PLACES
-from heads_tools.shares import share, word_of
+from heads_tools.weather.drawdown_weather import Asked, weathered
+from heads_tools.deck.packages import read_deck
+from heads_tools.deck.plain import package_lines
+from heads_tools.weather.plan_sources import FLOW_PLACES
+from heads_tools.weather.shares import share, word_of
 
 pytestmark = [pytest.mark.program, pytest.mark.spans]
 PLANS = int(os.environ.get("PLANS", "30"))
@@ -335,7 +335,7 @@ def test_the_call_has_the_listing_of_the_differences(valley, tmp_path):
 
 def test_hk_within_ranges_bounds_the_drawdown_at_the_well_of_random_fields(example, tool, tmp_path):
     from heads_tools import read_listing
-    from heads_tools.ranges import scaled
+    from heads_tools.deck.ranges import scaled
 
     nam, made = example("three_aquifers"), tmp_path / "made"
     wells = well_file(tmp_path, "3 5 5 -100")

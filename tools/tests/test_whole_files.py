@@ -169,14 +169,14 @@ def test_a_file_that_cannot_be_read_again_is_not_called_written(kind, valley, to
     if not all(map(is_here, PACKAGES)):
         pytest.skip("a package is missing")
     shutil.rmtree(valley / "out")
-    import heads_tools.files
-    import heads_tools.netcdf
-    from heads_tools import whole_files
+    import heads_tools.exports.files
+    import heads_tools.exports.netcdf
+    from heads_tools.common import whole_files
 
     def cut(path, content, look=None):
         whole_files.write_whole(path, content[: len(content) * 2 // 3], look)
 
-    for module in (heads_tools.files, heads_tools.netcdf):
+    for module in (heads_tools.exports.files, heads_tools.exports.netcdf):
         monkeypatch.setattr(module, "write_whole", cut)
     status, out, err = tool("export", valley / "m.heads", valley / "out", "--name", valley / "m.nam", "--as", kind)
     assert status == 2 and f"heads.{kind} isn't written: it couldn't be read again" in err, out + err
@@ -192,14 +192,14 @@ def test_a_page_is_replaced_as_a_whole(valley, tool, monkeypatch):
     def fails(page, folder):
         raise Problem(f"{folder / 'index.html'} can't be written: no reason")
 
-    monkeypatch.setattr(importlib.import_module("heads_tools.look"), "write_page", fails)
+    monkeypatch.setattr(importlib.import_module("heads_tools.pages.look"), "write_page", fails)
     status, out, err = tool(*words, "--cell", "1,1,1")
     assert status == 2 and f"{valley / 'look' / 'index.html'} can't be written" in err
     assert contents(valley / "look") == before
 
 
 def test_nobody_else_can_read_half_a_page(tmp_path):
-    from heads_tools.whole_files import whole_folder
+    from heads_tools.common.whole_files import whole_folder
 
     with whole_folder(tmp_path / "page") as new:
         (new / "a.csv").write_text("period,step,least\n")

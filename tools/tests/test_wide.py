@@ -4,11 +4,11 @@ import os
 import pytest
 from conftest import TOOLS, heads
 
-from heads_tools import limits
-from heads_tools.explain import explain
-from heads_tools.limits import asks_for_wide
-from heads_tools.made_by import is_made_wide
-from heads_tools.packages import read_deck
+from heads_tools.common import limits
+from heads_tools.program.explain import explain
+from heads_tools.common.limits import asks_for_wide
+from heads_tools.listing.made_by import is_made_wide
+from heads_tools.deck.packages import read_deck
 
 CASES = [
     ("NOBOUND 26 RangeLow 1 1 1 1 2", True),

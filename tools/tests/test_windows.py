@@ -7,10 +7,10 @@ import sys
 import pytest
 from conftest import TOOLS, TOP, heads
 
-from heads_tools import program
-from heads_tools.listing import read_listing
-from heads_tools.marks import plain, plain_listing
-from heads_tools.text import Problem
+from heads_tools.program import program
+from heads_tools.listing.listing import read_listing
+from heads_tools.common.marks import plain, plain_listing
+from heads_tools.common.text import Problem
 
 SPELLINGS = {
     "UTF-16 of PowerShell": lambda text: b"\xff\xfe" + text.replace("\n", "\r\n").encode("utf-16-le"),
@@ -85,7 +85,7 @@ def text_writers(tree):
 
 def test_text_is_written_with_lf_on_each_system():
     """Without `newline` Windows writes CR LF, and `heads check` refuses a listing with it."""
-    for path in (TOOLS / "heads_tools").glob("*.py"):
+    for path in (TOOLS / "heads_tools").rglob("*.py"):
         for call in text_writers(ast.parse(path.read_text())):
             has_newline = any(word.arg == "newline" for word in call.keywords)
             assert has_newline, f"{path.name}:{call.lineno} writes text by the system's ends of lines"

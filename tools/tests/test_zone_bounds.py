@@ -6,12 +6,12 @@ import numpy as np
 import pytest
 from conftest import heads
 
-from heads_tools.equations import Network, given_heads
-from heads_tools.listing import read_listing
-from heads_tools.model import read_model
-from heads_tools.parts import on_grid
-from heads_tools.zone_bounds import zone_branches, zone_flows
-from heads_tools.zones import read_zones
+from heads_tools.numbers.equations import Network, given_heads
+from heads_tools.listing.listing import read_listing
+from heads_tools.deck.model import read_model
+from heads_tools.numbers.parts import on_grid
+from heads_tools.numbers.zone_bounds import zone_branches, zone_flows
+from heads_tools.pages.zones import read_zones
 
 pytestmark = pytest.mark.program
 # Zones that change along rows, columns and layers, some cells in none.
@@ -115,7 +115,7 @@ def test_verdicts_of_other_zones_are_not_collected(zoned, tool):
 
 def test_the_flows_between_zones_of_a_large_model_are_certified_by_parts(zoned, tool, monkeypatch):
     nam, path, zones = zoned("drained_field")
-    monkeypatch.setattr(sys.modules["heads_tools.certify"], "is_large", lambda *_: True)
+    monkeypatch.setattr(sys.modules["heads_tools.numbers.certify"], "is_large", lambda *_: True)
     status, out, err = tool("certify", nam, middle(tool, nam, path), "--zones", zones, "--digits", 9)
     assert status == 0 and out.startswith("CERTIFIED BY PARTS") and "the flows between zones." in out, out + err
 

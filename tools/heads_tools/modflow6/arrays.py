@@ -5,7 +5,7 @@ import bisect
 from dataclasses import dataclass, field
 from typing import NamedTuple
 
-from ..text import Problem
+from ..common.text import Problem
 from .blocks import BINARY, OPEN, Block, Fault, File, Line, Noted
 from .numbers import number_word, product_word, value_of, whole
 

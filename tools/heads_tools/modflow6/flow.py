@@ -4,7 +4,7 @@ from __future__ import annotations
 from dataclasses import dataclass
 from decimal import Decimal
 
-from ..text import Problem
+from ..common.text import Problem
 from .arrays import Reading, Values
 from .blocks import Block, File
 from .grid import ARRAY_BLOCKS, Grid

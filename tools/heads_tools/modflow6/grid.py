@@ -4,8 +4,8 @@ from __future__ import annotations
 from dataclasses import dataclass, field
 from typing import Callable, Iterable
 
-from ..limits import PLAIN, WIDE
-from ..text import Problem, counted
+from ..common.limits import PLAIN, WIDE
+from ..common.text import Problem, counted
 from .arrays import Reading, Shape, Values
 from .blocks import Fault, File, Folder
 from .numbers import value_of

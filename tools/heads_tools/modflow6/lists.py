@@ -3,7 +3,7 @@ from __future__ import annotations
 
 from typing import NamedTuple
 
-from ..text import Problem
+from ..common.text import Problem
 from .blocks import File, Line
 from .grid import Cell, Grid
 from .numbers import number_word, product_word, value_of

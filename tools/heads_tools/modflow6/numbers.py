@@ -6,8 +6,8 @@ import re
 from decimal import Decimal
 from fractions import Fraction
 
-from ..spelling import EXACT, MOST_DIGITS, exact, number
-from ..text import Problem
+from ..common.spelling import EXACT, MOST_DIGITS, exact, number
+from ..common.text import Problem
 
 PLACES = 20
 

@@ -3,7 +3,7 @@ from __future__ import annotations
 
 from pathlib import Path
 
-from ..text import read_text
+from ..common.text import read_text
 
 MOST_LETTERS = 4000
 FIRST_BLOCKS = ("OPTIONS", "TIMING", "PACKAGES", "MODELS")

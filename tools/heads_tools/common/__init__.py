@@ -1,0 +1,1 @@
+"""What all parts share: texts, numbers as they are spelled, limits, files that are written whole."""

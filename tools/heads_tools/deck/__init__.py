@@ -1,0 +1,1 @@
+"""Decks of MODFLOW-2005: read in any spelling, paired, written."""

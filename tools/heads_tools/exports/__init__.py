@@ -1,0 +1,1 @@
+"""Listings as files of other programs."""

@@ -1,0 +1,195 @@
+"""A listing where people work on: places on the map, tables of pandas. Lower heads are rounded down to doubles, upper
+ones up. Each format asks for its package only when it is used."""
+from __future__ import annotations
+
+import importlib
+import math
+from dataclasses import dataclass
+from fractions import Fraction
+from typing import TYPE_CHECKING, Any
+
+import numpy as np
+
+from ..listing.listing import Listing, Step
+from ..deck.model import Model
+from ..listing.tables import budget_of
+from ..common.text import VERSION, Problem
+from ..listing.verdict import NO_CHECK, Verdict, not_checked
+
+if TYPE_CHECKING:
+    import pandas
+
+PACKAGES = {
+    "xarray": "python3-xarray python3-netcdf4",
+    "netCDF4": "python3-netcdf4",
+    "pandas": "python3-pandas",
+    "rasterio": "python3-rasterio",
+    "meshio": "python3-meshio",
+}
+METRES = {"m": 1.0, "ft": 0.3048, "cm": 0.01}
+ROUNDED = "Heads are rounded outward to doubles."
+
+
+def comment_of(listing: Listing, verdict: Verdict | None) -> str:
+    """What the numbers are, after the check of the listing whose they are."""
+    told = facts_for(listing, verdict)["verdict"]
+    return f"{told} {ROUNDED}"
+
+
+def facts_for(listing: Listing, verdict: Verdict | None) -> dict[str, str]:
+    """What a file says of its numbers. A verdict on another listing is refused."""
+    verdict = verdict or not_checked(listing, NO_CHECK)
+    if verdict.sha256 != listing.sha256:
+        raise Problem(f"the verdict is that on another listing than {listing.path}")
+    return verdict.facts() | {"made_by": f"heads-tools {VERSION}"}
+
+
+@dataclass(frozen=True)
+class Place:
+    """Where the grid lies, as FloPy's xoff, yoff, angrot and epsg: the corner of the last row and the first column, and
+    the degrees by which the grid is turned round it against the clock."""
+
+    x: float = 0.0
+    y: float = 0.0
+    angle: float = 0.0
+    epsg: int | None = None
+
+    def world(self, x: np.ndarray, y: np.ndarray) -> tuple[np.ndarray, np.ndarray]:
+        """Coordinates on the map of points of the grid."""
+        c, s = math.cos(math.radians(self.angle)), math.sin(math.radians(self.angle))
+        return self.x + c * x - s * y, self.y + s * x + c * y
+
+    def grid(self, x: float, y: float) -> tuple[float, float]:
+        """The grid's own coordinates of a point of the map."""
+        c, s = math.cos(math.radians(self.angle)), math.sin(math.radians(self.angle))
+        return c * (x - self.x) + s * (y - self.y), -s * (x - self.x) + c * (y - self.y)
+
+
+def place_of(text: str) -> Place:
+    """The place of X0,Y0[,ANGLE[,EPSG]]."""
+    parts = text.split(",")
+    try:
+        if not 2 <= len(parts) <= 4:
+            raise ValueError
+        x, y, angle = map(float, [*parts[:3], "0"][:3])
+        return Place(x, y, angle, int(parts[3]) if len(parts) == 4 else None)
+    except ValueError:
+        raise Problem(
+            f"`{text}`: a place is X0,Y0[,ANGLE[,EPSG]], the grid's lower left corner, degrees against the clock, a"
+            " code of EPSG"
+        ) from None
+
+
+def system_of(epsg: int) -> Any:
+    """The reference system of a code of EPSG; None where rasterio isn't here, which knows them."""
+    try:
+        from rasterio.crs import CRS
+        from rasterio.errors import CRSError
+    except ImportError:
+        return None
+    try:
+        return CRS.from_epsg(epsg)
+    except CRSError:
+        raise Problem(f"EPSG:{epsg} isn't known: a code of EPSG is due, as 28992") from None
+
+
+def demand_unit(model: Model | None, place: Place) -> None:
+    """Refuses a reference system whose lengths have another unit than the model's: the grid isn't converted."""
+    system, metres = system_of(place.epsg) if place.epsg else None, METRES.get(model.length) if model else None
+    if system is None:
+        return
+    if not system.is_projected:
+        raise Problem(f"EPSG:{place.epsg} has degrees, and the grid has lengths: a code of a projection is due")
+    name, factor = system.linear_units_factor
+    if model and metres and abs(factor - metres) > 1e-5 * metres:
+        raise Problem(
+            f"{model.deck.path.name} has its lengths in {model.length}, and EPSG:{place.epsg} in {name}: the grid isn't"
+            " converted. Take a code with the model's unit, or leave the code out"
+        )
+
+
+class Unwritten(Problem):
+    """A form of files that can't be had here: its package is missing, or it can't hold the grid."""
+
+
+def package(name: str) -> Any:
+    """A package that may be missing."""
+    try:
+        return importlib.import_module(name)
+    except ImportError:
+        raise Unwritten(
+            f"this needs the Python package {name}: apt-get install {PACKAGES[name]}, or pip install {name}"
+        ) from None
+
+
+def outward(units: int, places: int, side: int) -> float:
+    """The double beside units * 10^-places: the nearest one that isn't above it (side -1) or below it (side 1)."""
+    near = int(units) / 10**places
+    exact = Fraction(int(units), 10**places)
+    return float(np.nextafter(near, side * np.inf)) if side * (Fraction(near) - exact) < 0 else near
+
+
+def middles(model: Model) -> tuple[np.ndarray, np.ndarray]:
+    """The middles of columns from the west and of rows from the south."""
+    return np.cumsum(model.delr) - model.delr / 2, model.delc.sum() - np.cumsum(model.delc) + model.delc / 2
+
+
+def time_of(model: Model | None, step: Step) -> float:
+    return model.times.get((step.period, step.step), (0.0, math.nan))[1] if model else math.nan
+
+
+def heads_frame(
+    listing: Listing, model: Model | None = None, place: Place = Place(), verdict: Verdict | None = None
+) -> pandas.DataFrame:
+    """A row for each step and cell: period, step, time, layer, row, col, x, y (with a model), lower, upper. Its attrs
+    have the verdict."""
+    pandas = package("pandas")
+    lower, upper = (
+        np.concatenate([grid[tuple((listing.cells - 1).T)] for grid in side])
+        for side in (listing.lower(), listing.upper())
+    )
+    n, steps = len(listing.cells), listing.steps
+    columns: dict[str, Any] = {
+        "period": np.repeat([s.period for s in steps], n),
+        "step": np.repeat([s.step for s in steps], n),
+    }
+    if model:
+        columns["time"] = np.repeat([time_of(model, s) for s in steps], n)
+    columns |= {name: np.tile(listing.cells[:, at], len(steps)) for at, name in enumerate(("layer", "row", "col"))}
+    if model:
+        x, y = middles(model)
+        wx, wy = place.world(x[listing.cells[:, 2] - 1], y[listing.cells[:, 1] - 1])
+        columns |= {"x": np.tile(wx, len(steps)), "y": np.tile(wy, len(steps))}
+    frame = pandas.DataFrame(columns | {"lower": lower, "upper": upper})
+    frame.attrs.update(facts_for(listing, verdict))
+    return frame
+
+
+def terms_frame(
+    listing: Listing, model: Model | None = None, verdict: Verdict | None = None
+) -> pandas.DataFrame:
+    """A row for each step and budget term, rates: in, out and net (narrowed to what the other terms leave), outward.
+    Its attrs have the verdict."""
+    pandas = package("pandas")
+    names = [
+        "period",
+        "step",
+        "time",
+        "term",
+        "in_lower",
+        "in_upper",
+        "out_lower",
+        "out_upper",
+        "net_lower",
+        "net_upper",
+    ]
+    rows = []
+    for step in listing.steps:
+        budget = budget_of(step)
+        nets = {name: pair for name, _, _, *pair in budget.nets}
+        for name, *flows in budget.rows[:-1]:
+            values = [outward(v, listing.flow_places, 1 if n % 2 else -1) for n, v in enumerate([*flows, *nets[name]])]
+            rows.append((step.period, step.step, time_of(model, step), name, *values))
+    frame = pandas.DataFrame(rows, columns=names).set_index(["period", "step", "term"])
+    frame.attrs.update(facts_for(listing, verdict))
+    return frame

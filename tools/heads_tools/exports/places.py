@@ -1,0 +1,56 @@
+"""What the comments of a name file say of the grid's place and of the start date, as FloPy writes them:
+`#xll:155000.0; yll:463000.0; rotation:12.0; crs:EPSG:28992; start_datetime:2024-01-01`."""
+from __future__ import annotations
+
+import re
+from datetime import date
+from pathlib import Path
+
+from .exports import Place
+from ..common.text import Problem, read_text
+
+# FloPy writes this date where none was given.
+NO_DATE = date(1970, 1, 1)
+
+
+def fields_of(nam: Path) -> dict[str, str]:
+    """The fields `name:value` of the comments of a name file."""
+    lines = (line[1:] for line in read_text(nam).split("\n") if line.startswith("#") and ":" in line)
+    parts = (part.partition(":") for line in lines for part in line.split(";"))
+    return {name.strip().lower(): text.strip() for name, _, text in parts}
+
+
+def named_place(nam: Path) -> tuple[Place | None, str]:
+    """The place that a name file's comments give to the grid, and where it stands; none where they don't."""
+    fields = fields_of(nam)
+    try:
+        x, y, angle = (float(fields.get(name, "0")) for name in ("xll", "yll", "rotation"))
+    except ValueError:
+        return None, ""
+    known = re.search(r"\bepsg:(\d+)", ";".join(f"{name}:{text}" for name, text in fields.items()), re.IGNORECASE)
+    place = Place(x, y, angle, int(known[1]) if known else None)
+    return (place, f"the comments of {nam.name}") if "xll" in fields and place != Place() else (None, "")
+
+
+def start_of(text: str | None, nam: Path) -> date | None:
+    """The date on which the model starts: the one that is asked for, else that of the name file's comments."""
+    if text:
+        found = date_of(text)
+        if found is None:
+            raise Problem(f"`{text}`: a start date is YYYY-MM-DD")
+        return found
+    found = date_of(fields_of(nam).get("start_datetime", ""))
+    return None if found == NO_DATE else found
+
+
+def date_of(text: str) -> date | None:
+    """The date of YYYY-MM-DD, or of M/D/YYYY where day and month can't be taken for one another."""
+    try:
+        if re.match(r"\d{4}-\d{1,2}-\d{1,2}(\D|$)", text):
+            return date(*map(int, re.findall(r"\d+", text)[:3]))
+        if parts := re.match(r"(\d{1,2})[/-](\d{1,2})[/-](\d{4})(\D|$)", text):
+            month, day, year = map(int, parts.groups()[:3])
+            return date(year, month, day) if day > 12 or day == month else None
+    except ValueError:
+        pass
+    return None

@@ -1,0 +1,1 @@
+"""Listings of `heads`: read, checked, compared, as tables."""

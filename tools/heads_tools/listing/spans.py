@@ -1,0 +1,68 @@
+"""Listings of two decks, which hold for every deck between them: how they are asked for, and how they are spoken of."""
+from __future__ import annotations
+
+from pathlib import Path
+
+from ..deck.deck import Deck
+from .listing import Listing
+from ..common.text import Problem
+
+ALL_BETWEEN = (
+    "Every exact solution lies between the listed numbers, whatever the stresses are between those of the two decks, "
+    "at each time step anew."
+)
+STRESSES = {
+    "WEL": "pumping",
+    "RIV": "state of the rivers",
+    "DRN": "state of the drains",
+    "GHB": "state of the general heads",
+    "CHD": "given head",
+    "RCH": "recharge",
+    "EVT": "evapotranspiration",
+    "STRT": "starting head",
+}
+
+
+def second_deck(nam: Path, to: Path | None) -> list[str]:
+    """The options that name the second deck, if there is one: by its name in the first one's folder, in which the
+    program runs and looks up the files of both."""
+    if to is None:
+        return []
+    found = next((path for path in (to, nam.parent / to) if path.is_file()), None)
+    if found is None:
+        raise Problem(f"there is no file {to}")
+    if found.parent.resolve() != nam.parent.resolve():
+        raise Problem(f"{to} lies in another folder than {nam.name}: both decks' files are looked up in one folder")
+    return ["--to", found.name]
+
+
+def target_of(nam: Path, to: list[str]) -> Path:
+    """The listing's file where none is named: that of two decks has both names."""
+    return nam.with_name(f"{nam.stem}-{Path(to[1]).stem}.heads") if to else nam.with_suffix(".heads")
+
+
+def demand_decks(listing: Listing, to: list[str]) -> None:
+    """Refuses a second deck for a listing of one, and a listing of two decks without the second one."""
+    if listing.is_span and not to:
+        raise Problem(f"{listing.path} is a listing of two decks (its first line ends with TO): name the second (--to)")
+    if to and not listing.is_span:
+        raise Problem(f"{listing.path} is the listing of one deck: leave --to out")
+
+
+def demand_one(listing: Listing, why: str) -> None:
+    """Refuses a listing of two decks."""
+    if listing.is_span:
+        raise Problem(f"{listing.path} is a listing of two decks (its first line ends with TO): {why}")
+
+
+def what_differs(first: Deck, second: Deck) -> list[str]:
+    """The stresses that differ between two decks of one shape, in words."""
+    from ..deck.plain import package_lines
+
+    def entries(deck: Deck, kind: str) -> list[str]:
+        """What a package says: its lines without comments and its option."""
+        if kind == "STRT":
+            return [line for array in deck.strt for line in array.lines()]
+        return package_lines(deck, kind)[len(deck.comments.get(kind, [])) + 1 :] if kind in deck.files else []
+
+    return [name for kind, name in STRESSES.items() if entries(first, kind) != entries(second, kind)]

@@ -1,0 +1,1 @@
+"""A model's equations in doubles and in whole numbers, and certificates made with them."""

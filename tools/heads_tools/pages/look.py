@@ -1,0 +1,96 @@
+"""look: tables, pictures and one page of a listing."""
+from __future__ import annotations
+
+from pathlib import Path
+from typing import Sequence
+
+import numpy as np
+
+from ..listing.listing import Cell, Listing
+from .live_map import NAME, write_live_map
+from .look_flows import Flows
+from .look_others import Others
+from .look_sections import Sections
+from .look_tops import Tops
+from .looking import HEADS, title_of
+from ..deck.model import Model
+from .page import write_page
+from ..listing.tables import write_tables
+from ..common.text import Problem
+from ..listing.verdict import Verdict
+
+__all__ = ["Look", "look", "look_at_given", "title_of"]
+MOST_STEPS = 400
+
+
+class Look(Sections, Tops, Flows, Others):
+    """All parts of the page of a listing."""
+
+
+def look(
+    listing: Listing,
+    folder: Path,
+    model: Model | None = None,
+    cells: Sequence[Cell] = (),
+    given: Path | None = None,
+    is_every: bool = False,
+    verdict: Verdict | None = None,
+    zones: np.ndarray | None = None,
+    base: Listing | None = None,
+    has_svg: bool = False,
+) -> list[str]:
+    """Writes tables, pictures and the page of a listing into a folder; what there is to say about it."""
+    for cell in cells:
+        listing.at(cell)
+    if is_every and len(listing.steps) > MOST_STEPS:
+        raise Problem(f"--every draws at most {MOST_STEPS} steps, and these are {len(listing.steps)}")
+    it = Look(listing, folder, model, verdict, has_svg)
+    make_folder(folder)
+    if not listing.is_whole:
+        it.page.say(
+            f"NOT A WHOLE RUN: the listing ends with `{listing.end or 'a part of a step'}`. "
+            "Its pairs are bounds only where a run ends with END."
+        )
+    last = listing.steps[-1]
+    it.jobs.append(lambda: add_live_map(it))
+    it.add_steps(listing.steps if is_every else [last])
+    it.add_below_top()
+    it.add_sections(last, *(cells[0][1:] if cells else it.place[1:]))
+    it.add_hydrographs(list(cells))
+    it.add_budget()
+    it.add_zones(zones)
+    if base:
+        it.add_minus(base)
+    if given:
+        it.add_given(given)
+    return finish(it)
+
+
+def look_at_given(listing: Listing, folder: Path, model: Model | None, verdict: Verdict, given: Path) -> None:
+    """The page of a comparison with given heads alone."""
+    it = Look(listing, folder, model, verdict)
+    make_folder(folder)
+    it.add_given(given)
+    finish(it)
+
+
+def add_live_map(it: Look) -> None:
+    """The map to point at, beside the page, with a link to it."""
+    if about := write_live_map(it):
+        it.page.add(HEADS, f'<p><a href="{NAME}">A map to point at</a>: {about}</p>')
+
+
+def make_folder(folder: Path) -> None:
+    try:
+        folder.mkdir(parents=True, exist_ok=True)
+    except FileExistsError:
+        raise Problem(f"{folder} is a file, and a folder is due") from None
+
+
+def finish(it: Look) -> list[str]:
+    it.draw()
+    it.page.files = write_tables(it.listing, it.folder, it.model.times if it.model else None)
+    it.tell_facts()
+    write_page(it.page, it.folder)
+    told = [it.made_by] if it.made_by else []
+    return [it.verdict.sentence, f"{it.listing.summary()} in {it.unit}", *told, *it.page.sentences]

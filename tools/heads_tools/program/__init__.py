@@ -1,0 +1,1 @@
+"""The program `heads`: runs of it, and what its ends mean."""

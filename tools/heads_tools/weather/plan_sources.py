@@ -1,0 +1,63 @@
+"""Where a plan's water comes from: what each budget term gives more under the plan, by its sums and by balance, in
+whole numbers. All terms together give what the plan's wells take."""
+from __future__ import annotations
+
+from dataclasses import dataclass, field
+
+import numpy as np
+
+from ..deck.deck import Deck
+from ..listing.listing import Step
+from .plan_decks import Spelled
+from .shares import HEAD_PLACES, PLACES, TERMS, Branch
+
+Pair = tuple[int, int]
+FLOW_PLACES = PLACES + HEAD_PLACES
+
+
+@dataclass
+class Sources:
+    """Of a step, in 10^-FLOW_PLACES: what the plan's wells take; what each term gives more, by the sum of its least and
+    greatest flows (`sums`), and narrowed by what the others leave (`terms`)."""
+
+    takes: Pair
+    sums: dict[str, Pair] = field(default_factory=dict)
+    terms: dict[str, Pair] = field(default_factory=dict)
+
+
+def sources_of(
+    step: Step, places: int, branches: list[Branch], drawdown: tuple[np.ndarray, np.ndarray], at: np.ndarray
+) -> Sources:
+    """The sources of a step of the difference decks' listing. `branches`: those at cells with an equation; `drawdown`:
+    bounds of base less plan; `at`: the places of the cells in their arrays."""
+    scale = 10 ** (FLOW_PLACES - places)
+    inward = {name: (a - d, b - c) for name, (a, b, c, d) in step.terms.items()}
+    wells = inward.get("WELLS", (0, 0))
+    out = Sources((wells[0] * scale, wells[1] * scale))
+    for name in ("STORAGE", "CONSTANT HEAD"):
+        low, high = inward.get(name, (0, 0))
+        out.sums[name] = -high * scale, -low * scale
+    for name in TERMS.values():
+        out.sums[name] = 0, 0
+    for each in branches:
+        place = at[each.cell[0] - 1, each.cell[1] - 1, each.cell[2] - 1]
+        low, high = int(drawdown[0][place]), int(drawdown[1][place])
+        least = (each.low if low >= 0 else each.high) * low
+        most = (each.high if high >= 0 else each.low) * high
+        sums = out.sums[each.term]
+        out.sums[each.term] = sums[0] + least, sums[1] + most
+    lows, highs = (sum(pair[n] for pair in out.sums.values()) for n in (0, 1))
+    for name, (low, high) in out.sums.items():
+        others = lows - low, highs - high
+        out.terms[name] = max(low, out.takes[0] - others[1]), min(high, out.takes[1] - others[0])
+    return out
+
+
+def without_equation(base: Spelled, period: int) -> np.ndarray:
+    """The cells of the grid that have no equation in a period, counted from 0: without flow, or with a given head."""
+    deck: Deck = base.deck
+    out = np.array([array.floats() <= 0 for array in deck.ibound])
+    for entries in base.entries("CHD")[: period + 1]:
+        for entry in entries:
+            out[entry.cell[0] - 1, entry.cell[1] - 1, entry.cell[2] - 1] = True
+    return out
