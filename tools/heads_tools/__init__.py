@@ -2,7 +2,7 @@
 import sys
 from types import ModuleType
 
-from .listing.drawdown import changes_of  # before the call drawdown, whose name the module would take
+from .plans.drawdown import changes_of  # before the call drawdown, whose name the module would take
 from .calls import (
     Answer,
     between,
@@ -19,7 +19,8 @@ from .calls import (
     plain,
     run,
 )
-from .exports.exports import Place, heads_frame, terms_frame
+from .exports.exports import heads_frame, terms_frame
+from .deck.places import Place
 from .program.failures import NoBounds, RunFailed
 from .exports.files import to_geotiff, to_vtk
 from .listing.headfile import read_heads, write_heads
@@ -27,7 +28,7 @@ from .listing.listing import Listing, Step, read_listing
 from .deck.model import Model, read_model
 from .exports.netcdf import to_netcdf, to_xarray
 from .common.text import VERSION, Problem
-from .listing.verdict import Verdict
+from .program.verdict import Verdict
 
 __version__ = VERSION
 CALLS = ("between", "certify", "compare", "drawdown", "inside", "look", "observe", "plain", "run")

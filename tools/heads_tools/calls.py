@@ -6,14 +6,16 @@ import argparse
 import io
 from dataclasses import dataclass
 from pathlib import Path
-from typing import TYPE_CHECKING, Any
+from typing import Any
 
-from .program.failures import failure_of
-from .listing.listing import Listing
+from .cli import joined, parser
+from .commands import PASSING, command
+from .commands.shared import existing, guarded, listing_of
 from .common.text import Problem
-
-if TYPE_CHECKING:
-    from .listing.verdict import Verdict
+from .listing.listing import Listing, read_listing
+from .listing.spans import second_deck
+from .program.failures import failure_of
+from .program.verdict import Verdict, check_listing
 
 
 @dataclass(repr=False)
@@ -57,13 +59,11 @@ def option_words(options: dict[str, Any]) -> list[str]:
 def arguments(command: str, given: dict[str, Any], options: dict[str, Any]) -> tuple[argparse.Namespace, list[str]]:
     """What the command's parser makes of words by name and of options. Listings in memory are handed over as they
     are."""
-    from .cli import PASSING, joined, parser
-
     memory = {name: each for name, each in (given | options).items() if isinstance(each, Listing)}
     words = [str(each.path if isinstance(each, Listing) else each) for each in given.values()]
     named = {name: each.path if isinstance(each, Listing) else each for name, each in options.items()}
     try:
-        args, rest = parser().parse_known_args(joined([command, *words, *option_words(named)]))
+        args, rest = parser([command]).parse_known_args(joined([command, *words, *option_words(named)]))
     except SystemExit:
         raise Problem(f"{command}: help and version are for the command line") from None
     if rest and command not in PASSING:
@@ -72,28 +72,24 @@ def arguments(command: str, given: dict[str, Any], options: dict[str, Any]) -> t
     return args, rest
 
 
-def call(command: str, given: dict[str, Any], options: dict[str, Any]) -> Answer:
+def call(name: str, given: dict[str, Any], options: dict[str, Any]) -> Answer:
     """Does a command, whose words are `given` by their names in the parser."""
-    from .commands import doing as commands
-
-    args, rest = arguments(command, given, options)
+    args, rest = arguments(name, given, options)
     said = io.StringIO()
-    with commands.guarded(args, rest):
-        status = getattr(commands, "do_" + command)(args, rest, said)
-    return Answer(command, status, said.getvalue().rstrip("\n").split("\n"))
+    with guarded(args, rest):
+        status = command(name).do(args, rest, said)
+    return Answer(name, status, said.getvalue().rstrip("\n").split("\n"))
 
 
-def made(command: str, given: dict[str, Any], options: dict[str, Any]) -> Answer:
+def made(name: str, given: dict[str, Any], options: dict[str, Any]) -> Answer:
     """Does a command that makes a listing, and raises RunFailed where it makes none."""
-    from .commands import doing as commands
-
-    args, rest = arguments(command, given, options)
+    args, rest = arguments(name, given, options)
     said = io.StringIO()
-    with commands.guarded(args, rest):
-        ran = commands.run_model(args, rest, said) if command == "run" else commands.certify_heads(args, said)
+    with guarded(args, rest):
+        ran = command(name).ran(args, rest, said)
     if ran.status != 0 or ran.listing is None:
         raise failure_of(ran.status, ran.last, ran.lines)
-    return Answer(command, 0, said.getvalue().rstrip("\n").split("\n"), ran.listing)
+    return Answer(name, 0, said.getvalue().rstrip("\n").split("\n"), ran.listing)
 
 
 def run(nam: str | Path, out: str | Path | None = None, **options: Any) -> Answer:
@@ -146,8 +142,6 @@ def drawdown_whatever(
     """What a plan does to a base deck in every weather between it and the deck `to`, in any weather (any=True), or in
     its own. `plan`: a file of WEL or a name file. `.listing` is that of the difference decks. cell, at, digits, quick,
     wide."""
-    from .listing.listing import read_listing
-
     answer = call("drawdown", {"plan": base, "base": plan, "folder": folder}, {"to": to} | options)
     answer.written = read_listing(Path(folder) / "difference.heads")
     return answer
@@ -170,14 +164,10 @@ def observe(listing: str | Path | Listing, points: str | Path, name: str | Path,
 
 def check(nam: str | Path, listing: str | Path | Listing, **options: Any) -> Verdict:
     """What `heads check` says of a listing: to, zones, wide. It goes with the listing into to_netcdf and the like."""
-    from .commands import doing as commands
-    from .listing.spans import second_deck
-    from .listing.verdict import check_listing
-
     args, rest = arguments("check", {"nam": nam, "listing": listing}, options)
     if args.parts is not None:
         raise Problem("a check by parts has no verdict of the whole: call `heads-tools check --parts`")
-    path = commands.existing(args.nam)
-    zones = commands.existing(args.zones) if args.zones else None
-    with commands.guarded(args, rest):
-        return check_listing(path, commands.listing_of(args.listing), zones, second_deck(path, args.to), args.wide)
+    path = existing(args.nam)
+    zones = existing(args.zones) if args.zones else None
+    with guarded(args, rest):
+        return check_listing(path, listing_of(args.listing), zones, second_deck(path, args.to), args.wide)

@@ -155,12 +155,12 @@ def test_heads_that_are_not_certified_raise_and_leave_the_certified_listing(vall
 
 
 def test_a_command_writes_to_the_stream_that_it_is_given(valley):
-    from heads_tools.commands import doing as commands
     from heads_tools.calls import arguments
+    from heads_tools.commands import command
 
     args, rest = arguments("model", {"nam": valley}, {})
     stream = io.StringIO()
-    assert commands.do_model(args, rest, stream) == 0 and "600 cells" in stream.getvalue()
+    assert command("model").do(args, rest, stream) == 0 and "600 cells" in stream.getvalue()
 
 
 def test_a_quiet_run_says_nothing_on_standard_error(valley, capfd):

@@ -119,7 +119,8 @@ def test_a_batch_that_would_take_half_the_memory_is_run_model_by_model(
     called = []
     by_program = heads_tools.program.batch.run_by_program
     monkeypatch.setattr(heads_tools.program.batch, "memory", lambda: 2 * held)
-    monkeypatch.setattr(heads_tools.program.batch, "run_by_program", lambda *words: called.append(1) or by_program(*words))
+    counted = lambda *words: called.append(1) or by_program(*words)
+    monkeypatch.setattr(heads_tools.program.batch, "run_by_program", counted)
     for name in ("three_cells", "river_valley"):
         example(name)
     (tmp_path / "list.txt").write_text("three_cells/a.nam\nriver_valley/m.nam\n")

@@ -8,7 +8,8 @@ from conftest import TOP
 from water_reference import HOLE, LOWER_HOLE, Small, draw, pumped, tank
 
 import heads_tools
-from heads_tools.water.certify_convertible import Bounds, Found, Refused
+from heads_tools.water.certify_convertible import Bounds, Refused
+from heads_tools.water.water_steps import Found
 from heads_tools.water.convertible import read_convertible
 from heads_tools.water.frozen import Frozen
 from heads_tools.water.gentle import first_not_gentle

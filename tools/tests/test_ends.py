@@ -20,11 +20,11 @@ REFUSED = {
         "comments stand only before the first item",
     ),
     "repeat without a value": ("m.lpf", "6 7 8 9 10\n", "6 7 8 9 1* \n", "`1*` leaves values out"),
-    "format of two fields": (
+    "format without a number": (
         "m.lpf",
         "INTERNAL 1 (FREE) -1\n",
-        "INTERNAL 1 (2F8.2,3F10.2) -1\n",
-        "the format (2F8.2,3F10.2) isn't of one repeated field",
+        "INTERNAL 1 (5A8) -1\n",
+        "the format (5A8) isn't of numbers in columns",
     ),
     "file ends early": ("m.lpf", "CONSTANT 0.4\nCONSTANT 0.00002\n", "CONSTANT 0.4\n", "SS of layer 2 (after HK VKA)"),
     "values left out by a slash": ("m.lpf", "6 7 8 9 10\n", "6 7 8 9 /\n", "`/` leaves values out"),

@@ -15,7 +15,8 @@ from conftest import TOOLS, TOP
 
 import heads_tools
 from heads_tools import Place, Problem, read_model
-from heads_tools.exports.exports import outward, place_of
+from heads_tools.deck.places import place_of
+from heads_tools.exports.exports import outward
 
 pytestmark = pytest.mark.program
 
@@ -46,7 +47,7 @@ def test_a_listing_is_shown_in_one_line(tide):
 
 def test_calls_keep_their_names_beside_the_modules(tide, tmp_path):
     import heads_tools.commands.inside
-    import heads_tools.deck.plain  # noqa: F401
+    import heads_tools.commands.plain  # noqa: F401
 
     assert heads_tools.inside(tide[0]).is_good and heads_tools.plain(tide[0], tmp_path / "plain").is_good
     answer = heads_tools.certify(tide[0], write_middle(tide, tmp_path), digits=9)

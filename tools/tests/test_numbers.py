@@ -5,7 +5,9 @@ from fractions import Fraction
 
 import pytest
 
-from heads_tools.common.spelling import exact, fortran, number, product
+from heads_tools.common.formats import format_of
+from heads_tools.common.spelling import exact, number, product
+from heads_tools.deck.sources import Report, Source
 from heads_tools.listing.tables import budget_of
 from heads_tools.listing.listing import Step
 from heads_tools.common.text import Problem, decimal_text, down, short_down, short_up, signed_down, signed_up, up
@@ -43,17 +45,32 @@ def test_products_are_exact():
 
 
 @pytest.mark.parametrize(
-    "text, line, values",
+    "text, lines, values",
     [
-        ("(3F4.1)", " 1.5  202.25", ["1.5", "2", "2.25"]),
-        ("(2I3)", " -1  4", ["-1", "4"]),
-        ("(1P2E9.2)", " 1.50E+01     2.5", ["15", "0.25"]),
-        ("(3F4.0)", "  1", ["1", "0", "0"]),
+        ("(3F4.1)", [" 1.5  202.25"], ["1.5", "2", "2.25"]),
+        ("(2I3)", [" -1  4"], ["-1", "4"]),
+        ("(1P2E9.2)", [" 1.50E+01     2.5"], ["15", "0.25"]),
+        ("(3F4.0)", ["  1"], ["1", "0", "0"]),
+        ("(2F4.0,F6.0)", [" 1.5 2.5   3.5"], ["1.5", "2.5", "3.5"]),
+        ("(5X,2F4.0)", ["row 1 1.5 2.5", "row 2 3.5"], ["1.5", "2.5", "3.5"]),
+        ("(T3,F3.0,2X,F3.0)", ["xx1.5--2.5"], ["1.5", "2.5"]),
+        ("(I2,2(1X,F3.0))", [" 7 1.5 2.5", " 3.5"], ["7", "1.5", "2.5", "3.5"]),
+        ("(F3.0/F3.0)", ["1.5 rest", "2.5", "3.5", "4.5"], ["1.5", "2.5", "3.5", "4.5"]),
+        ("(F3.0,1PF4.1)", ["1.5  25", " 35"], ["1.5", "0.25", "3.5"]),
     ],
 )
-def test_fields_of_fixed_width(text, line, values):
-    fields = fortran(text)
-    assert [Fraction(exact(fields.of(line, n))) for n in range(len(values))] == [Fraction(v) for v in values]
+def test_columns_of_fixed_width_are_read_as_fortran_does(text, lines, values, tmp_path):
+    """With more numbers than fields the format begins again on a new line, with its last group; a scale stays."""
+    (tmp_path / "a").write_text("\n".join(lines) + "\n")
+    source = Source(tmp_path / "a", "a", Report())
+    assert [Fraction(exact(word)) for word in source.fixed_values(len(values), text)] == [Fraction(v) for v in values]
+    assert source.at == len(lines)
+
+
+@pytest.mark.parametrize("text", ["(3A4)", "(2X)", "(F8.2", "F8.2", "(F8.2))", "('x',F8.2)", "(F3.0,(2X))"])
+def test_formats_without_numbers_are_refused(text):
+    with pytest.raises(Problem, match="isn't of numbers in columns"):
+        format_of(text)
 
 
 def test_rounded_outward():

@@ -9,7 +9,7 @@ from conftest import TOP, heads
 from heads_tools.program.explain import explain
 from heads_tools.listing.listing import Listing, Step, read_listing
 from heads_tools.deck.packages import read_deck
-from heads_tools.listing.spans import what_differs
+from heads_tools.deck.differences import what_differs
 from heads_tools.listing.what_is_said import words_of
 
 VALLEY = TOP / "examples" / "valley_between"
@@ -39,7 +39,8 @@ def stand_in(tmp_path, monkeypatch):
 
 def run_of(deck, folder, wells="1", recharge="1"):
     """The listing of the deck that `between` writes with these factors."""
-    from heads_tools.deck.decks_between import Range, Ranges, write_between
+    from heads_tools.deck.decks_between import Ranges, write_between
+    from heads_tools.deck.ranges import Range
 
     write_between(deck, folder, Ranges(Range(wells, wells), Range(recharge, recharge)))
     path = folder / "from.heads"

@@ -74,13 +74,13 @@ def test_plain_takes_what_heads_writes_where_the_deck_is_read_as_it_is(name, tmp
 
 
 def test_files_are_cut_out_of_a_whole_deck_that_can_be_read_again():
-    from heads_tools.program import program
+    from heads_tools.program import reading
 
     text = b"FILE p.nam\nDIS 11 p.dis\nFILE p.dis\n1 1 1\nEND\n"
-    assert program.files_of(text) == {"p.nam": b"DIS 11 p.dis\n", "p.dis": b"1 1 1\n"}
-    assert not any(map(program.files_of, (b"", b"END\n", b"REFUSED 1 MissingFile m.nam 0\n", text[:-4], text[:-1])))
-    assert not program.files_of(text.replace(b"1 1 1", b"1 -9000000000000000000 1"))
-    assert not program.files_of(text, 12)
+    assert reading.files_of(text) == {"p.nam": b"DIS 11 p.dis\n", "p.dis": b"1 1 1\n"}
+    assert not any(map(reading.files_of, (b"", b"END\n", b"REFUSED 1 MissingFile m.nam 0\n", text[:-4], text[:-1])))
+    assert not reading.files_of(text.replace(b"1 1 1", b"1 -9000000000000000000 1"))
+    assert not reading.files_of(text, 12)
 
 
 @pytest.mark.parametrize("name", ALL)

@@ -11,7 +11,7 @@ from heads_tools.listing.listing import read_listing
 from heads_tools.deck.model import read_model
 from heads_tools.numbers.parts import on_grid
 from heads_tools.numbers.zone_bounds import zone_branches, zone_flows
-from heads_tools.pages.zones import read_zones
+from heads_tools.listing.zones import read_zones
 
 pytestmark = pytest.mark.program
 # Zones that change along rows, columns and layers, some cells in none.

@@ -1,1 +1,35 @@
-"""The commands."""
+"""The commands of heads-tools: a module each, with its parser (`add`) and its run (`do`). Here is what each is for."""
+from __future__ import annotations
+
+from importlib import import_module
+from types import ModuleType
+
+HELP = {
+    "run": "run the model in its folder into NAME.heads, with progress; all further options go to heads run",
+    "explain": "what the last line of an output means, and what to change",
+    "inside": "is the model inside? All reasons at once, the digits it needs, and where MODFLOW reads it otherwise",
+    "plain": "the deck in the one spelling of heads write, or rewritten so that heads reads it, with notes",
+    "between": "two decks of one shape, for bounds that hold for every deck between them",
+    "model": "what was read: sizes, ranges of arrays, entries, steps",
+    "look": "tables, maps, sections, hydrographs, budget and a page",
+    "compare": "how far given heads are from every exact solution",
+    "drawdown": "what a plan does: the differences of two listings; or of a base deck and a plan, whatever the weather",
+    "plans": "one page that compares all listings of a batch with the first of them",
+    "certify": "certified bounds from any solver's heads: margins by a sparse solve, then heads check",
+    "check": "certify a listing by heads check, or piece by piece",
+    "hds": "a head file for FloPy, ModelMuse, Model Viewer",
+    "export": "NetCDF, GeoTIFF, VTK and CSV of a listing, each if its package is here",
+    "observe": "heads at points, by a table name,x,y,layer,time,measured or a HOB file: lower, upper, measured",
+    "mf2005": "run as MODFLOW-2005 is called by FloPy and ModelMuse: head file and list file",
+    "exhibit": "for a report or a court: deck, listing, verdicts, hashes, versions, pictures; further options go to"
+    " heads run",
+    "batch": "run many models and collect their ends; further options go to heads",
+    "version": "the program, its sources and kit, and whether its hash is the recorded one",
+}
+# Commands whose further words go to the program.
+PASSING = {"run", "exhibit", "batch", "mf2005"}
+
+
+def command(name: str) -> ModuleType:
+    """The module of a command. Only the one at hand is loaded: matplotlib and scipy take longer than most commands."""
+    return import_module(f".{name}", __name__)

@@ -1,6 +1,7 @@
 """exhibit: all that a report or a court needs of one run, in one folder that stands alone."""
 from __future__ import annotations
 
+import argparse
 import os
 import re
 import shlex
@@ -15,25 +16,29 @@ from pathlib import Path
 from string import Template
 from typing import IO
 
-from .. import __version__
-from ..listing.below_top import ALL_FULL, BelowTop
-from ..deck.deck import KINDS
-from ..program.explain import explain
 from ..common.limits import is_wide, limits_of, wide_words
-from ..listing.listing import read_listing
-from ..pages.look import look, title_of
+from ..common.spelling import quoted_words
+from ..common.text import VERSION, Problem, on_disk, read_text, sha256, words
+from ..common.whole_files import copy_whole, whole_file, why
+from ..deck.deck import KINDS
+from ..deck.differences import what_differs
 from ..deck.model import Model, read_model
 from ..deck.packages import read_deck
-from ..pages.page import bare, shown
+from ..listing.below_top import ALL_FULL, BelowTop
+from ..listing.listing import read_listing
 from ..listing.made_by import is_quick, keep_words, kind_of
-from ..program.program import TOP, Ended, Version, beside, digits_of, files_of, program_file, record_of, version
-from ..listing.spans import target_of, what_differs
-from ..common.spelling import quoted_words
-from ..common.text import Problem, on_disk, read_text, sha256, words
-from ..listing.verdict import Verdict, has_zones
+from ..listing.spans import second_deck, target_of
 from ..listing.what_is_said import NOT_THE_MOST, Words, words_of
-from ..common.whole_files import copy_whole, whole_file, why
-from ..pages.zones import read_zones
+from ..listing.zones import read_zones
+from ..pages.look import look
+from ..pages.looking import title_of
+from ..pages.page import bare, shown
+from ..program.explain import explain
+from ..program.program import TOP, Ended, Version, beside, digits_of, program_file, record_of, version
+from ..program.reading import files_of
+from ..program.verdict import Verdict, has_zones
+from .shared import existing, flags_of
+from .words import NAM, WIDE_RUN, add_quick, add_to, add_wide, add_words
 
 ONE_SPELLING = (
     "The folder written has the model that `heads` read from the folder deck, in one plain spelling, as `heads write` "
@@ -95,7 +100,8 @@ def exhibit(nam: Path, folder: Path, options: list[str], out: IO[str]) -> int:
     if folder.exists() and (not folder.is_dir() or any(folder.iterdir())):
         raise Problem(f"{folder} isn't an empty folder: an exhibit begins with one, or with none")
     if not shutil.which("sh"):
-        raise Problem("an exhibit's commands are those of a shell (sh), which isn't here: WSL has one, and Git for Windows")
+        said = "an exhibit's commands are those of a shell (sh), which isn't here: WSL has one, and Git for Windows"
+        raise Problem(said)
     binary, known = program_file(), version()
     try:
         folder.parent.mkdir(parents=True, exist_ok=True)
@@ -326,7 +332,7 @@ def program_facts(known: Version) -> list[tuple[str, str]]:
         ("program", "the file heads in this folder"),
         *(fact for line in known.lines if (fact := program_fact(line.strip()))),
         *commit_facts(),
-        ("tools", f"heads-tools {__version__}, Python {sys.version.split()[0]} (not proved)"),
+        ("tools", f"heads-tools {VERSION}, Python {sys.version.split()[0]} (not proved)"),
         ("made", time.strftime("%Y-%m-%d %H:%M:%S UTC by this machine's clock", time.gmtime())),
     ]
 
@@ -355,3 +361,15 @@ def write_sums(folder: Path) -> None:
     files = sorted(path for path in folder.rglob("*") if path.is_file())
     with whole_file(folder / "SHA256SUMS") as file:
         file.writelines(f"{sha256(path)}  {path.relative_to(folder).as_posix()}\n" for path in files)
+
+
+def add(sub: argparse.ArgumentParser) -> None:
+    add_words(sub, NAM, ("folder", "the folder to write into"))
+    add_to(sub, "a second deck: what may be said of every deck between the two")
+    add_quick(sub)
+    add_wide(sub, WIDE_RUN)
+
+
+def do(args: argparse.Namespace, options: list[str], out: IO[str]) -> int:
+    nam = existing(args.nam)
+    return exhibit(nam, args.folder, [*options, *second_deck(nam, args.to), *flags_of(args)], out)

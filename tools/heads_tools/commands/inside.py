@@ -2,24 +2,29 @@
 MODFLOW-2005 read the same files otherwise."""
 from __future__ import annotations
 
+import argparse
 import math
 import tempfile
 from dataclasses import dataclass
 from pathlib import Path
+from typing import IO
 
-import numpy as np
-
-from ..deck.deck import Deck
+from ..common.text import Problem, counted, short_down, short_up
+from ..deck.looks import look_at_cells, look_at_entries
+from ..deck.model import Model, model_of
+from ..deck.packages import read_deck
+from ..deck.sources import Report
+from ..deck.which_modflow import is_simulation
+from ..deck.writing import write_deck
+from ..modflow6.translate import read_simulation
 from ..numbers.equations import Network, given_heads
 from ..program.explain import explain
+from ..program.program import DEFAULT_DIGITS
+from ..program.reading import read_alone
+from ..water.inside_water import water_lines
 from .inside_tops import tops_lines
-from ..deck.model import Model, model_of
-from ..modflow6 import is_simulation, read_simulation
-from ..deck.packages import read_deck
-from ..deck.plain import write_deck
-from ..program.program import DEFAULT_DIGITS, read_alone
-from ..deck.sources import Report
-from ..common.text import Problem, counted, short_down, short_up
+from .shared import existing, say
+from .words import add_words
 
 MOST_UNITS = 2.0**60
 MOST_FLOW = 2.0**109
@@ -43,15 +48,14 @@ class Told:
 
 def inside(nam: Path, most: int = 12, heads: Path | None = None) -> Verdict:
     """`heads`: those of a run, of which is said whether they are gentle where a layer is convertible."""
-    from ..water.inside_water import water_lines
-
     if is_simulation(nam):
         deck, report, _ = read_simulation(nam)
     else:
         deck, report = read_deck(nam, as_modflow=True)
     has_convertible = any(float(word) for word in deck.layer_words[0]) if deck.layer_words else False
     if heads and not has_convertible:
-        raise Problem("--heads is for decks with a convertible layer (LAYTYP other than 0): every layer is confined here")
+        said = "--heads is for decks with a convertible layer (LAYTYP other than 0): every layer is confined here"
+        raise Problem(said)
     model = None
     if not report.refusals:
         model = model_of(deck)
@@ -109,88 +113,9 @@ def headline(report: Report, told: Told, most: int) -> list[str]:
     return ["INSIDE as it is"]
 
 
-def careful(nam: Path) -> list[str]:
-    """Where MODFLOW-2005 reads a deck otherwise than `heads` does, for the user of a run."""
-    deck, report = read_deck(nam)
-    if len(deck.ibound) == deck.nlay > 0:
-        look_at_given_heads(deck, report)
-    return [str(r) for r in report.blocking + report.warnings]
-
-
 def listed(remarks: list, most: int) -> list[str]:
     more = len(remarks) - most
     return [f"  - {r}" for r in remarks[:most]] + ([f"  - and {more} more"] if more > 0 else [])
-
-
-def look_at_cells(model: Model, report: Report) -> None:
-    """Values that the program refuses in cells with flow."""
-    deck, active = model.deck, model.ibound != 0
-    tests = [
-        ("DIS", "its top isn't above its bottom", model.thick <= 0),
-        ("LPF", "HK isn't above 0 (MODFLOW makes such a cell inactive: write IBOUND 0)", model.hk <= 0),
-        ("LPF", "HANI isn't above 0", model.hani <= 0),
-        ("LPF", "SS is below 0", model.ss < 0),
-        ("BAS6", "STRT is past 4,000,000,000", np.abs(model.strt) > 4e9),
-    ]
-    if model.shape[0] > 1:
-        tests.append(("LPF", "VKA isn't above 0", model.vk <= 0))
-        below = np.zeros_like(active)
-        below[:-1] = active[1:]
-        tests.append(("LPF", "VKCB of the bed below it isn't above 0", (model.vkcb <= 0) & (model.bed != 0) & below))
-        tests.append(("DIS", "the bed below it has a bottom above its top", (model.bed < 0) & below))
-    for kind, text, where in tests:
-        bad = np.flatnonzero(where & active)
-        if bad.size:
-            first = " ".join(map(str, model.cell(bad[0])))
-            cells = f"the cell {first}" if bad.size == 1 else f"{bad.size} cells with flow, the first one {first}"
-            report.add("refusals", deck.files[kind], 0, f"{cells} (layer row column): {text}")
-
-
-def look_at_given_heads(deck: Deck, report: Report) -> None:
-    """Given heads in cells without flow."""
-    ibound = [array.floats() for array in deck.ibound] if "CHD" in deck.lists else []
-    for e in (e for entries in deck.lists.get("CHD", []) for e in entries or []):
-        k, i, j = e.cell
-        if 1 <= k <= deck.nlay and 1 <= i <= deck.nrow and 1 <= j <= deck.ncol and ibound[k - 1][i - 1, j - 1] == 0:
-            report.add(
-                "warnings",
-                e.file,
-                e.line,
-                "CHD in a cell without flow (IBOUND 0): MODFLOW-2005 stops here, for `heads` the entry has no effect",
-            )
-
-
-def look_at_entries(model: Model, report: Report) -> None:
-    """Entries and arrays of stresses that are refused, or that MODFLOW-2005 takes otherwise."""
-    deck = model.deck
-    look_at_given_heads(deck, report)
-    for kind, periods in deck.lists.items():
-        for p, entries in enumerate(periods, 1):
-            seen: set[tuple[int, int, int]] = set()
-            for e in entries or []:
-                no_heads = ("WEL", 0), ("RIV", 1), ("DRN", 1), ("GHB", 1)
-                heads = [
-                    float(w.replace("D", "E").replace("d", "e"))
-                    for n, w in enumerate(e.words)
-                    if (kind, n) not in no_heads
-                ]
-                if any(abs(h) > 4e9 for h in heads):
-                    report.add("refusals", e.file, e.line, "a head or an elevation past 4,000,000,000")
-                if kind == "CHD" and e.cell in seen:
-                    report.add(
-                        "refusals",
-                        e.file,
-                        e.line,
-                        "the cell stands twice in this CHD list (MODFLOW-2005 adds the two heads)",
-                    )
-                seen.add(e.cell)
-    for kind, areal in deck.areal.items():
-        layers = {"RCH": "IRCH", "EVT": "IEVT"}[kind]
-        for _, arrays in areal.periods:
-            if layers in arrays and ((v := arrays[layers].floats()) < 0).any() | (v > deck.nlay).any():
-                report.add("refusals", deck.files[kind], 0, f"{layers} lies outside 0 to {deck.nlay}")
-            if kind == "EVT" and "EVTR" in arrays and (arrays["EVTR"].floats() < 0).any():
-                report.add("refusals", deck.files[kind], 0, "EVTR is below 0 in a column")
 
 
 def digits_lines(model: Model) -> list[str]:
@@ -236,3 +161,20 @@ def confirmed(nam: Path, model: Model, is_rewritten: bool, has_wide: bool) -> To
             return Told(["  " + line for line in explain(last, nam.parent).lines], False)
     except Problem as error:
         return Told([f"not confirmed by the program: {error}"], True)
+
+
+def add(sub: argparse.ArgumentParser) -> None:
+    add_words(sub, ("nam", "the model's name file, or mfsim.nam of MODFLOW 6"))
+    sub.add_argument("--most", type=int, default=12, help="the reasons of a kind to show (12)")
+    sub.add_argument(
+        "--heads",
+        type=Path,
+        metavar="RUN.HDS",
+        help="a run's heads (hds or CSV), where a layer is convertible: are they gentle, are the layers full",
+    )
+
+
+def do(args: argparse.Namespace, _: list[str], out: IO[str]) -> int:
+    verdict = inside(existing(args.nam), args.most, existing(args.heads) if args.heads else None)
+    say(verdict.lines, out)
+    return 0 if verdict.is_inside else 1

@@ -7,12 +7,12 @@ from pathlib import Path
 
 import numpy as np
 
-from ..listing.below_top import ALL_FULL, BelowTop
-from ..listing.listing import read_listing
-from ..deck.model import Model
 from ..common.spelling import exact
 from ..common.text import Problem, counted
-from ..listing.verdict import check_listing
+from ..deck.model import Model
+from ..listing.below_top import ALL_FULL, BelowTop
+from ..listing.listing import read_listing
+from ..program.verdict import check_listing
 
 UNKNOWN = (
     "whether heads lie below the tops of their cells is said by `heads-tools run` and `heads-tools look --name`"

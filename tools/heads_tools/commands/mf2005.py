@@ -5,8 +5,8 @@ NAME.heads. As MODFLOW-2005 opens its outputs anew, those of the run before go f
 those of this run."""
 from __future__ import annotations
 
+import argparse
 import re
-import sys
 import tempfile
 from contextlib import suppress
 from dataclasses import dataclass, field, replace
@@ -14,19 +14,19 @@ from itertools import count
 from pathlib import Path
 from typing import IO
 
-from ..listing.about import about_file, write_about
-from ..cli import main as run_command
-from ..program.explain import explain
-from ..listing.headfile import write_heads
 from ..common.kept_files import OUTPUTS, is_ours, kinds_of
-from ..listing.listing import TERMS, Listing, Step
-from ..deck.model import Model, read_model
-from ..deck.plain import plain
-from ..program.program import DEFAULT_DIGITS, Ended, run, with_wide
 from ..common.spelling import quoted_words
 from ..common.text import Problem, on_disk, read_text
-from ..listing.verdict import not_checked
 from ..common.whole_files import whole_file
+from ..deck.model import Model, read_model
+from ..deck.packages import read_deck
+from ..listing.headfile import write_heads
+from ..listing.listing import TERMS, Listing, Step
+from ..program.about import about_file, write_about
+from ..program.explain import explain
+from ..program.program import DEFAULT_DIGITS, Ended, run, with_wide
+from ..program.verdict import not_checked
+from .plain import plain
 
 SECONDS = {1: 1.0, 2: 60.0, 3: 3600.0, 4: 86400.0, 5: 31557600.0}
 NORMAL = "Normal termination of simulation"
@@ -207,15 +207,8 @@ def write_failure(output: Output, nam: Path, lines: list[str]) -> None:
         file.write(f"{BEGIN}; NAME FILE {nam.name}\n\n {failed}\n{told}\n")
 
 
-def main() -> int:
-    """The command heads-mf2005."""
-    return run_command(["mf2005", *sys.argv[1:]])
-
-
 def no_flow(nam: Path) -> float:
     """HNOFLO of the deck, -999.99 where it can't be told."""
-    from ..deck.packages import read_deck
-
     try:
         return float(read_deck(nam)[0].options.get("HNOFLO", "-999.99").replace("D", "E").replace("d", "e"))
     except ValueError:
@@ -288,3 +281,19 @@ def time_text(step: Step, times: tuple[float, float, float], seconds: float) -> 
         for name, time in zip(names, times)
     ]
     return "".join(out) + "\n"
+
+
+MF2005 = """\
+Runs the model as MODFLOW-2005 is called: the name file as the one word. It writes the head file where the output
+control saves heads (single precision, the middles of the pairs), the list file with budgets, the listing
+NAME.heads, and the words 'Normal termination of simulation'. In FloPy: exe_name="/path/to/tools/mf2005". No
+cell-by-cell flows are written. Written from the documented call and files of MODFLOW-2005."""
+
+
+def add(sub: argparse.ArgumentParser) -> None:
+    sub.description = MF2005
+    sub.add_argument("words", nargs="*", metavar="WORD", help="the name file; further words go to heads run")
+
+
+def do(args: argparse.Namespace, options: list[str], out: IO[str]) -> int:
+    return mf2005(args.words + options, out)

@@ -15,7 +15,6 @@ NUMBER = re.compile(r"[+-]?(\d+\.?\d*|\.\d+)([EeDd]?[+-]?\d+)?")
 # A number of few digits, whose exponent is within the limits wherever its zeros stand.
 SHORT = re.compile(r"[+-]?(\d{1,9})(?:\.(\d{0,9}))?(?:[EeDd][+-]?[0-2]?\d)?")
 NO_LETTER = re.compile(r"(?<=[0-9.])([+-]\d+)$")
-FORTRAN = re.compile(r"\(\s*(?:([+-]?\d+)P\s*,?\s*)?(\d*)\s*([FEGDI])\s*(\d+)(?:\.(\d+))?(?:E\d+)?\s*\)")
 
 
 class Number(NamedTuple):
@@ -81,35 +80,3 @@ def product(a: str, b: str) -> Number:
     """The product of two numbers' words."""
     value = EXACT.multiply(exact(a), exact(b)).normalize(EXACT)
     return number(f"{value:e}" if value else "0")
-
-
-class Fields(NamedTuple):
-    """A Fortran format of one repeated field: how many on a line, the letter, the width, the decimals, the scale."""
-
-    repeats: int
-    letter: str
-    width: int
-    places: int
-    scale: int
-
-    def of(self, line: str, at: int) -> str:
-        """The word of a field, with its point and exponent where the format says them. Blank is 0."""
-        word = line[at * self.width : (at + 1) * self.width].replace(" ", "").strip()
-        if not word:
-            return "0"
-        has_exponent = bool(re.search("[EeDd]", word)) or bool(NO_LETTER.search(word))
-        power = -self.places if "." not in word and self.letter != "I" else 0
-        if not has_exponent:
-            power -= self.scale
-        return scaled(word, power) if power else word
-
-
-def fortran(text: str) -> Fields | None:
-    """The format that a text means, None for (FREE)."""
-    if text.upper() in ("(FREE)", "(*)"):
-        return None
-    found = FORTRAN.fullmatch(text.upper())
-    if not found:
-        raise Problem(f"the format {text} isn't of one repeated field, as (10F8.2)")
-    scale, count, letter, width, places = found.groups()
-    return Fields(int(count or 1), letter, int(width), int(places or 0), int(scale or 0))

@@ -3,8 +3,8 @@ stays where heads-tools didn't make it, and where a deck or the command itself r
 from __future__ import annotations
 
 import os
-import signal
 import shutil
+import signal
 import tempfile
 import threading
 from contextlib import contextmanager

@@ -109,3 +109,5 @@ class Deck:
     @property
     def cells(self) -> int:
         return self.nlay * self.nrow * self.ncol
+
+EVT_ARRAYS = ("SURF", "EVTR", "EXDP")

@@ -6,14 +6,15 @@ import os
 from dataclasses import dataclass, field
 from pathlib import Path
 
-from .deck import COLUMNS, KINDS, PASSED, Deck
-from .packages import plain_name, read_deck
-from .pairing import pair
-from .plain import package_lines
-from .ranges import Range, Stresses
 from ..common.spelling import quoted_words
 from ..common.text import Problem, on_disk
 from ..common.whole_files import copy_whole, whole_file, whole_folder
+from .deck import COLUMNS, KINDS, PASSED, Deck
+from .names import plain_name
+from .packages import read_deck
+from .pairing import pair
+from .ranges import Range, Stresses
+from .writing import package_lines
 
 STRESSES = (*COLUMNS, "RCH", "EVT")
 FIRST, SECOND, BOTH = "from", "to", "both"

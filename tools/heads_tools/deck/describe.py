@@ -3,9 +3,9 @@ from __future__ import annotations
 
 import numpy as np
 
+from ..common.text import counted
 from .deck import COLUMNS
 from .model import Model, value
-from ..common.text import counted
 
 
 def describe(model: Model) -> list[str]:

@@ -7,9 +7,9 @@ from pathlib import Path
 
 import numpy as np
 
+from ..common.text import LENGTHS, TIMES, Problem
 from .deck import Deck
 from .packages import read_deck
-from ..common.text import LENGTHS, TIMES, Problem
 
 
 @dataclass(repr=False)

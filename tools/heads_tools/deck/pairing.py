@@ -5,11 +5,10 @@ from __future__ import annotations
 from dataclasses import replace
 from typing import Callable
 
-from .deck import COLUMNS, Areal, Deck, Entry
-from .packages import EVT_ARRAYS
-from .sources import Array
 from ..common.spelling import exact
 from ..common.text import Problem
+from .deck import COLUMNS, EVT_ARRAYS, Areal, Deck, Entry
+from .sources import Array
 
 ZEROED = {"WEL": 0, "RIV": 1, "DRN": 1, "GHB": 1}
 LAYERS = {"RCH": "IRCH", "EVT": "IEVT"}

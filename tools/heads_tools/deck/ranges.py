@@ -5,10 +5,10 @@ import re
 from dataclasses import dataclass
 from typing import Callable
 
-from .deck import Deck
-from .sources import Array
 from ..common.spelling import EXACT, MOST_DIGITS, exact, number
 from ..common.text import Problem
+from .deck import Deck
+from .sources import Array
 
 NUMBER = r"[+-]?\d+(?:\.\d+)?(?:[Ee][+-]?\d+)?"
 RANGE = re.compile(f"({NUMBER})\\.\\.({NUMBER})")

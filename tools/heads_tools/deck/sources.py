@@ -9,8 +9,9 @@ from typing import cast
 
 import numpy as np
 
-from ..common.spelling import exact, fortran, number, quoted_words
+from ..common.formats import Column, Field, Skip, format_of
 from ..common.marks import plain
+from ..common.spelling import exact, number, quoted_words
 from ..common.text import Problem, on_disk, read_raw
 
 
@@ -244,19 +245,33 @@ class Source:
             taken += sum(repeats(word) for word in item.split())
 
     def fixed_values(self, count: int, text: str) -> list[str]:
-        """The words of a list in columns of fixed width."""
-        fields = fortran(text)
-        if fields is None:
+        """The words of a list in columns of fixed width, which begins on a new line."""
+        form = format_of(text)
+        if form is None:
             raise Problem(f"the format {text} has no columns")
         out: list[str] = []
-        while len(out) < count:
-            line = self.line(is_blank_taken=True)
-            if "\t" in line and not self.has_tab:
-                self.has_tab = True
-                text = "a tab in columns of fixed width, here one letter: MODFLOW-2005 may count it otherwise"
-                self.report.add("warnings", self.name, self.at, text)
-            out += [self.number(fields.of(line, n)) for n in range(min(fields.repeats, count - len(out)))]
+        line, at = self._fixed_line(), 0
+        for part in form.all_parts():
+            if len(out) == count and (part is None or isinstance(part, Field)):
+                break
+            if isinstance(part, Field):
+                out.append(self.number(part.of(line, at)))
+                at += part.width
+            elif isinstance(part, Skip):
+                at += part.width
+            elif isinstance(part, Column):
+                at = part.at
+            else:
+                line, at = self._fixed_line(), 0
         return out
+
+    def _fixed_line(self) -> str:
+        line = self.line(is_blank_taken=True)
+        if "\t" in line and not self.has_tab:
+            self.has_tab = True
+            text = "a tab in columns of fixed width, here one letter: MODFLOW-2005 may count it otherwise"
+            self.report.add("warnings", self.name, self.at, text)
+        return line
 
 
 def read_binary(path: Path, count: int, at: int, is_rest: bool) -> tuple[np.ndarray, int]:

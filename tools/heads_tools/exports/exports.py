@@ -4,17 +4,17 @@ from __future__ import annotations
 
 import importlib
 import math
-from dataclasses import dataclass
 from fractions import Fraction
 from typing import TYPE_CHECKING, Any
 
 import numpy as np
 
-from ..listing.listing import Listing, Step
-from ..deck.model import Model
-from ..listing.tables import budget_of
 from ..common.text import VERSION, Problem
-from ..listing.verdict import NO_CHECK, Verdict, not_checked
+from ..deck.model import Model
+from ..deck.places import Place
+from ..listing.listing import Listing, Step
+from ..listing.tables import budget_of
+from ..program.verdict import NO_CHECK, Verdict, not_checked
 
 if TYPE_CHECKING:
     import pandas
@@ -42,42 +42,6 @@ def facts_for(listing: Listing, verdict: Verdict | None) -> dict[str, str]:
     if verdict.sha256 != listing.sha256:
         raise Problem(f"the verdict is that on another listing than {listing.path}")
     return verdict.facts() | {"made_by": f"heads-tools {VERSION}"}
-
-
-@dataclass(frozen=True)
-class Place:
-    """Where the grid lies, as FloPy's xoff, yoff, angrot and epsg: the corner of the last row and the first column, and
-    the degrees by which the grid is turned round it against the clock."""
-
-    x: float = 0.0
-    y: float = 0.0
-    angle: float = 0.0
-    epsg: int | None = None
-
-    def world(self, x: np.ndarray, y: np.ndarray) -> tuple[np.ndarray, np.ndarray]:
-        """Coordinates on the map of points of the grid."""
-        c, s = math.cos(math.radians(self.angle)), math.sin(math.radians(self.angle))
-        return self.x + c * x - s * y, self.y + s * x + c * y
-
-    def grid(self, x: float, y: float) -> tuple[float, float]:
-        """The grid's own coordinates of a point of the map."""
-        c, s = math.cos(math.radians(self.angle)), math.sin(math.radians(self.angle))
-        return c * (x - self.x) + s * (y - self.y), -s * (x - self.x) + c * (y - self.y)
-
-
-def place_of(text: str) -> Place:
-    """The place of X0,Y0[,ANGLE[,EPSG]]."""
-    parts = text.split(",")
-    try:
-        if not 2 <= len(parts) <= 4:
-            raise ValueError
-        x, y, angle = map(float, [*parts[:3], "0"][:3])
-        return Place(x, y, angle, int(parts[3]) if len(parts) == 4 else None)
-    except ValueError:
-        raise Problem(
-            f"`{text}`: a place is X0,Y0[,ANGLE[,EPSG]], the grid's lower left corner, degrees against the clock, a"
-            " code of EPSG"
-        ) from None
 
 
 def system_of(epsg: int) -> Any:

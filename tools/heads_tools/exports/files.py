@@ -8,13 +8,14 @@ from xml.sax.saxutils import quoteattr
 
 import numpy as np
 
-from ..listing.about import write_about
-from .exports import Place, Unwritten, comment_of, demand_unit, facts_for, heads_frame, package, time_of
-from ..listing.listing import Listing
-from ..deck.model import Model
-from .netcdf import to_netcdf
-from ..listing.verdict import NO_CHECK, Verdict, not_checked
 from ..common.whole_files import draft_of, whole_file, write_whole
+from ..deck.model import Model
+from ..deck.places import Place
+from ..listing.listing import Listing
+from ..program.about import write_about
+from ..program.verdict import NO_CHECK, Verdict, not_checked
+from .exports import Unwritten, comment_of, demand_unit, facts_for, heads_frame, package, time_of
+from .netcdf import to_netcdf
 
 FORMATS = ("nc", "tif", "vtu", "csv")
 BY_STEPS = ("tif", "vtu")

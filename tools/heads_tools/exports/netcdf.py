@@ -9,13 +9,13 @@ from typing import TYPE_CHECKING, Any
 
 import numpy as np
 
-from .exports import Place, comment_of, demand_unit, facts_for, middles, package, system_of, time_of
-from ..listing.listing import Listing
-from ..deck.model import Model
-from .places import start_of
 from ..common.text import LENGTHS, Problem
-from ..listing.verdict import Verdict
 from ..common.whole_files import write_whole
+from ..deck.model import Model
+from ..deck.places import Place, start_of
+from ..listing.listing import Listing
+from ..program.verdict import Verdict
+from .exports import comment_of, demand_unit, facts_for, middles, package, system_of, time_of
 
 if TYPE_CHECKING:
     import xarray

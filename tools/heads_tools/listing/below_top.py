@@ -11,12 +11,14 @@ from typing import Callable
 
 import numpy as np
 
-from ..deck.deck import Deck
-from .listing import UNITS_IN_ONE, Listing, Step
-from ..deck.packages import Reader
-from ..deck.sources import Array
 from ..common.spelling import exact
 from ..common.text import Problem, counted
+from ..deck.deck import Deck
+from ..deck.grid_files import read_dis
+from ..deck.name_file import read_names
+from ..deck.reading import Reading
+from ..deck.sources import Array
+from .listing import UNITS_IN_ONE, Listing, Step
 
 THINNER = (
     "An aquifer that isn't full is thinner than the model takes it, and a thinner aquifer draws down more: there a "
@@ -106,7 +108,7 @@ class BelowTop:
         return int((self.below > 0).sum())
 
     def sentences(self, is_certified: bool = True) -> list[str]:
-        """What a reader has to know, layer by layer, and what it means; nothing where each cell is full."""
+        """What a reading has to know, layer by layer, and what it means; nothing where each cell is full."""
         lines = self.lines(is_certified)
         return [*lines, THINNER] if self.count else lines
 
@@ -151,10 +153,10 @@ class BelowTop:
 
 def below_top(nam: Path, listing: Listing) -> BelowTop:
     """The cells of a listing below their tops, by the model's DIS alone."""
-    reader = Reader(nam, any_size=True)
-    reader.read_names()
-    reader.read_dis()
-    return BelowTop(reader.deck, listing)
+    reading = Reading(nam, any_size=True)
+    read_names(reading)
+    read_dis(reading)
+    return BelowTop(reading.deck, listing)
 
 
 def lines_below_top(nam: Path, listing: Listing) -> list[str]:

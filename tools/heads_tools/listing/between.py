@@ -4,9 +4,9 @@ from __future__ import annotations
 from dataclasses import dataclass
 from fractions import Fraction
 
-from .listing import Cell, Listing
-from ..deck.model import Model
 from ..common.text import Problem
+from ..deck.model import Model
+from .listing import Cell, Listing
 
 Weights = dict[Cell, Fraction]
 HALF = Fraction(1, 2)

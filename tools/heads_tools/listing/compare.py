@@ -6,10 +6,10 @@ from pathlib import Path
 
 import numpy as np
 
-from .headfile import ANY_STEP, Heads
-from .listing import Listing, Step
 from ..common.text import Problem, counted, short_down, short_up
 from ..common.whole_files import whole_file
+from .headfile import ANY_STEP, Heads
+from .listing import Listing, Step
 
 
 @dataclass

@@ -3,9 +3,9 @@ from __future__ import annotations
 
 import numpy as np
 
-from .listing import Listing
-from ..deck.model import Model
 from ..common.text import Problem
+from ..deck.model import Model
+from .listing import Listing
 
 
 def demand_whole(listing: Listing) -> None:

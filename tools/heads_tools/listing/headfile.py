@@ -8,11 +8,11 @@ from pathlib import Path
 
 import numpy as np
 
-from .listing import Listing
-from .spans import demand_one
 from ..common.marks import plain, tell
 from ..common.text import Problem, read_raw
 from ..common.whole_files import whole_file
+from .listing import Listing
+from .spans import demand_one
 
 Heads = dict[tuple[int, int], np.ndarray]
 ANY_STEP = (0, 0)

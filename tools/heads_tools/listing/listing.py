@@ -158,8 +158,8 @@ def head_floor(units: np.ndarray) -> np.ndarray:
 
 def refuse_convertible(path: Path) -> None:
     raise Problem(
-        f"{path} is of a model with convertible layers: it holds for gentle heads alone, and this command takes listings"
-        " of confined models"
+        f"{path} is of a model with convertible layers: it holds for gentle heads alone, and this command takes"
+        " listings of confined models"
     )
 
 

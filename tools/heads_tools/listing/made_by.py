@@ -6,9 +6,9 @@ import shlex
 from pathlib import Path
 
 from ..common.limits import is_wide
-from .listing import Listing
 from ..common.text import Problem, read_text, sha256
 from ..common.whole_files import whole_file
+from .listing import Listing
 
 QUICK = "--quick"
 SETTLED_PAIRS = "settled pairs: a run of the same files with the same digits gives the same bytes anywhere"

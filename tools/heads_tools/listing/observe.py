@@ -14,12 +14,12 @@ from fractions import Fraction
 from functools import cached_property
 from pathlib import Path
 
-from ..exports.exports import Place
-from .listing import UNITS_IN_ONE, Listing, Step
-from ..deck.model import Model, exact_ends
-from .points import Point, Points
 from ..common.text import Problem, counted, decimal_text, down, up
 from ..common.whole_files import whole_file
+from ..deck.model import Model, exact_ends
+from ..deck.places import Place
+from .listing import UNITS_IN_ONE, Listing, Step
+from .points import Point, Points
 
 HEADER = "name layer row col time lower upper measured measured_less_upper measured_less_lower cells".split()
 NEARLY = Fraction(1, 10**9)

@@ -9,12 +9,12 @@ from pathlib import Path
 
 import numpy as np
 
-from .between import HALF, Cell, Spot, Weights, mixed, weights_of
-from ..exports.exports import Place
-from .listing import Listing
-from ..deck.model import Model, exact_value
 from ..common.spelling import quoted_words
 from ..common.text import Problem, read_text
+from ..deck.model import Model, exact_value
+from ..deck.places import Place
+from .between import HALF, Cell, Spot, Weights, mixed, weights_of
+from .listing import Listing
 
 ONE = Fraction(1)
 MOST_OFF_ONE = Fraction(2, 100)

@@ -3,24 +3,13 @@ from __future__ import annotations
 
 from pathlib import Path
 
-from ..deck.deck import Deck
-from .listing import Listing
 from ..common.text import Problem
+from .listing import Listing
 
 ALL_BETWEEN = (
     "Every exact solution lies between the listed numbers, whatever the stresses are between those of the two decks, "
     "at each time step anew."
 )
-STRESSES = {
-    "WEL": "pumping",
-    "RIV": "state of the rivers",
-    "DRN": "state of the drains",
-    "GHB": "state of the general heads",
-    "CHD": "given head",
-    "RCH": "recharge",
-    "EVT": "evapotranspiration",
-    "STRT": "starting head",
-}
 
 
 def second_deck(nam: Path, to: Path | None) -> list[str]:
@@ -53,16 +42,3 @@ def demand_one(listing: Listing, why: str) -> None:
     """Refuses a listing of two decks."""
     if listing.is_span:
         raise Problem(f"{listing.path} is a listing of two decks (its first line ends with TO): {why}")
-
-
-def what_differs(first: Deck, second: Deck) -> list[str]:
-    """The stresses that differ between two decks of one shape, in words."""
-    from ..deck.plain import package_lines
-
-    def entries(deck: Deck, kind: str) -> list[str]:
-        """What a package says: its lines without comments and its option."""
-        if kind == "STRT":
-            return [line for array in deck.strt for line in array.lines()]
-        return package_lines(deck, kind)[len(deck.comments.get(kind, [])) + 1 :] if kind in deck.files else []
-
-    return [name for kind, name in STRESSES.items() if entries(first, kind) != entries(second, kind)]

@@ -4,10 +4,10 @@ from __future__ import annotations
 from dataclasses import dataclass
 from pathlib import Path
 
-from .cell_lines import write_cells
-from .listing import Listing, Step
 from ..common.text import decimal_text
 from ..common.whole_files import whole_file
+from .cell_lines import write_cells
+from .listing import Listing, Step
 
 
 Row = tuple[str, int, int, int, int]

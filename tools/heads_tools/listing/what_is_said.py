@@ -5,8 +5,8 @@ from dataclasses import dataclass, field
 
 import numpy as np
 
-from .listing import Cell, Listing
 from ..common.text import decimal_text, down, up
+from .listing import Cell, Listing
 
 EACH_HEAD = (
     "Each exact solution of this model's finite-difference equations has, at the end of each listed time step "

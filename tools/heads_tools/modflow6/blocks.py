@@ -5,10 +5,10 @@ from dataclasses import dataclass, field
 from pathlib import Path
 from typing import Callable
 
-from ..program.explain import missing
-from ..deck.sources import Report
 from ..common.spelling import quoted_words
 from ..common.text import Problem, on_disk, read_text
+from ..deck.names import missing
+from ..deck.sources import Report
 from .numbers import whole
 
 COMMENTS = ("#", "!", "//")

@@ -3,8 +3,8 @@ from __future__ import annotations
 
 from dataclasses import dataclass, field
 
-from ..deck.deck import Period
 from ..common.text import Problem
+from ..deck.deck import Period
 from .blocks import File, Folder, Line
 from .numbers import number_word, value_of
 from .options import options_of

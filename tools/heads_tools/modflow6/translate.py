@@ -3,10 +3,10 @@ from __future__ import annotations
 
 from pathlib import Path
 
-from ..deck.deck import KINDS, Areal, Deck, Entry
 from ..common.limits import PLAIN, WIDE
-from ..deck.sources import Array, Report
 from ..common.text import Problem
+from ..deck.deck import KINDS, Areal, Deck, Entry
+from ..deck.sources import Array, Report
 from .areal import LAYERS, Columns, read_areal
 from .blocks import Folder
 from .flow import Properties, Storage, read_properties, read_storage

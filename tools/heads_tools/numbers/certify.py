@@ -18,23 +18,25 @@ from pathlib import Path
 import numpy as np
 import scipy.sparse
 
-from ..listing.cell_lines import write_cells
-from ..listing.compare import compare, sentences
-from .equations import TERMS, Given, Network, Step, given_heads
-from ..listing.fitting import demand_fit
-from ..listing.headfile import ANY_STEP, Heads, read_heads
 from ..common.kept_files import demand_free
 from ..common.limits import limits_of, wide_words
-from ..listing.listing import Listing, read_listing
-from ..listing.listing import Step as Listed
-from ..deck.model import Model, read_model
-from .pieces import is_large
-from ..program.program import call
-from .solvers import solved
 from ..common.text import Problem, decimal_text, sha256
-from ..listing.verdict import demand_same, readable
-from .whole import Pair, constant_head, pair_of, pair_of_heads
 from ..common.whole_files import whole_file
+from ..deck.model import Model, read_model
+from ..listing.cell_lines import write_cells
+from ..listing.compare import compare, sentences
+from ..listing.fitting import demand_fit
+from ..listing.headfile import ANY_STEP, Heads, read_heads
+from ..listing.listing import Listing, Step as Listed, read_listing
+from ..listing.zones import read_zones
+from ..program.explain import explain
+from ..program.program import call
+from ..program.verdict import demand_same, readable
+from .equations import TERMS, Given, Network, Step, given_heads
+from .parts import check_model
+from .pieces import is_large
+from .solvers import solved
+from .whole import Pair, constant_head, pair_of, pair_of_heads
 from .zone_bounds import ZoneFlow, zone_branches, zone_flows
 
 UNIT = 1e-9
@@ -121,9 +123,6 @@ def check(
     nam: Path, tried: Path, model: Model, digits: int, zones: Path | None = None, has_wide: bool = False
 ) -> Check:
     """The program's check of a listing; of a model that is larger than the program takes, that of its parts."""
-    from ..program.explain import explain
-    from .parts import check_model
-
     if is_large(model.shape, limits_of(has_wide)):
         began = time.monotonic()
         parts = check_model(model, tried, 1, zones=zones)
@@ -147,8 +146,6 @@ class Zones:
 
     @staticmethod
     def of(model: Model, digits: int, path: Path, nam: Path) -> Zones:
-        from ..pages.zones import read_zones
-
         numbers = read_zones(path, nam, model.shape).ravel()
         return Zones(numbers, zone_branches(model, digits, numbers))
 

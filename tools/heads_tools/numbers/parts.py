@@ -19,20 +19,21 @@ from typing import Iterator
 
 import numpy as np
 
-from ..program.batch import call_tool
-from .equations import Given, given_heads
 from ..common.limits import wide_words
-from ..listing.listing import Listing, Step, read_listing
+from ..common.text import Problem, counted, read_text
+from ..common.whole_files import whole_file
 from ..deck.model import Model, model_of
 from ..deck.packages import read_deck
-from .pieces import SIDES, Part, Piece, Slabs, parts_of
-from ..deck.plain import package_lines
-from ..program.program import call, direct_program
+from ..deck.writing import package_lines
+from ..listing.listing import Listing, Step, read_listing
 from ..listing.spans import demand_one
-from ..common.text import Problem, counted, read_text
-from ..listing.verdict import UNCHECKED_ZONES, has_zones
+from ..listing.zones import read_zones
+from ..program.batch import call_tool
+from ..program.program import call, direct_program
+from ..program.verdict import UNCHECKED_ZONES, has_zones
+from .equations import Given, given_heads
+from .pieces import SIDES, Part, Piece, Slabs, parts_of
 from .whole import Pair, WholeModel
-from ..common.whole_files import whole_file
 from .whole_step import WholeStep
 from .zone_bounds import zone_faults, zone_flows
 
@@ -106,8 +107,6 @@ def check_model(model: Model, path: Path, count: int, way: Way | None = None, zo
 
 def zone_numbers(model: Model, path: Path | None) -> np.ndarray | None:
     """The zones of a model's cells, where a zone file is named."""
-    from ..pages.zones import read_zones
-
     return read_zones(path, model.deck.path, model.shape).ravel() if path else None
 
 

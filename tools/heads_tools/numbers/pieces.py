@@ -15,17 +15,17 @@ from pathlib import Path
 
 import numpy as np
 
-from ..listing.cell_lines import write_cells
-from ..deck.deck import Deck, Entry
-from .equations import TERMS
 from ..common.limits import PLAIN, Limits
-from ..listing.listing import Listing
-from ..deck.model import Model
-from ..deck.plain import write_deck
-from ..deck.sources import Array
 from ..common.text import Problem, decimal_text
-from .whole import step_length
 from ..common.whole_files import whole_file
+from ..deck.deck import Deck, Entry
+from ..deck.model import Model
+from ..deck.sources import Array
+from ..deck.writing import write_deck
+from ..listing.cell_lines import write_cells
+from ..listing.listing import Listing
+from .equations import TERMS
+from .whole import step_length
 from .whole_step import WholeStep
 
 MOST_DIGITS = 18

@@ -10,11 +10,11 @@ from fractions import Fraction
 
 import numpy as np
 
+from ..common.spelling import EXACT, exact, exponent_of
+from ..common.text import Problem
 from ..deck.deck import Entry
 from ..deck.model import Model
 from ..deck.sources import Array
-from ..common.spelling import EXACT, exact, exponent_of
-from ..common.text import Problem
 
 HEAD_PLACES = 9
 MOST_CONDUCTANCE = 2**62

@@ -11,11 +11,11 @@ import numpy as np
 import scipy.sparse
 import scipy.sparse.csgraph
 
-from ..deck.deck import Entry
-from .equations import TERMS, Given
-from ..deck.sources import Array
 from ..common.spelling import exact
 from ..common.text import Problem
+from ..deck.deck import Entry
+from ..deck.sources import Array
+from .equations import TERMS, Given
 from .whole import (
     HEAD_PLACES,
     Pair,

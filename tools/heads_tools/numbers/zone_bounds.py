@@ -6,8 +6,8 @@ from collections.abc import Iterable, Iterator
 
 import numpy as np
 
-from ..listing.listing import Step
 from ..deck.model import Model
+from ..listing.listing import Step
 from .rounded import Conductances
 from .whole import Pair, product, whole
 

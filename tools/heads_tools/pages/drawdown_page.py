@@ -5,14 +5,14 @@ from pathlib import Path
 
 import numpy as np
 
+from ..common.text import decimal_text, down, up
+from ..plans.drawdown import Cell, Change, Drawdown, Pair, place_of
+from ..program.verdict import Verdict
 from . import curves, maps
-from ..listing.drawdown import Cell, Change, Drawdown, Pair, place_of
 from .looking import plan_for, title_of
 from .page import Page, write_page
 from .page_facts import Facts, facts_of, facts_of_making
 from .pictures import Album
-from ..common.text import decimal_text, down, up
-from ..listing.verdict import Verdict
 
 MOST_MAPS = 12
 ALL_BETWEEN = "Each change from an exact solution of the base to one of the plan lies between its bounds."

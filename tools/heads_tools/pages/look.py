@@ -17,7 +17,7 @@ from ..deck.model import Model
 from .page import write_page
 from ..listing.tables import write_tables
 from ..common.text import Problem
-from ..listing.verdict import Verdict
+from ..program.verdict import Verdict
 
 __all__ = ["Look", "look", "look_at_given", "title_of"]
 MOST_STEPS = 400

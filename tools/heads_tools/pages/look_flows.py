@@ -10,7 +10,8 @@ from .look_time import OverTime
 from .looking import BUDGET, ZONES
 from ..listing.tables import budget_of
 from ..common.text import Problem, down, signed_down, signed_up, up, without_exponent
-from .zones import ZoneMap, net_flows, zone_map
+from ..listing.zones import net_flows
+from .zones import ZoneMap, zone_map
 
 
 def span(low: int, high: int, places: int) -> str:

@@ -16,7 +16,7 @@ from .page_facts import facts_of, facts_of_making
 from .pictures import Album, Plan, plan_of
 from ..common.progress import bar
 from ..common.text import LENGTHS, Problem, decimal_text, read_text
-from ..listing.verdict import Verdict, not_checked
+from ..program.verdict import Verdict, not_checked
 
 ROOMS = "Heads", "Below the tops", "Sections", "Cells over time", "Budget", "Zones", "Given heads", "Difference"
 HEADS, TOPS, SECTIONS, HYDROGRAPHS, BUDGET, ZONES, GIVEN, MINUS = ROOMS

@@ -17,19 +17,7 @@ from matplotlib.patheffects import withStroke
 from matplotlib.text import Text
 from matplotlib.ticker import MaxNLocator
 
-from .pictures import (
-    KNOWN,
-    MARKS,
-    NO_FLOW,
-    WIDTH,
-    Album,
-    Plan,
-    box,
-    legend_below,
-    mark,
-    patch,
-    width_scale,
-)
+from .pictures import KNOWN, MARKS, NO_FLOW, WIDTH, Album, Plan, box, legend_below, mark, patch, width_scale
 
 HEADS_MAP, WIDTH_MAP, ERROR_MAP, CHANGE_MAP, FALL_MAP = "viridis", "magma_r", "cividis_r", "RdBu", "RdBu_r"
 LEFT, MAP_WIDTH, THUMB_WIDTH = 0.75, 4.5, 1.5

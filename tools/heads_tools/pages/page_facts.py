@@ -3,11 +3,11 @@ from __future__ import annotations
 
 import time
 
-from .. import __version__
+from ..common.text import VERSION
+from ..deck.model import Model
 from ..listing.listing import Listing
 from ..listing.made_by import made_by
-from ..deck.model import Model
-from ..listing.verdict import Verdict
+from ..program.verdict import Verdict
 
 Facts = list[tuple[str, str]]
 
@@ -27,4 +27,4 @@ def facts_of_making(seen: list[Verdict]) -> Facts:
     """The program that checked, by its hash, and when the page was made."""
     programs = dict.fromkeys(each.program for each in seen if each.program)
     checked = [("Checked by", ", ".join(f"heads, sha256 {program}" for program in programs))] if programs else []
-    return [*checked, ("Made by", f"heads-tools {__version__}, {time.strftime('%Y-%m-%d %H:%M UTC', time.gmtime())}")]
+    return [*checked, ("Made by", f"heads-tools {VERSION}, {time.strftime('%Y-%m-%d %H:%M UTC', time.gmtime())}")]

@@ -3,17 +3,17 @@ from __future__ import annotations
 
 from pathlib import Path
 
-from ..program.batch import Job, read_jobs
-from ..listing.below_top import BelowTop
-from ..listing.drawdown import Cell, Drawdown, difference, said_of, verdict_of
-from .drawdown_page import fall_pair
-from ..program.explain import explain_output
-from ..listing.listing import Listing, read_listing
-from ..deck.model import read_model
-from .plans_page import Change, Plan, draw_plans, drawn
 from ..common.text import Problem, counted
-from ..listing.verdict import Verdict, status_of
 from ..common.whole_files import whole_file
+from ..deck.model import read_model
+from ..listing.below_top import BelowTop
+from ..listing.listing import Listing, read_listing
+from ..plans.drawdown import Cell, Drawdown, difference, said_of, verdict_of
+from ..program.batch import Job, read_jobs
+from ..program.explain import explain_output
+from ..program.verdict import Verdict, status_of
+from .drawdown_page import fall_pair
+from .plans_page import Change, Plan, draw_plans, drawn
 
 
 def compare_plans(path: Path, folder: Path, base_name: str | None, cells: list[Cell]) -> tuple[list[str], int]:

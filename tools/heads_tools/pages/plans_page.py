@@ -6,15 +6,15 @@ from pathlib import Path
 
 import numpy as np
 
-from . import maps
+from ..common.text import counted, down, up
 from ..listing.below_top import THINNER, BelowTop
-from ..listing.drawdown import Cell, Drawdown, tops_lines
+from ..plans.drawdown import Cell, Drawdown, tops_lines
+from . import maps
 from .drawdown_page import fall, fall_pair, scale_of, set_verdict, shape_of, title
 from .looking import plan_for
 from .page import Page, write_page
 from .page_facts import facts_of, facts_of_making
 from .pictures import Album
-from ..common.text import counted, down, up
 
 MOST_PANELS = 24
 RIVER = "RIVER LEAKAGE"

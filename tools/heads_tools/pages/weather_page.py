@@ -6,20 +6,13 @@ from pathlib import Path
 
 import numpy as np
 
-from . import curves, maps
-from ..weather.difference_decks import HIGH_DIFFERENCE, LOW_DIFFERENCE
-from ..listing.drawdown import place_of
-from .drawdown_page import MOST_MAPS, scale_of
-from ..weather.drawdown_weather import Asked, Cell, Effect, Weathered, weathered
-from .looking import plan_for
-from .page import Page, write_page
-from .page_facts import facts_of, facts_of_making
-from .pictures import Album
-from ..weather.plan_decks import BASE, PLAN, write_file
-from ..deck.ranges import Range
 from ..common.text import Problem, decimal_text
-from ..listing.verdict import status_of
-from ..weather.weather_words import (
+from ..deck.ranges import Range
+from ..plans.difference_decks import HIGH_DIFFERENCE, LOW_DIFFERENCE
+from ..plans.drawdown import place_of
+from ..plans.drawdown_weather import Asked, Cell, Effect, Weathered, weathered
+from ..plans.plan_decks import BASE, PLAN, write_file
+from ..plans.weather_words import (
     cell_at,
     deepest,
     lines,
@@ -33,7 +26,14 @@ from ..weather.weather_words import (
     worst,
     write_tables,
 )
-from ..weather.well_ranges import at_the_well, demand_hk, well_lines
+from ..plans.well_ranges import at_the_well, demand_hk, well_lines
+from ..program.verdict import status_of
+from . import curves, maps
+from .drawdown_page import MOST_MAPS, scale_of
+from .looking import plan_for
+from .page import Page, write_page
+from .page_facts import facts_of, facts_of_making
+from .pictures import Album
 
 NOTES = "drawdown.txt"
 

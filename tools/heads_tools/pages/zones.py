@@ -2,42 +2,19 @@
 from __future__ import annotations
 
 from dataclasses import dataclass
-from pathlib import Path
 
 import numpy as np
 from matplotlib.axes import Axes
 from matplotlib.colors import ListedColormap, Normalize
 
 from ..listing.listing import Step
+from ..listing.zones import net_flows
 from .maps import HALO, LEFT, draw, marks
-from ..deck.packages import Reader
 from .pictures import NO_FLOW, WIDTH, Album, Plan, box, legend_below, patch
-from ..deck.sources import Source
-from ..common.text import Problem
 
 COLOURS = ["#c6dbef", "#fdd0a2", "#c7e9c0", "#dadaeb", "#fcbba1", "#fff3b0", "#d0d1e6", "#e5d8bd"]
 MOST_ARROWS = 30
 PLATE = {"boxstyle": "round,pad=0.2", "fc": "white", "ec": "none", "alpha": 0.8}
-
-
-def read_zones(path: Path, nam: Path, shape: tuple[int, int, int]) -> np.ndarray:
-    """The zone of each cell from a zone file: an array of whole numbers for each layer."""
-    reader = Reader(nam)
-    reader.at = Source(path, path.name, reader.report)
-    zones = np.array([reader.array(*shape[1:], f"the zones of layer {k}").floats() for k in range(1, shape[0] + 1)])
-    if (zones != np.round(zones)).any() or (zones < 0).any() or (zones > 999).any():
-        raise Problem(f"{path}: a zone is a whole number from 0 to 999")
-    return zones.astype(int)
-
-
-def net_flows(step: Step) -> dict[int, tuple[int, int]]:
-    """What flows into each zone from the other zones, less what flows out: bounds in the unit of the step's flows."""
-    out: dict[int, tuple[int, int]] = {}
-    for a, b, low, high in step.zones:
-        for zone, (lo, hi) in ((a, (-high, -low)), (b, (low, high))):
-            least, most = out.get(zone, (0, 0))
-            out[zone] = (least + lo, most + hi)
-    return out
 
 
 def middle(plan: Plan, here: np.ndarray) -> tuple[float, float]:

@@ -14,14 +14,15 @@ from dataclasses import dataclass
 from pathlib import Path
 from typing import IO, Iterable
 
-from .explain import explain
 from ..common.kept_files import demand_free
-from ..listing.listing import read_listing
 from ..common.machine import memory
-from ..listing.made_by import keep_words
-from .program import digits_of, direct_program, end_of, has_steps, run, settle_output
 from ..common.text import Problem, counted, decimal_text, read_text, words
 from ..common.whole_files import whole_file
+from ..deck.sizes import size_of
+from ..listing.listing import read_listing
+from ..listing.made_by import keep_words
+from .explain import explain
+from .program import digits_of, direct_program, end_of, has_steps, run, settle_output
 
 MOST_JOBS = 1000
 # What `heads batch` holds: of each cell's model, and of its line in the text of each step (measured).
@@ -146,8 +147,6 @@ def collect(
 def fits_memory(jobs: list[Job]) -> bool:
     """Whether all models and all texts that `heads batch` holds at once take at most half of the memory, in each
     folder. A model whose grid can't be read has no text."""
-    from ..commands.doing import size_of
-
     held: dict[Path, int] = {}
     for job in jobs:
         steps, cells = size_of(job.nam)

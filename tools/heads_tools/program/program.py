@@ -16,13 +16,13 @@ from dataclasses import dataclass
 from pathlib import Path
 from typing import IO, ContextManager, cast
 
-from .follow import Progress
-from ..common.limits import PLAIN, WIDE_WORD, asks_for_wide, is_wide, limits_of, wide_words
 from ..common.kept_files import demand_free
-from ..listing.listing import Listing, read_listing
-from ..listing.made_by import drop_words, is_quick, keep_words
+from ..common.limits import WIDE_WORD, asks_for_wide, is_wide
 from ..common.text import Problem, sha256
 from ..common.whole_files import draft_of
+from ..listing.listing import Listing, read_listing
+from ..listing.made_by import drop_words, is_quick, keep_words
+from .follow import Progress
 
 IS_WINDOWS = sys.platform == "win32"
 NAME = "heads.exe" if IS_WINDOWS else "heads"
@@ -201,33 +201,6 @@ def call(words: list[str], folder: Path, seconds: float | None = None) -> Ended:
         return Ended(-1, "", time.monotonic() - began)
     lines = done.stdout.rstrip("\n").rsplit("\n", 1)
     return Ended(done.returncode, lines[-1] if lines else "", time.monotonic() - began)
-
-
-def read_alone(nam: Path, has_wide: bool = False) -> str | None:
-    """None where the program reads the deck as a model, else its last line. Nothing is solved: a name file is no
-    listing."""
-    ended = call(["check", nam.name, nam.name, *wide_words(has_wide)], nam.parent)
-    return None if ended.last.startswith("REFUSED 20 ") else ended.last
-
-
-def files_of(text: bytes, most_bytes: int = PLAIN.bytes) -> dict[str, bytes]:
-    """The files of a deck by their names, out of what `heads write` put: the name file is p.nam. None where that is no
-    whole deck, or one that can't be read again, since a file is too long or an IBOUND has 19 digits."""
-    _, *parts = re.split(rb"^FILE (p\.[a-z]+)\n", text.removesuffix(b"END\n"), flags=re.M)
-    files = {name.decode(): content for name, content in zip(parts[::2], parts[1::2])}
-    is_whole, is_long = text.endswith(b"\nEND\n"), any(len(content) > most_bytes for content in files.values())
-    return files if is_whole and not is_long and not re.search(rb"\d{19}", text) else {}
-
-
-def one_spelling(nam: Path, has_wide: bool = False) -> dict[str, bytes]:
-    """The files of the model's deck as `heads write` puts them; none where the program isn't here, has no such command
-    or refuses the deck."""
-    words = ["write", nam.name, *wide_words(has_wide)]
-    try:
-        done = subprocess.run([direct_program(), *words], cwd=nam.parent, stdout=subprocess.PIPE)
-    except Problem:
-        return {}
-    return files_of(done.stdout, limits_of(has_wide).bytes)
 
 
 def has_steps(path: Path) -> bool:

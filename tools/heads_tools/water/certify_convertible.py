@@ -10,26 +10,25 @@ from __future__ import annotations
 
 import sys
 import tempfile
-from dataclasses import dataclass
 from pathlib import Path
 
 import numpy as np
 
-from ..numbers.certify import Certified, write_listing
-from .convertible import Convertible, Heads, read_convertible
-from ..program.explain import explain
-from .frozen import SIDES, Frozen, budget
-from .gentle import GENTLE, NotGentle, first_not_gentle
-from ..listing.headfile import read_heads
 from ..common.kept_files import demand_free
 from ..common.limits import PLAIN
-from ..listing.listing import Listing, Step
-from ..numbers.pieces import is_large
-from .run_heads import RunHeads
 from ..common.text import counted
-from .water_solver import WaterStep
-from .water_steps import StepData, steps_of
+from ..listing.headfile import read_heads
+from ..listing.listing import Listing, Step
+from ..numbers.certify import Certified, write_listing
+from ..numbers.pieces import is_large
 from ..numbers.whole import Pair, pair_of_heads
+from ..program.explain import explain
+from .convertible import Convertible, read_convertible
+from .frozen import SIDES, Frozen, budget
+from .gentle import GENTLE, NotGentle, first_not_gentle
+from .run_heads import RunHeads
+from .water_solver import WaterStep
+from .water_steps import Found, StepData, steps_of
 
 MARGINS = (1.5, 4.0, 12.0, 40.0, 200.0)
 ONE = 10**9
@@ -91,15 +90,6 @@ def said(water: Convertible, listing: Listing, work: Bounds) -> list[str]:
         NOT_PROVED,
         f"{listing.summary()}; {work.unconfined} of {cells} of convertible layers have a water table at some step",
     ]
-
-
-@dataclass
-class Found:
-    """The heads of a step."""
-
-    low: Heads
-    high: Heads
-    terms: dict[str, list[int]]
 
 
 class Bounds:

@@ -12,14 +12,14 @@ from pathlib import Path
 
 import numpy as np
 
-from ..listing.below_top import least_units
+from ..common.spelling import exact
+from ..common.text import Problem, counted
 from ..deck.deck import Deck
-from ..commands.inside import look_at_cells, look_at_entries
+from ..deck.looks import look_at_cells, look_at_entries
 from ..deck.model import Model, model_of
 from ..deck.packages import read_deck
 from ..deck.sources import Array, Report
-from ..common.spelling import exact
-from ..common.text import Problem, counted
+from ..listing.below_top import least_units
 from ..numbers.whole import MOST_HEAD
 
 ONE = 10**9

@@ -9,20 +9,20 @@ from pathlib import Path
 
 import numpy as np
 
-from .convertible import ONE, Convertible, Heads
-from ..deck.deck import Areal, Deck, Entry, Period
-from ..numbers.equations import TERMS
 from ..common.limits import wide_words
-from ..deck.model import model_of
-from ..numbers.pieces import write_wide_listing
-from ..deck.plain import write_deck
-from ..program.program import call
-from ..deck.sources import Array
 from ..common.spelling import EXACT, number
 from ..common.text import Problem, decimal_text
+from ..deck.deck import Areal, Deck, Entry, Period
+from ..deck.model import model_of
+from ..deck.sources import Array
+from ..deck.writing import write_deck
+from ..numbers.equations import TERMS
+from ..numbers.pieces import write_wide_listing
 from ..numbers.whole import HEAD_PLACES, MOST_HEAD, Pair, WholeModel, floor_of, whole
-from .water_steps import StepData
 from ..numbers.whole_step import WholeStep
+from ..program.program import call
+from .convertible import ONE, Convertible, Heads
+from .water_steps import StepData
 
 SIDES = ("LOW", "HIGH")
 ANCHOR = "1"

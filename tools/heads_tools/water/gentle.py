@@ -11,8 +11,8 @@ from dataclasses import dataclass
 
 import numpy as np
 
-from .convertible import Convertible, Heads
 from ..common.text import decimal_text
+from .convertible import Convertible, Heads
 
 GENTLE = (
     "Heads are gentle where each cell of a convertible layer has its head above its bottom; where from cell to cell of"

@@ -6,11 +6,11 @@ from pathlib import Path
 
 import numpy as np
 
+from ..common.text import Problem, counted, decimal_text
+from ..listing.headfile import read_heads
 from .convertible import Convertible, read_convertible
 from .gentle import GENTLE, first_not_gentle, reasons_of
-from ..listing.headfile import read_heads
 from .run_heads import RunHeads
-from ..common.text import Problem, counted, decimal_text
 from .water_steps import StepData, steps_of
 
 MOST_STEPS = 6

@@ -8,19 +8,20 @@ from pathlib import Path
 
 import numpy as np
 
-from .convertible import Convertible, is_convertible, read_convertible
+from ..common.limits import wide_words
+from ..common.text import Problem, counted, decimal_text
+from ..common.whole_files import whole_file, whole_folder
 from ..deck.deck import Deck
-from ..program.explain import explain
+from ..deck.sources import Array, Report
+from ..deck.writing import NOTES, write_deck
 from ..listing.headfile import read_heads
 from ..listing.listing import Listing
-from ..deck.plain import NOTES, refused, write_deck
-from ..program.program import DEFAULT_DIGITS, run
-from ..common.limits import wide_words
-from .run_heads import RunHeads
-from ..deck.sources import Array, Report
-from ..common.text import Problem, counted, decimal_text
 from ..numbers.whole import pair_of_heads
-from ..common.whole_files import whole_file, whole_folder
+from ..program.explain import explain
+from ..program.program import DEFAULT_DIGITS, run
+from ..program.reading import refused
+from .convertible import Convertible, is_convertible, read_convertible
+from .run_heads import RunHeads
 
 DIGITS = (DEFAULT_DIGITS, 9, 15, 6, 18, 3)
 WHY_CONFINED = (

@@ -3,23 +3,18 @@ they are from a certified pair."""
 from __future__ import annotations
 
 from pathlib import Path
-from typing import TYPE_CHECKING
 
 import numpy as np
 
-from ..listing.compare import compare
-from .convertible import Convertible, Heads
-from .gentle import DRIED, NotGentle, first_not_gentle
-from ..listing.headfile import ANY_STEP
-from ..listing.headfile import Heads as Given
-from ..listing.listing import Listing
 from ..common.spelling import exact, quoted_words
 from ..common.text import Problem, counted, short_down, short_up
+from ..listing.compare import compare
+from ..listing.headfile import ANY_STEP, Heads as Given
+from ..listing.listing import Listing
 from ..numbers.whole import MOST_HEAD
-
-if TYPE_CHECKING:
-    from .certify_convertible import Found
-    from .water_steps import StepData
+from .convertible import Convertible, Heads
+from .gentle import DRIED, NotGentle, first_not_gentle
+from .water_steps import Found, StepData
 
 ONE = 10**9
 GREAT = 4e9

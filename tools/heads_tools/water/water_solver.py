@@ -7,10 +7,10 @@ import dataclasses
 import numpy as np
 import scipy.sparse
 
-from .convertible import Convertible
+from ..common.text import Problem
 from ..numbers.equations import Network, Step
 from ..numbers.solvers import solved
-from ..common.text import Problem
+from .convertible import Convertible
 from .water_steps import StepData
 
 UNIT = 1e-9

@@ -8,9 +8,9 @@ from typing import Iterator
 
 import numpy as np
 
-from .convertible import Convertible, Stored
 from ..numbers.equations import Given, given_heads
 from ..numbers.whole import HEAD_PLACES, Pair, constant_head, pair_of, pair_of_heads, step_length
+from .convertible import Convertible, Heads, Stored
 
 
 @dataclass
@@ -57,3 +57,12 @@ def steps_of(water: Convertible) -> Iterator[StepData]:
                 constant[0][cell], constant[1][cell] = units
             length = None if period.is_steady else step_length(model, p + 1, number)
             yield StepData(water, p + 1, number, length, is_constant, constant, is_variable, given)
+
+
+@dataclass
+class Found:
+    """The heads of a step."""
+
+    low: Heads
+    high: Heads
+    terms: dict[str, list[int]]

@@ -8,23 +8,23 @@ from pathlib import Path
 
 import numpy as np
 
-from .difference_decks import HIGH_DIFFERENCE, LOW_DIFFERENCE, PLAN_HIGH, write_difference_decks, write_plan_decks
-from ..program.explain import explain
-from ..exports.exports import Place
 from ..common.limits import wide_words
+from ..common.text import Problem
+from ..deck.differences import what_differs
+from ..deck.model import Model, model_of, read_model
+from ..deck.places import Place, named_place
 from ..listing.listing import Listing
 from ..listing.made_by import QUICK
-from ..deck.model import Model, model_of, read_model
-from ..exports.places import named_place
+from ..listing.points import spot_at
+from ..listing.spans import second_deck
+from ..program.explain import explain
+from ..program.program import DEFAULT_DIGITS, call, run
+from ..program.verdict import Verdict, check_listing
+from .difference_decks import HIGH_DIFFERENCE, LOW_DIFFERENCE, PLAN_HIGH, write_difference_decks, write_plan_decks
 from .plan_decks import BASE, HIGH, PLAN, Plan, Spelled, demand_weather, read_plan, spelled
 from .plan_sources import Sources, sources_of, without_equation
-from ..listing.points import spot_at
-from ..program.program import DEFAULT_DIGITS, call, run
 from .shares import Branch, Weather, heads_of
-from ..listing.spans import second_deck, what_differs
 from .stretches import Stretch, stretches_of
-from ..common.text import Problem
-from ..listing.verdict import Verdict, check_listing
 
 Cell = tuple[int, int, int]
 Point = tuple[str, float, float, int]

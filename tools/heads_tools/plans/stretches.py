@@ -4,11 +4,11 @@ from __future__ import annotations
 
 from dataclasses import dataclass
 
-from ..deck.deck import Deck, Period
-from .plan_decks import Spelled
-from ..deck.ranges import exact_word
 from ..common.spelling import EXACT, exact
 from ..common.text import Problem
+from ..deck.deck import Deck, Period
+from ..deck.ranges import exact_word
+from .plan_decks import Spelled
 
 MOST_PERIODS, MOST_ENTRIES = 1000, 1_000_000
 

@@ -6,15 +6,18 @@ from collections import Counter
 from dataclasses import dataclass, field, replace
 from pathlib import Path
 
-from ..deck.deck import KINDS, Deck, Entry
-from ..deck.decks_between import DATA
-from ..deck.packages import Reader, read_deck
-from ..deck.plain import refused
-from ..program.program import one_spelling
-from ..deck.sources import Report
 from ..common.spelling import exact, quoted_words
 from ..common.text import Problem, counted, read_text
 from ..common.whole_files import whole_file
+from ..deck.deck import KINDS, Deck, Entry
+from ..deck.decks_between import DATA
+from ..deck.grid_files import read_dis
+from ..deck.name_file import read_names
+from ..deck.packages import read_deck
+from ..deck.reading import Reading
+from ..deck.sources import Report
+from ..deck.stress_files import read_list
+from ..program.reading import one_spelling, refused
 
 BASE, HIGH, PLAN = "base", "base_high", "plan"
 WELLS_ALONE = "a plan may add wells, or take wells out, and change nothing else"
@@ -142,21 +145,21 @@ def is_well_file(path: Path) -> bool:
 
 def added_in(path: Path, base: Spelled, folder: Path) -> tuple[Wells, list[str]]:
     """The wells of a file of WEL, over the periods of the base deck, and what isn't read as it stands there."""
-    reader = Reader(folder / f"{BASE}.nam")
-    reader.read_names()
-    reader.read_dis()
-    reader.deck.is_free = True
-    reader.folder, reader.deck.files["WEL"] = path.parent, path.name
+    reading = Reading(folder / f"{BASE}.nam")
+    read_names(reading)
+    read_dis(reading)
+    reading.deck.is_free = True
+    reading.folder, reading.deck.files["WEL"] = path.parent, path.name
     try:
-        reader.read_list("WEL")
+        read_list(reading, "WEL")
     except (IndexError, ValueError) as error:
         raise Problem(f"{path.name} can't be read: {error}") from None
-    demand_read(path.name, reader.report)
-    rest = [line for line in reader.now.lines[reader.now.at :] if quoted_words(line)]
+    demand_read(path.name, reading.report)
+    rest = [line for line in reading.now.lines[reading.now.at :] if quoted_words(line)]
     if rest:
         count = counted(len(base.deck.periods), "period")
         raise Problem(f"{path.name} goes on with `{rest[0][:60]}` after the {count} of {base.name}")
-    return Spelled(path.name, {}, reader.deck).entries("WEL"), [f"CAREFUL: {each}" for each in reader.report.needed]
+    return Spelled(path.name, {}, reading.deck).entries("WEL"), [f"CAREFUL: {each}" for each in reading.report.needed]
 
 
 def more(base: list[Entry], plan: list[Entry]) -> list[Entry]:

@@ -9,15 +9,15 @@ from pathlib import Path
 
 import numpy as np
 
-from .below_top import THINNER, BelowTop
-from .cell_lines import write_cells
-from .listing import Cell, Listing, Step
-from ..deck.model import Model
-from .spans import demand_one
-from .tables import budget_of
 from ..common.text import Problem, counted, decimal_text, down, up
-from .verdict import UNCHECKED_ZONES, Verdict, check_listing, not_checked, status_of
 from ..common.whole_files import whole_file
+from ..deck.model import Model
+from ..listing.below_top import THINNER, BelowTop
+from ..listing.cell_lines import write_cells
+from ..listing.listing import Cell, Listing, Step
+from ..listing.spans import demand_one
+from ..listing.tables import budget_of
+from ..program.verdict import UNCHECKED_ZONES, Verdict, check_listing, not_checked
 
 Pair = tuple[int, int]
 SHOWN = 3
@@ -265,43 +265,3 @@ def tops_lines(named: list[tuple[Verdict, BelowTop]]) -> list[str]:
     what it means."""
     lines = [f"{seen.name}: {line}" for seen, tops in named for line in tops.lines(seen.is_certified)]
     return [*lines, THINNER] if any(tops.count for _, tops in named) else lines
-
-
-def drawdown(
-    plan: Listing,
-    base: Listing,
-    folder: Path,
-    nam: Path | None = None,
-    base_nam: Path | None = None,
-    cells: list[Cell] | None = None,
-    zones: Path | None = None,
-    has_wide: bool = False,
-) -> tuple[list[str], int]:
-    """Tables, a map, curves and a page of what a plan does; what there is to say, and the first status of a check that
-    isn't 0. `nam`, `base_nam`: the models, for the checks, true widths, times and units; `zones`: the zone file of both
-    runs, `has_wide`: the word --wide, for the checks."""
-    from ..pages.drawdown_page import draw
-    from ..deck.model import read_model
-    from ..common.text import LENGTHS
-
-    cells = list(cells or [])
-    for cell in cells:
-        plan.at(cell)
-    model, base_model = (read_model(name) if name else None for name in (nam, base_nam))
-    if base_model and model and base_model.times != model.times:
-        raise Problem(f"{base_nam} has other times at the ends of its steps than {nam}")
-    seen = [verdict_of(listing, name, zones, has_wide) for listing, name in ((plan, nam), (base, base_nam))]
-    known = [(one, BelowTop(m.deck, each)) for one, m, each in zip(seen, (model, base_model), (plan, base)) if m]
-    it = Drawdown(
-        plan,
-        base,
-        difference(plan, base),
-        model.length if model else LENGTHS.get(plan.unit, "length units"),
-        model,
-        seen,
-        tops_lines(known),
-    )
-    folder.mkdir(parents=True, exist_ok=True)
-    draw(it, folder, cells, write_changes(it, folder))
-    status = status_of(nam, seen[0]) or status_of(base_nam, seen[1])
-    return it.sentences(cells) + it.term_sentences(), status

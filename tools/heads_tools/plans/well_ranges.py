@@ -6,14 +6,14 @@ from __future__ import annotations
 from dataclasses import dataclass, replace
 from pathlib import Path
 
-from .difference_decks import HIGH_DIFFERENCE, LOW_DIFFERENCE
-from .drawdown_weather import Asked, Cell, Weathered, listed
-from ..deck.plain import package_lines
-from .plan_decks import BASE, Plan, Spelled, file_of, ibound, write_file
-from ..deck.ranges import Range, scaled
 from ..common.spelling import exact
 from ..common.text import Problem, decimal_text, read_text
-from ..listing.verdict import Verdict
+from ..deck.ranges import Range, scaled
+from ..deck.writing import package_lines
+from ..program.verdict import Verdict
+from .difference_decks import HIGH_DIFFERENCE, LOW_DIFFERENCE
+from .drawdown_weather import Asked, Cell, Weathered, listed
+from .plan_decks import BASE, Plan, Spelled, file_of, ibound, write_file
 
 LOW_HK, HIGH_HK = "hk_low", "hk_high"
 FALLS = "the drawdown at a single well in a steady step falls as any conductance grows"

@@ -8,12 +8,12 @@ from typing import Iterator
 
 import numpy as np
 
-from ..deck.deck import Deck
-from ..listing.listing import Listing
-from .plan_decks import Spelled
-from ..deck.sources import Array
 from ..common.spelling import MOST_DIGITS, exact
 from ..common.text import Problem
+from ..deck.deck import Deck
+from ..deck.sources import Array
+from ..listing.listing import Listing
+from .plan_decks import Spelled
 
 Cell = tuple[int, int, int]
 Ends = tuple[int, int]

@@ -5,10 +5,10 @@ from __future__ import annotations
 from pathlib import Path
 
 from ..common.limits import PLAIN, WIDE
-from .plan_decks import BASE, HIGH, PLAN, Plan, Spelled, Wells, file_of, turned, write_names, write_file
+from ..common.text import Problem, counted
+from .plan_decks import BASE, HIGH, PLAN, Plan, Spelled, Wells, file_of, turned, write_file, write_names
 from .shares import Branch, word_of
 from .stretches import Stretch, dis_lines
-from ..common.text import Problem, counted
 
 PLAN_HIGH, LOW_DIFFERENCE, HIGH_DIFFERENCE = "plan_high", "difference_low", "difference_high"
 

@@ -9,12 +9,12 @@ from dataclasses import dataclass, replace
 from pathlib import Path
 
 from ..common.limits import wide_words
-from .listing import Listing, listing_bytes
-from .made_by import is_made_wide
 from ..common.marks import plain_listing
-from ..program.program import call, direct_program, program_file
-from .spans import ALL_BETWEEN, demand_decks
 from ..common.text import Problem, read_raw, sha256
+from ..listing.listing import Listing, listing_bytes
+from ..listing.made_by import is_made_wide
+from ..listing.spans import ALL_BETWEEN, demand_decks
+from .program import call, direct_program, program_file
 
 CERTIFIED = "CERTIFIED"
 ALL_EXACT = "Every exact solution of the model's equations lies between the listed numbers."

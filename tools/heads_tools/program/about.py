@@ -5,8 +5,8 @@ from pathlib import Path
 
 from ..common.kept_files import BESIDE
 from ..common.text import sha256
-from .verdict import Verdict
 from ..common.whole_files import whole_file
+from .verdict import Verdict
 
 
 def about_file(path: Path) -> Path:

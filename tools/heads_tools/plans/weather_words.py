@@ -5,13 +5,13 @@ from pathlib import Path
 
 import numpy as np
 
-from ..listing.below_top import BelowTop
-from ..listing.cell_lines import write_cells
-from ..listing.drawdown import place_of, told, tops_lines
-from .drawdown_weather import Cell, Effect, Weathered
-from .plan_sources import FLOW_PLACES
 from ..common.text import counted, decimal_text, down, up
 from ..common.whole_files import whole_file
+from ..listing.below_top import BelowTop
+from ..listing.cell_lines import write_cells
+from .drawdown import place_of, told, tops_lines
+from .drawdown_weather import Cell, Effect, Weathered
+from .plan_sources import FLOW_PLACES
 
 NOT_PROVED = (
     "Not proved by machine: that the two difference decks enclose the difference of the plans' heads in each such"

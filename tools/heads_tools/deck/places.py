@@ -2,11 +2,14 @@
 `#xll:155000.0; yll:463000.0; rotation:12.0; crs:EPSG:28992; start_datetime:2024-01-01`."""
 from __future__ import annotations
 
+import math
 import re
+from dataclasses import dataclass
 from datetime import date
 from pathlib import Path
 
-from .exports import Place
+import numpy as np
+
 from ..common.text import Problem, read_text
 
 # FloPy writes this date where none was given.
@@ -54,3 +57,39 @@ def date_of(text: str) -> date | None:
     except ValueError:
         pass
     return None
+
+
+@dataclass(frozen=True)
+class Place:
+    """Where the grid lies, as FloPy's xoff, yoff, angrot and epsg: the corner of the last row and the first column, and
+    the degrees by which the grid is turned round it against the clock."""
+
+    x: float = 0.0
+    y: float = 0.0
+    angle: float = 0.0
+    epsg: int | None = None
+
+    def world(self, x: np.ndarray, y: np.ndarray) -> tuple[np.ndarray, np.ndarray]:
+        """Coordinates on the map of points of the grid."""
+        c, s = math.cos(math.radians(self.angle)), math.sin(math.radians(self.angle))
+        return self.x + c * x - s * y, self.y + s * x + c * y
+
+    def grid(self, x: float, y: float) -> tuple[float, float]:
+        """The grid's own coordinates of a point of the map."""
+        c, s = math.cos(math.radians(self.angle)), math.sin(math.radians(self.angle))
+        return c * (x - self.x) + s * (y - self.y), -s * (x - self.x) + c * (y - self.y)
+
+
+def place_of(text: str) -> Place:
+    """The place of X0,Y0[,ANGLE[,EPSG]]."""
+    parts = text.split(",")
+    try:
+        if not 2 <= len(parts) <= 4:
+            raise ValueError
+        x, y, angle = map(float, [*parts[:3], "0"][:3])
+        return Place(x, y, angle, int(parts[3]) if len(parts) == 4 else None)
+    except ValueError:
+        raise Problem(
+            f"`{text}`: a place is X0,Y0[,ANGLE[,EPSG]], the grid's lower left corner, degrees against the clock, a"
+            " code of EPSG"
+        ) from None

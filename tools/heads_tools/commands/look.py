@@ -1,0 +1,69 @@
+"""Tables, pictures and a page of a listing."""
+from __future__ import annotations
+
+import argparse
+from pathlib import Path
+from typing import IO
+
+from ..deck.model import read_model
+from ..listing.zones import read_zones
+from ..pages.look import look
+from ..program.verdict import status_of
+from .shared import existing, listing_of, model_for_zones, page_folder, say, verdict_of
+from .words import LISTING, add_force, add_to, add_wide, add_words, cell
+
+LOOK = """\
+Tables, maps, sections, hydrographs, budget and a page. Each net budget term (in less out) has two pairs of bounds:
+the one of its listed in and out, and that narrowed to what the other terms leave, minus the sum of their bounds.
+Every exact solution's net term lies within both, by the theorem net_terms_lie_in_the_others (crates/exact_budgets),
+where the listing ends with END and was written by `heads run` or certified by `heads check`."""
+
+
+def add(sub: argparse.ArgumentParser) -> None:
+    add_words(sub, LISTING, ("folder", "the folder to write into"))
+    sub.description = LOOK
+    sub.add_argument(
+        "--name",
+        type=Path,
+        metavar="M.NAM",
+        help="the model: true widths, elevations, times, units; and the listing is checked against it by heads check",
+    )
+    add_to(sub, "the second deck, where the listing is that of two decks")
+    sub.add_argument(
+        "--cell",
+        type=cell,
+        action="append",
+        default=[],
+        metavar="K,I,J",
+        help="a hydrograph of this cell; may stand again",
+    )
+    sub.add_argument(
+        "--given", type=Path, metavar="RUN.HDS", help="heads of MODFLOW (hds or CSV): how far they are off"
+    )
+    sub.add_argument(
+        "--minus", type=Path, metavar="BASE.HEADS", help="another listing: the difference of the heads, with bounds"
+    )
+    sub.add_argument(
+        "--zones",
+        type=Path,
+        metavar="M.ZON",
+        help="the zone file of the run: a map of the zones with their net flows, which heads check then checks, too",
+    )
+    add_wide(sub)
+    sub.add_argument("--every", action="store_true", help="maps of every step, and not of the last alone")
+    sub.add_argument("--svg", action="store_true", help="each picture as SVG, too")
+    add_force(sub)
+
+
+def do(args: argparse.Namespace, _: list[str], out: IO[str]) -> int:
+    model_for_zones(args)
+    listing = listing_of(args.listing)
+    model = read_model(existing(args.name)) if args.name else None
+    verdict = verdict_of(args, listing)
+    given = existing(args.given) if args.given else None
+    zones = read_zones(existing(args.zones), existing(args.name), model.shape) if args.zones and model else None
+    base = listing_of(args.minus) if args.minus else None
+    with page_folder(args.folder) as folder:
+        said = look(listing, folder, model, args.cell, given, args.every, verdict, zones, base, args.svg)
+    say(said + [f"open {args.folder / 'index.html'}"], out)
+    return status_of(args.name, verdict)

@@ -1,0 +1,39 @@
+"""Packages of MODFLOW that `heads` does not read, and what there is to say of each."""
+from __future__ import annotations
+
+UNKNOWN_PACKAGE = "it changes the equations, or is unknown. DIS BAS6 LPF WEL RIV DRN GHB RCH CHD EVT are read"
+OTHER_PACKAGES = {
+    "BCF6": (
+        "BCF6 gives transmissivities: load the model in FloPy and write its layers with LPF (HK = transmissivity /"
+        " thickness)"
+    ),
+    "HUF2": "write hydrogeologic units as layers of LPF",
+    "UPW": "UPW is MODFLOW-NWT's: where every LAYTYP is 0 it says the same as LPF, and `heads-tools plain` writes LPF",
+    "NWT": "the solver of MODFLOW-NWT: take the line out (`heads-tools plain` does)",
+    "LMG": "a solver of MODFLOW-2000: take the line out (`heads-tools plain` does)",
+    "SMS": "the solver of MODFLOW-USG: take the line out (`heads-tools plain` does)",
+    "HFB6": "barriers change conductances, so the equations; there is no way round in this version",
+    "SFR": (
+        "streams that route water aren't inside. A river (RIV) with the stages that SFR found is another model: say so"
+        " where you use it"
+    ),
+    "STR": (
+        "streams that route water aren't inside. A river (RIV) with fixed stages is another model: say so where you"
+        " use it"
+    ),
+    "LAK": "lakes whose stage is solved for aren't inside",
+    "UZF": (
+        "unsaturated flow isn't inside. Recharge (RCH) of the rates that reach the water table is another model: say so"
+    ),
+    "MNW1": "multi-node wells aren't inside. Entries of WEL by layer are another model: say so",
+    "MNW2": "multi-node wells aren't inside. Entries of WEL by layer are another model: say so",
+    "FHB": "write its flows with WEL and its heads with CHD",
+    "ETS": "only EVT, with one straight piece, is inside",
+    "TDIS6": "this is a model of MODFLOW 6; only MODFLOW-2005's files are read",
+    "GWF6": "this is a model of MODFLOW 6; only MODFLOW-2005's files are read",
+    "IMS6": "this is a model of MODFLOW 6; only MODFLOW-2005's files are read",
+    "BEGIN": "this is a file of MODFLOW 6; only MODFLOW-2005's files are read",
+    "END": "this is a file of MODFLOW 6; only MODFLOW-2005's files are read",
+    "DISU": "unstructured grids (MODFLOW-USG) aren't inside",
+    "BAS": "the name of the basic package of MODFLOW-96; MODFLOW-2005's is BAS6",
+}

@@ -1,0 +1,1 @@
+"""What plans do: differences of listings, and whatever the weather."""

@@ -1,1 +1,0 @@
-"""What a plan does, whatever the weather."""
