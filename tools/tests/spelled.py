@@ -61,6 +61,9 @@ def fixed(values, width):
 HK = [[1, 2, 3, 4, 5], [6, 7, 8, 9, 10], [1.5, 2.5, 3.5, 4.5, 5.5], [10, 9, 8, 7, 6]]
 HK_FREE = "INTERNAL 1 (FREE) -1\n1 2 3 4 5\n6 7 8 9 10\n1.5 2.5 3.5 4.5 5.5\n10 9 8 7 6\n"
 HK_ROWS = "\n".join(" ".join(map(str, r)) for r in HK) + "\n"
+HK_TWO_FIELDS = "\n".join(
+    fixed([f"{float(v):.2f}" for v in r[:2]], 8) + "xyz" + fixed([f"{float(v):.2f}" for v in r[2:]], 8) for r in HK
+) + "\n"
 HK_FIXED = "\n".join(fixed([f"{float(v):.2f}" for v in r], 8) for r in HK) + "\n"
 IBOUND = "INTERNAL 1 (FREE) -1\n-1 1 1 1 1\n-1 1 1 1 1\n-1 1 1 0 1\n-1 1 1 1 1\n"
 IBOUND_FIXED = "\n".join(fixed([-1, 1, 1, 0 if i == 2 else 1, 1], 3) for i in range(4)) + "\n"
@@ -326,8 +329,21 @@ SPELLINGS = {
     "marker past the exponents": (swap("m.bas", "-999.99\n", "1.0E+99\n"), "plain"),
     "byte order mark": (lambda f: {"m.wel": "\u00ef\u00bb\u00bf" + f["m.wel"]}, "plain"),
     "convertible layer": (swap("m.lpf", "0 0\n0 0\n1 1\n", "1 0\n0 0\n1 1\n"), "convertible"),
-    "parameters": (swap("m.lpf", "53 -1E+30 0\n", "53 -1E+30 2\n"), "parameters"),
-    "well parameters": (swap("m.wel", "1 53\n", "PARAMETER 1 1\n1 53\n"), "PARAMETER"),
+    "parameters": (
+        both(
+            more(m_mlt="1\nby\n" + "INTERNAL 0.5 (FREE) -1\n" + HK_ROWS, m_pval="1\nk1 2\n"),
+            swap("m.nam", "OC 14", "MULT 40 m.mlt\nPVAL 41 m.pval\nOC 14"),
+            swap("m.lpf", "53 -1E+30 0\n", "53 -1E+30 2\n"),
+            swap("m.lpf", HK_FREE, "k1 HK 7 1\n1 by ALL\nk2 HK 4 1\n2 NONE ALL\n0\n"),
+            swap("m.lpf", "CONSTANT 4\nCONSTANT 0.4\n", "0\nCONSTANT 0.4\n"),
+        ),
+        "plain",
+    ),
+    "well parameters": (
+        swap("m.wel", "1 53\n1 0\n2 2 3 -50\n-1 0\n", "PARAMETER 1 1\n1 53\nq Q -25 1\n2 2 3 2\n0 1\nq\n-1 1\nq\n"),
+        "plain",
+    ),
+    "format of two fields": (hk("INTERNAL 1 (2F8.2,3X,3F8.0) -1\n" + HK_TWO_FIELDS), "plain"),
     "streams": (swap("m.nam", "OC 14", "SFR 40 m.sfr\nOC 14"), "stages that SFR found"),
     "modflow 6": (
         lambda f: {"m.nam": "BEGIN options\nEND options\nBEGIN packages\n  DIS6 m.dis dis\nEND packages\n"},

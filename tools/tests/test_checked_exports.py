@@ -1,5 +1,6 @@
 """Files for other programs say what was checked; a listing of another model, or one that was cut, is refused. NetCDF
 is read by GDAL at its place, and its times are dates."""
+import math
 import importlib.util
 import shutil
 import subprocess
@@ -204,11 +205,37 @@ HEADER = "#xll:155000.0; yll:463000.0; rotation:12.0; units:meters; lenuni:2; cr
 def test_the_place_and_the_date_of_the_name_file_are_taken(date, begin, valley, tool, tmp_path):
     all_here()
     valley.write_text(HEADER.format(date) + valley.read_text())
-    place, _ = named_place(valley)
+    place, _ = named_place(read_model(valley).deck)
     assert place == Place(155000, 463000, 12, 28992)
     status, out, err = tool("export", valley.with_suffix(".heads"), tmp_path, "--name", valley, "--as", "nc")
     assert status == 0 and "the grid's place is that of the comments of m.nam" in out, out + err
     assert f"days since {begin}" in gdal(tmp_path / "heads.nc")
+
+
+CORNERS = """\
+# Discretization File created on 5/9/2019 by ModelMuse version 4.1.
+# Upper left corner: ({}, {})
+# Lower left corner: (1000, 2000)
+# Upper right corner: ({}, {})
+# Lower right corner: ({}, {})
+"""
+
+
+@pytest.mark.parametrize("turned", [0, 30])
+def test_the_corners_that_modelmuse_writes_are_taken(turned, valley):
+    """River valley is 30 cells of 50 across and 20 along; corners of another grid are not its place."""
+    model = read_model(valley)
+    wide, tall = model.delr.sum(), model.delc.sum()
+    c, s = math.cos(math.radians(turned)), math.sin(math.radians(turned))
+    right, up = (1000 + c * wide, 2000 + s * wide), (1000 - s * tall, 2000 + c * tall)
+    corners = CORNERS.format(*up, up[0] + c * wide, up[1] + s * wide, *right)
+    dis = valley.with_name(model.deck.files["DIS"])
+    text = dis.read_text()
+    dis.write_text(corners + text)
+    place, where = named_place(read_model(valley).deck)
+    assert (place.x, place.y) == (1000, 2000) and abs(place.angle - turned) < 1e-9 and dis.name in where
+    dis.write_text(corners.replace("(1000, 2000)", "(1100, 2000)") + text)
+    assert named_place(read_model(valley).deck) == (None, "")
 
 
 def test_dates_that_can_be_read_in_two_ways_and_the_one_that_stands_for_none_are_not_taken(valley):

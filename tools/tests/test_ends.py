@@ -38,7 +38,7 @@ REFUSED = {
         "m.lpf",
         "53 -1E+30 0\n0 0\n",
         "53 -1E+30 0 THICKSTRT\n-1 0\n",
-        "Write LAYTYP 0, and STRT as its top",
+        "THICKSTRT with SS",
     ),
 }
 TAKEN = {

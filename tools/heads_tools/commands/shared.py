@@ -98,5 +98,5 @@ def place_for(args: argparse.Namespace, model: Model) -> tuple[Place, list[str]]
     to say of it."""
     if args.at:
         return place_of(args.at), []
-    place, where = named_place(model.deck.path)
+    place, where = named_place(model.deck)
     return (place, [f"the grid's place is that of {where}"]) if place else (Place(), [])

@@ -3,7 +3,7 @@ from __future__ import annotations
 
 import functools
 import re
-from decimal import Context, Decimal
+from decimal import Context, Decimal, DivisionByZero, Inexact, InvalidOperation, localcontext
 from typing import NamedTuple
 
 from .text import Problem
@@ -80,3 +80,23 @@ def product(a: str, b: str) -> Number:
     """The product of two numbers' words."""
     value = EXACT.multiply(exact(a), exact(b)).normalize(EXACT)
     return number(f"{value:e}" if value else "0")
+
+
+def exact_word(value: Decimal, what: str = "a number") -> str:
+    """The word of a number of at most 18 digits, without an exponent where it is short so."""
+    value = value.normalize(EXACT)
+    if not value:
+        return "0"
+    if len(value.as_tuple().digits) > MOST_DIGITS:
+        raise Problem(f"{what} is {value:.24g}.., which has more than {MOST_DIGITS} digits: no deck says it exactly")
+    plain = f"{value:f}"
+    return number(plain if len(plain) <= MOST_DIGITS + 3 else f"{value:e}").text
+
+
+def exact_quotient(a: Decimal, b: Decimal) -> Decimal | None:
+    """One number over another, where a decimal of at most 18 digits says it."""
+    with localcontext(Context(prec=MOST_DIGITS, traps=[Inexact, DivisionByZero, InvalidOperation])):
+        try:
+            return a / b
+        except (Inexact, DivisionByZero, InvalidOperation):
+            return None

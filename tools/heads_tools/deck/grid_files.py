@@ -8,10 +8,13 @@ from ..common.spelling import number, quoted_words
 from ..common.text import Problem
 from .array_records import read_array, refuse_count
 from .deck import Period
+from .parameters import Parameter, array_of_parameters, read_parameters
 from .reading import Reading
 from .sources import Array, Source
+from .thickness import demand_even_thickness, take_dry_cells_out, take_start_as_top
 
-
+START = "THICKSTRT"
+LPF_TYPES = ("HK", "HANI", "VK", "VANI", "SS", "SY", "VKCB")
 OPTIONS_OF_CONVERTIBLE = {
     "CONSTANTCV": "with convertible layers it keeps the vertical conductance of full cells, which isn't read",
     "NOCVCORRECTION": "with convertible layers it leaves vertical conductances uncorrected, which isn't read",
@@ -28,8 +31,8 @@ def layer_word_refused(name: str, row: list[str], by_start: bool) -> str:
         return f"LAYWET of layer {layers} isn't 0: no wetting in confined layers"
     if by_start and all(float(x) <= 0 for x in row):
         return (
-            f"LAYTYP of layer {layers} is below 0 with THICKSTRT: such a layer is confined, as thick as STRT less its"
-            " bottom. Write LAYTYP 0, and STRT as its top in DIS"
+            f"LAYTYP of layer {layers} is below 0 with THICKSTRT: its conductances have the thickness STRT less its"
+            " bottom, and in a deck its top is the bottom of the layer above. Only layer 1 can be written so"
         )
     return (
         f"LAYTYP of layer {layers} isn't 0: a convertible layer is another model, whose transmissivity changes with the"
@@ -121,8 +124,7 @@ def read_lpf(reading: Reading) -> None:
     s, deck = reading.start("LPF"), reading.deck
     line, first = s.line(), s.at
     w = quoted_words(line)
-    if s.integer(w[2], "NPLPF") > 0:
-        raise Problem("LPF has parameters: load the model in FloPy and write it again, which writes their values")
+    declared = s.integer(w[2], "NPLPF")
     hdry = marker(reading, s, w[1], "HDRY")
     deck.options["LPF"] = line if hdry == w[1] else line.replace(w[1], hdry, 1)
     if "UPW" in deck.options:
@@ -132,20 +134,42 @@ def read_lpf(reading: Reading) -> None:
             "STORAGECOEFFICIENT stands after a #, and counts all the same: MODFLOW-2005 looks at the whole line,"
             " and so does `heads`"
         )
+    by_start = START in (w.upper() for w in quoted_words(line)[3:])
+    is_thick_as_start = read_layer_words(reading, line, first, by_start)
+    if declared > 0 or is_thick_as_start:
+        deck.options["LPF"] = " ".join([w[0], hdry, "0", *(x for x in w[3:] if x.upper() != START)])
+    parameters = read_parameters(reading, max(declared, 0), LPF_TYPES, has_layers=True)
+    deck.properties = [layer_of(reading, k, by_start, parameters) for k in range(deck.nlay)]
+    if is_thick_as_start:
+        take_start_as_top(reading, first)
+    if "UPW" in deck.options:
+        demand_even_thickness(reading)
+    else:
+        take_dry_cells_out(reading)
+
+
+def read_layer_words(reading: Reading, line: str, first: int, by_start: bool) -> bool:
+    """The five lines of LPF with a word for each layer. Whether layer 1 is confined, and its conductances have the
+    thickness of its starting heads."""
+    s, deck = reading.now, reading.deck
     rows = deck.layer_words = [[] for _ in range(5)]
-    by_start = "THICKSTRT" in (w.upper() for w in quoted_words(line)[3:])
+    is_thick_as_start = False
     for at, name in enumerate(("LAYTYP", "LAYAVG", "CHANI", "LAYVKA", "LAYWET")):
         s.due = name
         rows[at] = s.free_values(deck.nlay)
         if name != "CHANI" and (wrong := [x for x in rows[at] if not re.fullmatch(r"[+-]?\d+", x)]):
             refuse_count(reading, name, wrong[0], s.at)
-        if at == 0 and reading.has_convertible and any(float(x) for x in rows[at]):
+        has_other = any(float(x) for x in rows[at])
+        if at == 0 and has_other and by_start and float(rows[0][0]) < 0 and not any(float(x) for x in rows[0][1:]):
+            is_thick_as_start = True
+            rows[0][0] = "0"
+        elif at == 0 and reading.has_convertible and has_other:
             refuse_convertible(reading, line, first, rows[at], by_start)
-        elif at in (0, 1, 4) and any(float(x) for x in rows[at]):
+        elif at in (0, 1, 4) and has_other:
             reading.refuse(layer_word_refused(name, rows[at], by_start))
     if any(float(x) for x in rows[4]):
         s.line()
-    deck.properties = [layer_of(reading, k, by_start) for k in range(deck.nlay)]
+    return is_thick_as_start
 
 
 def refuse_convertible(reading: Reading, line: str, first: int, row: list[str], by_start: bool) -> None:
@@ -162,7 +186,7 @@ def refuse_convertible(reading: Reading, line: str, first: int, row: list[str], 
         )
 
 
-def layer_of(reading: Reading, k: int, by_start: bool) -> dict[str, Array]:
+def layer_of(reading: Reading, k: int, by_start: bool, parameters: list[Parameter]) -> dict[str, Array]:
     """The arrays of a layer. `by_start`: LAYTYP below 0 is a confined layer as thick as its starting head says."""
     deck, rows = reading.deck, reading.deck.layer_words
     names = ["HK"] + ["HANI"] * (float(rows[2][k]) <= 0) + ["VKA"]
@@ -171,7 +195,21 @@ def layer_of(reading: Reading, k: int, by_start: bool) -> dict[str, Array]:
     names += (["SS"] + ["SY"] * is_convertible) * deck.is_transient
     names += ["VKCB"] * (deck.laycbd[k] != 0) + ["WETDRY"] * (is_convertible and float(rows[4][k]) != 0)
     after = lambda n: f" (after {' '.join(names[:n])})" if n else ""
-    return {
-        name: read_array(reading, deck.nrow, deck.ncol, f"{name} of layer {k + 1}{after(n)}")
-        for n, name in enumerate(names)
-    }
+    out = {}
+    for n, name in enumerate(names):
+        what, kinds = f"{name} of layer {k + 1}{after(n)}", ("VK", "VANI") if name == "VKA" else (name,)
+        if any(it.kind in kinds for it in parameters):
+            kind = kinds[-1] if name != "VKA" or float(rows[3][k]) else "VK"
+            out[name] = array_by_clusters(reading, parameters, kind, k + 1, what)
+        else:
+            out[name] = read_array(reading, deck.nrow, deck.ncol, what)
+    return out
+
+
+def array_by_clusters(reading: Reading, parameters: list[Parameter], kind: str, layer: int, what: str) -> Array:
+    """The array of a layer that parameters of a type make. Its place in the file has a print code."""
+    s = reading.now
+    s.due = f"a print code in place of {what}"
+    s.integer(quoted_words(s.line())[0], "a print code")
+    parts = [(it, [each for each in it.instance([]) if each.layer == layer]) for it in parameters if it.kind == kind]
+    return array_of_parameters(reading, parts, what)

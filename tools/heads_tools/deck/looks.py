@@ -24,7 +24,7 @@ def look_at_cells(model: Model, report: Report) -> None:
     deck, active = model.deck, model.ibound != 0
     tests = [
         ("DIS", "its top isn't above its bottom", model.thick <= 0),
-        ("LPF", "HK isn't above 0 (MODFLOW makes such a cell inactive: write IBOUND 0)", model.hk <= 0),
+        ("LPF", "HK isn't above 0", model.hk <= 0),
         ("LPF", "HANI isn't above 0", model.hani <= 0),
         ("LPF", "SS is below 0", model.ss < 0),
         ("BAS6", "STRT is past 4,000,000,000", np.abs(model.strt) > 4e9),

@@ -12,6 +12,12 @@ from .reading import Reading
 from .sources import Source
 from .which_modflow import is_simulation
 
+PARAMETER_FILES = ("MULT", "ZONE", "PVAL")
+AS_LPF = {
+    "UPW": "the same equations where every layer is confined and cells side by side are equally thick",
+    "BCF6": "the same equations where every layer is confined, of one or two layers",
+}
+
 
 def read_names(reading: Reading) -> None:
     deck, name = reading.deck, reading.deck.path.name
@@ -38,11 +44,13 @@ def read_name(reading: Reading, line: str) -> None:
     if kind in PASSED:
         if len(w) > 2:
             deck.units[w[1]] = w[2]
+        if kind in PARAMETER_FILES and len(w) > 2:
+            reading.parameter_files[kind] = w[2]
         deck.name_lines.append(" ".join(w))
         return
-    if kind == "UPW":
-        reading.need("UPW written as LPF: the same equations where every layer is confined")
-        reading.deck.options["UPW"], kind = "yes", "LPF"
+    if kind in AS_LPF:
+        reading.need(f"{kind} written as LPF: {AS_LPF[kind]}")
+        reading.deck.options[kind], kind = "yes", "LPF"
     if kind not in KINDS:
         return reading.refuse(f"{w[0]}: {OTHER_PACKAGES.get(kind, UNKNOWN_PACKAGE)}")
     if len(w) < 3 or not re.fullmatch(r"[+-]?\d+", w[1]):
@@ -55,3 +63,11 @@ def read_name(reading: Reading, line: str) -> None:
     if re.search(r"[^\x21-\x7e]|:", w[2]):
         reading.need(f"`{w[2]}` written as {plain_name(w[2])}")
     deck.name_lines.append(f"{kind} {w[1]} {plain_name(w[2])}")
+
+
+def drop_parameter_files(reading: Reading) -> None:
+    """Takes the files of parameters out of the name file, where they are multiplied out."""
+    deck = reading.deck
+    for kind, file in reading.parameter_files.items():
+        reading.report.add("needed", deck.path.name, 0, f"{kind} {file} dropped: what it says is multiplied out")
+    deck.name_lines = [line for line in deck.name_lines if line.split(" ")[0].upper() not in PARAMETER_FILES]

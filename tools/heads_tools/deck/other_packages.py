@@ -3,12 +3,12 @@ from __future__ import annotations
 
 UNKNOWN_PACKAGE = "it changes the equations, or is unknown. DIS BAS6 LPF WEL RIV DRN GHB RCH CHD EVT are read"
 OTHER_PACKAGES = {
-    "BCF6": (
-        "BCF6 gives transmissivities: load the model in FloPy and write its layers with LPF (HK = transmissivity /"
-        " thickness)"
-    ),
+    "BCF6": "BCF6 gives transmissivities: of one or two confined layers `heads-tools plain` writes it as LPF, exactly",
     "HUF2": "write hydrogeologic units as layers of LPF",
-    "UPW": "UPW is MODFLOW-NWT's: where every LAYTYP is 0 it says the same as LPF, and `heads-tools plain` writes LPF",
+    "UPW": (
+        "UPW is MODFLOW-NWT's: where every LAYTYP is 0 and cells side by side are equally thick it says the same as"
+        " LPF, and `heads-tools plain` writes LPF"
+    ),
     "NWT": "the solver of MODFLOW-NWT: take the line out (`heads-tools plain` does)",
     "LMG": "a solver of MODFLOW-2000: take the line out (`heads-tools plain` does)",
     "SMS": "the solver of MODFLOW-USG: take the line out (`heads-tools plain` does)",

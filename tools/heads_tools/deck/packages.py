@@ -5,9 +5,10 @@ from __future__ import annotations
 from pathlib import Path
 
 from ..common.text import Problem
+from .bcf_file import read_bcf
 from .deck import COLUMNS, KINDS, Deck
 from .grid_files import read_bas6, read_dis, read_lpf
-from .name_file import read_names
+from .name_file import drop_parameter_files, read_names
 from .reading import Reading
 from .sources import Report
 from .stress_files import read_evt, read_list, read_rch
@@ -37,12 +38,15 @@ def read_deck(
                 reading.refuse_text(kind, f"can't be read: {error}")
             if kind == "DIS" and not reading.deck.periods:
                 break
+    if reading.has_parameters:
+        drop_parameter_files(reading)
     look_for_free_lists(reading)
     return reading.deck, reading.report
 
 
 def read_package(reading: Reading, kind: str) -> None:
-    read = {"DIS": read_dis, "BAS6": read_bas6, "LPF": read_lpf, "RCH": read_rch, "EVT": read_evt}.get(kind)
+    flow = read_bcf if "BCF6" in reading.deck.options else read_lpf
+    read = {"DIS": read_dis, "BAS6": read_bas6, "LPF": flow, "RCH": read_rch, "EVT": read_evt}.get(kind)
     if read:
         read(reading)
     else:

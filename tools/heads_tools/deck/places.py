@@ -11,9 +11,12 @@ from pathlib import Path
 import numpy as np
 
 from ..common.text import Problem, read_text
+from .deck import Deck
 
 # FloPy writes this date where none was given.
 NO_DATE = date(1970, 1, 1)
+CORNER = re.compile(r"(upper|lower) (left|right) corner: *\(([-+.\dEe]+), *([-+.\dEe]+)\)", re.IGNORECASE)
+NEAR = 1e-5
 
 
 def fields_of(nam: Path) -> dict[str, str]:
@@ -23,16 +26,44 @@ def fields_of(nam: Path) -> dict[str, str]:
     return {name.strip().lower(): text.strip() for name, _, text in parts}
 
 
-def named_place(nam: Path) -> tuple[Place | None, str]:
-    """The place that a name file's comments give to the grid, and where it stands; none where they don't."""
-    fields = fields_of(nam)
+def named_place(deck: Deck) -> tuple[Place | None, str]:
+    """The place that a deck's comments give to its grid, and where they stand; none where they don't: FloPy's in the name
+    file, ModelMuse's in DIS."""
+    place = place_of_fields(fields_of(deck.path))
+    if place is not None:
+        return place, f"the comments of {deck.path.name}"
+    place = place_of_corners(deck)
+    return place, f"the corners in the comments of {deck.files['DIS']}" if place else ""
+
+
+def place_of_fields(fields: dict[str, str]) -> Place | None:
     try:
         x, y, angle = (float(fields.get(name, "0")) for name in ("xll", "yll", "rotation"))
     except ValueError:
-        return None, ""
+        return None
     known = re.search(r"\bepsg:(\d+)", ";".join(f"{name}:{text}" for name, text in fields.items()), re.IGNORECASE)
     place = Place(x, y, angle, int(known[1]) if known else None)
-    return (place, f"the comments of {nam.name}") if "xll" in fields and place != Place() else (None, "")
+    return place if "xll" in fields and place != Place() else None
+
+
+def place_of_corners(deck: Deck) -> Place | None:
+    """The place by the four corners that ModelMuse writes as comments into DIS: `# Lower left corner: (x, y)`. Corners
+    that don't fit the grid's widths are of another grid."""
+    found = {}
+    for line in deck.comments.get("DIS", []):
+        if corner := CORNER.search(line):
+            found[corner[1].lower(), corner[2].lower()] = float(corner[3]), float(corner[4])
+    try:
+        begin, right, up = (found[name] for name in (("lower", "left"), ("lower", "right"), ("upper", "left")))
+    except KeyError:
+        return None
+    across, along = (tuple(b - a for a, b in zip(begin, end)) for end in (right, up))
+    for side, widths in ((across, deck.delr), (along, deck.delc)):
+        if not math.isclose(math.hypot(*side), widths.floats().sum(), rel_tol=NEAR):
+            return None
+    if abs(across[0] * along[0] + across[1] * along[1]) > NEAR * math.hypot(*across) * math.hypot(*along):
+        return None
+    return Place(*begin, math.degrees(math.atan2(across[1], across[0])))
 
 
 def start_of(text: str | None, nam: Path) -> date | None:

@@ -5,7 +5,7 @@ import re
 from dataclasses import dataclass
 from typing import Callable
 
-from ..common.spelling import EXACT, MOST_DIGITS, exact, number
+from ..common.spelling import EXACT, MOST_DIGITS, exact, exact_word
 from ..common.text import Problem
 from .deck import Deck
 from .sources import Array
@@ -76,17 +76,6 @@ def times(word: str, factor: str) -> str:
 
 def plus(word: str, shift: str) -> str:
     return exact_word(EXACT.add(exact(word), exact(shift)))
-
-
-def exact_word(value) -> str:
-    """The word of a number of at most 18 digits, without an exponent where it is short so."""
-    value = value.normalize(EXACT)
-    if not value:
-        return "0"
-    if len(value.as_tuple().digits) > MOST_DIGITS:
-        raise Problem("")
-    plain = f"{value:f}"
-    return number(plain if len(plain) <= MOST_DIGITS + 3 else f"{value:e}").text
 
 
 def exactly(file: str, line: int, change: Change, word: str, by: str) -> str:

@@ -22,6 +22,10 @@ class Reading:
         self.sources: dict[str, Source] = {}
         self.binary_at: dict[str, int] = {}
         self.option_line = 0
+        # The files MULT, ZONE and PVAL by their kinds, what was read of them, and whether some parameter was.
+        self.parameter_files: dict[str, str] = {}
+        self.parameter_tables: dict[str, dict] = {}
+        self.has_parameters = False
         self.at: Source | None = None
 
     @property

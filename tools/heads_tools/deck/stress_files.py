@@ -2,14 +2,20 @@
 from __future__ import annotations
 
 import re
+from dataclasses import replace
+from decimal import Decimal
 
 from ..common.limits import PLAIN, WIDE
-from ..common.spelling import product, quoted_words
+from ..common.spelling import EXACT, exact, exact_word, quoted_words
 from ..common.text import Problem
 from .array_records import read_array
 from .deck import COLUMNS, EVT_ARRAYS, SCALED, Areal, Entry
+from .parameters import Parameter, array_of_parameters, named, read_head, read_parameters
 from .reading import Reading
-from .sources import Source
+from .sources import Array, Source
+
+# The arrays that parameters of RCH and EVT make.
+BY_PARAMETERS = ("RECH", "EVTR")
 
 
 def number_like(word: str) -> bool:
@@ -18,7 +24,7 @@ def number_like(word: str) -> bool:
 
 def read_list(reading: Reading, kind: str) -> None:
     s, deck = reading.start(kind), reading.deck
-    line = without_parameters(reading, s)
+    line, declared = after_declaration(reading, s)
     most = s.integer(reading.fields(s, line, 1)[0], "the maximum count")
     deck.options[kind] = line if deck.is_free else " ".join(reading.fields(s, line, 2))
     if kind == "WEL" and s.at < len(s.lines) and s.lines[s.at].strip().upper().startswith("SPECIFY"):
@@ -27,36 +33,78 @@ def read_list(reading: Reading, kind: str) -> None:
             reading.refuse("SPECIFY is an option of MODFLOW-NWT, which lessens pumping in convertible layers")
         else:
             reading.need("SPECIFY dropped: this option of MODFLOW-NWT acts in convertible layers alone")
-    deck.lists[kind] = []
+    parameters = list_parameters(reading, kind, declared)
+    deck.lists[kind], own, had_made = [], [], False
     for period in range(len(deck.periods)):
         w = reading.counts(s, 2, f"ITMP of period {period + 1}")
-        count = s.integer(w[0], "ITMP")
-        if re.fullmatch(r"\d+", w[1]) and int(w[1]) > 0:
-            raise Problem("parameters (NP above 0): load the model in FloPy and write it again")
+        count, active = s.integer(w[0], "ITMP"), s.integer(w[1], "NP") if re.fullmatch(r"[+-]?\d+", w[1]) else 0
         if count < 0 and period == 0:
             reading.refuse("ITMP below 0 says `as in the last period`, and there is none before")
-        if count > most:
-            entries = "entry" if count == 1 else "entries"
-            reading.warn(
-                f"{count} {entries} where the file's maximum is {most}: MODFLOW-2005 stops, `heads` doesn't compare"
-            )
-        if count > WIDE.entries:
-            raise Problem(f"more than {WIDE.entries:,} entries")
-        reading.want_wide([f"at most {PLAIN.entries:,} entries"] * (count > PLAIN.entries))
+        demand_count(reading, count, most)
         s.due = f"the list of period {period + 1}"
-        deck.lists[kind].append(entries_of(reading, kind, count) if count >= 0 else None)
+        if count >= 0:
+            own = entries_of(reading, kind, count)
+        made = multiplied(reading, kind, named(reading, parameters, active))
+        if made:
+            demand_count(reading, len(own) + len(made), most)
+        deck.lists[kind].append([*own, *made] if made or had_made or count >= 0 else None)
+        had_made = bool(made)
 
 
-def without_parameters(reading: Reading, s: Source) -> str:
-    """The line of the maximum count or of the option, after a line PARAMETER that declares none."""
+def demand_count(reading: Reading, count: int, most: int) -> None:
+    """Says what there is to say of the count of a list's entries."""
+    if count > most:
+        entries = "entry" if count == 1 else "entries"
+        reading.warn(
+            f"{count} {entries} where the file's maximum is {most}: MODFLOW-2005 stops, `heads` doesn't compare"
+        )
+    if count > WIDE.entries:
+        raise Problem(f"more than {WIDE.entries:,} entries")
+    reading.want_wide([f"at most {PLAIN.entries:,} entries"] * (count > PLAIN.entries))
+
+
+def after_declaration(reading: Reading, s: Source) -> tuple[str, int]:
+    """The line of the maximum count or of the option, after a line PARAMETER; how many parameters that declares."""
     line = s.line()
     w = quoted_words(line)
     if w[0].upper() != "PARAMETER":
-        return line
-    if any(x != "0" for x in w[1:3]):
-        raise Problem("PARAMETER: load the model in FloPy and write it again, which writes the values")
-    reading.need("PARAMETER 0 dropped: it declares none")
-    return s.line()
+        return line, 0
+    count = s.integer(w[1], "the count of parameters") if len(w) > 1 else 0
+    if not count:
+        reading.need("PARAMETER 0 dropped: it declares none")
+    return s.line(), count
+
+
+def list_parameters(reading: Reading, kind: str, count: int) -> list[Parameter]:
+    """The definitions of a list's parameters, with the entries of each instance."""
+    out = []
+    for _ in range(count):
+        it, size, instances = read_head(reading, ("Q",) if kind == "WEL" else (kind,))
+        for name in instances:
+            reading.now.due = f"the entries of the parameter {it.name} {name}".rstrip()
+            it.instances[name] = entries_of(reading, kind, size)
+        out.append(it)
+    return out
+
+
+def multiplied(reading: Reading, kind: str, found: list[tuple[Parameter, list[Entry]]]) -> list[Entry]:
+    """The entries that active parameters make."""
+    return [
+        replace(entry, words=scaled_words(reading, kind, entry, it.value)) for it, entries in found for entry in entries
+    ]
+
+
+def scaled_words(reading: Reading, kind: str, entry: Entry, factor: Decimal) -> list[str]:
+    """The numbers of an entry, of which those that its package scales are multiplied by a factor."""
+    out = list(entry.words)
+    for at in SCALED[kind]:
+        try:
+            out[at] = exact_word(EXACT.multiply(exact(out[at]), factor), COLUMNS[kind][at])
+        except Problem as error:
+            reading.report.add("refusals", entry.file, entry.line, str(error))
+    if kind in ("RIV", "DRN", "GHB") and exact(out[1]) < 0:
+        reading.report.add("refusals", entry.file, entry.line, "Cond is below 0")
+    return out
 
 
 def entries_of(reading: Reading, kind: str, count: int) -> list[Entry]:
@@ -108,11 +156,12 @@ def entry_of(reading: Reading, kind: str, source: Source, line: str, columns: in
                 "a decimal comma? `heads` and MODFLOW-2005 take a comma as a blank"
             ),
         )
+    entry = Entry(cell, values, source.name, source.at)
     if factor:
-        values = [product(x, factor).text if n in SCALED[kind] else x for n, x in enumerate(values)]
-    if kind in ("RIV", "DRN", "GHB") and float(values[1].replace("D", "E").replace("d", "e")) < 0:
+        return replace(entry, words=scaled_words(reading, kind, entry, exact(factor)))
+    if kind in ("RIV", "DRN", "GHB") and exact(values[1]) < 0:
         reading.report.add("refusals", source.name, source.at, "Cond is below 0")
-    return Entry(cell, values, source.name, source.at)
+    return entry
 
 
 def read_rch(reading: Reading) -> None:
@@ -125,12 +174,13 @@ def read_evt(reading: Reading) -> None:
 
 def read_areal(reading: Reading, kind: str, names: tuple[str, ...], layers: str) -> None:
     s, deck = reading.start(kind), reading.deck
-    line = without_parameters(reading, s)
+    line, declared = after_declaration(reading, s)
     option = s.integer(reading.fields(s, line, 1)[0], "the option")
     if option not in (1, 2, 3):
         raise Problem(f"the option is {option}; 1, 2 or 3 are read")
     deck.options[kind] = line if deck.is_free else " ".join(reading.fields(s, line, 2))
     areal = deck.areal[kind] = Areal(option, line=s.at)
+    parameters = read_parameters(reading, declared, (kind,), has_layers=False)
     names += (layers,) * (option == 2)
     for period in range(len(deck.periods)):
         flags = [
@@ -138,14 +188,23 @@ def read_areal(reading: Reading, kind: str, names: tuple[str, ...], layers: str)
         ]
         if period == 0 and min(flags) < 0:
             reading.refuse("a flag below 0 says `as in the last period`, and there is none before")
-        arrays = {
-            name: read_array(reading, deck.nrow, deck.ncol, f"{name} of period {period + 1}", name == layers)
-            for name, flag in zip(names, flags)
-            if flag >= 0
-        }
+        arrays = {}
+        for at, (name, flag) in enumerate(zip(names, flags)):
+            what = f"{name} of period {period + 1}"
+            if flag >= 0 and parameters and name in BY_PARAMETERS:
+                arrays[name], flags[at] = array_by_names(reading, parameters, flag, what), 1
+            elif flag >= 0:
+                arrays[name] = read_array(reading, deck.nrow, deck.ncol, what, name == layers)
         areal.periods.append((flags, arrays))
         if layers in arrays and (arrays[layers].floats() == 0).any():
             reading.warn(
                 f"{layers} is 0 in a column: `heads` reads `no layer`; MODFLOW-2005 stops there, or passes over it"
                 " in newer versions"
             )
+
+
+def array_by_names(reading: Reading, parameters: list[Parameter], count: int, what: str) -> Array:
+    """The array that the parameters make which a period names."""
+    if count == 0:
+        raise Problem(f"{what}: the file has parameters, and the period names none (MODFLOW-2005 stops here, too)")
+    return array_of_parameters(reading, named(reading, parameters, count), what)

@@ -12,6 +12,7 @@ from ..common.limits import wide_words
 from ..common.text import Problem
 from ..deck.differences import what_differs
 from ..deck.model import Model, model_of, read_model
+from ..deck.packages import read_deck
 from ..deck.places import Place, named_place
 from ..listing.listing import Listing
 from ..listing.made_by import QUICK
@@ -125,7 +126,7 @@ def weathered(asked: Asked, folder: Path) -> Weathered:
 def find_cells(asked: Asked, base: Spelled) -> None:
     """Adds the cells of the points that are asked for, and refuses those without flow. The grid's place is that of the
     comments of the base deck's name file, else its lower left corner is 0, 0."""
-    model, place = model_of(base.deck), named_place(asked.base)[0] or Place()
+    model, place = model_of(base.deck), named_place(read_deck(asked.base)[0])[0] or Place()
     for name, x, y, layer in asked.points:
         asked.cells[spot_at(model, place, layer, x, y).cell] = name
     for cell, name in asked.cells.items():

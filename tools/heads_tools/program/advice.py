@@ -7,7 +7,7 @@ REFUSALS = {
     4: "A line of the name file is `TYPE UNIT FILE`; this one lacks a word, or its unit is no whole number.",
     5: "This package stands in the name file twice. MODFLOW reads one of each.",
     6: "This package isn't read.",
-    7: "The name file lacks DIS, BAS6 or LPF. Models with BCF6 or HUF2 have to be written with LPF.",
+    7: "The name file lacks DIS, BAS6 or LPF. BCF6 of one or two layers is written as LPF by `heads-tools plain`.",
     8: "The file ends where more is due: too few rows, layers, periods or list entries for the counts in DIS.",
     9: "A number was due here, and this word is none.",
     10: "A number has more than 18 digits.",
@@ -65,8 +65,8 @@ REMEDIES = {
     14: "Raise the top or lower the bottom there, or make the cell inactive (IBOUND 0).",
     15: (
         "HK, HANI, VKA and VKCB are above 0 in active cells, SS, Cond and EVTR at least 0, EXDP above 0 where EVTR is;"
-        " a CHD cell stands in a list once. A cell of HK 0 is inactive in MODFLOW: write IBOUND 0 there. A zone number"
-        " lies from 0 to 999."
+        " a CHD cell stands in a list once. Of HK 0 in a single layer MODFLOW makes the cell inactive, and"
+        " `heads-tools plain` writes IBOUND 0 there. A zone number lies from 0 to 999."
     ),
     17: (
         "Run with --wide, which reads 4,194,304 entries; or merge entries of one cell (flows add; conductances to one"
@@ -96,8 +96,8 @@ REMEDIES = {
 }
 OUT_OF_RANGE = {
     "LPF": (
-        "HK, HANI, VKA and VKCB are above 0 in cells with flow, SS is at least 0. A cell of HK 0 is inactive in"
-        " MODFLOW: write IBOUND 0 there."
+        "HK, HANI, VKA and VKCB are above 0 in cells with flow, SS is at least 0. Of HK 0 in a single layer"
+        " MODFLOW makes the cell inactive, and `heads-tools plain` writes IBOUND 0 there."
     ),
     "CHD": (
         "A cell stands in a list once (MODFLOW-2005 adds the heads of two entries): take one of the two entries out."

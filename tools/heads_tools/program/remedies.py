@@ -59,8 +59,7 @@ def bad_number(spot: Spot, folder: Path) -> str:
         )
     if spot.first == "PARAMETER":
         return (
-            "Parameters aren't read: load the model in FloPy and write it again, which writes their values"
-            " (`heads-tools plain` drops `PARAMETER 0`)."
+            "Parameters aren't read here: `heads-tools plain` multiplies them out, exactly, and drops `PARAMETER 0`."
         )
     if is_short_entry(spot):
         names = COLUMNS[spot.kind]
@@ -132,8 +131,7 @@ def profile(spot: Spot, folder: Path) -> str:
     if spot.kind == "LPF" and spot.item in (1, 2, 3, 6):
         return {
             1: (
-                "LPF has parameters (its third number is above 0): load the model in FloPy and write it again, which"
-                " writes their values."
+                "LPF has parameters (its third number is above 0): `heads-tools plain` multiplies them out, exactly."
             ),
             2: (
                 "LAYTYP: every layer is confined (0) here. A convertible layer is another model, whose transmissivity"
@@ -157,7 +155,7 @@ def profile(spot: Spot, folder: Path) -> str:
     if spot.first == "SFAC":
         return "Multiply the entries by it and take the line out (`heads-tools plain` does it, exactly)."
     if spot.first == "PARAMETER":
-        return "Parameters aren't read: load the model in FloPy and write it again, which writes their values."
+        return "Parameters aren't read here: `heads-tools plain` multiplies them out, exactly."
     if "(BINARY)" in all_words:
         return "Binary arrays aren't read: write text (`heads-tools plain` does it)."
     if any(w.startswith(("(", "'(")) and w != "(FREE)" for w in all_words):
@@ -169,7 +167,7 @@ def profile(spot: Spot, folder: Path) -> str:
         )
     if spot.kind in ("RCH", "EVT") and spot.item == 1:
         return "The option is 1, 2 or 3."
-    return "Parameters (a second number above 0)? Load the model in FloPy and write it again."
+    return "Parameters (a second number above 0)? `heads-tools plain` multiplies them out, exactly."
 
 
 def out_of_range(spot: Spot, folder: Path) -> str:
