@@ -28,7 +28,8 @@ from heads_tools.listing.listing import read_listing  # noqa: E402
 from heads_tools.pages.look import Look  # noqa: E402
 from heads_tools.deck.model import read_model  # noqa: E402
 from heads_tools.pages.pictures import Album, box, plan_of  # noqa: E402
-from heads_tools.pages.zones import ZoneMap, read_zones, zone_map  # noqa: E402
+from heads_tools.pages.zones import ZoneMap, zone_map
+from heads_tools.listing.zones import read_zones
 
 ALBUM = Album(HERE)
 BLUE, RED, GREY, GREEN = "#1f5fa8", "#b3261e", "0.45", "#2a7d4f"

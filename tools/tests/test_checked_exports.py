@@ -12,7 +12,8 @@ from conftest import TOP
 
 import heads_tools
 from heads_tools import Place, Problem, read_listing, read_model
-from heads_tools.deck.places import date_of, named_place, start_of
+from heads_tools.deck.dates import date_of, start_of
+from heads_tools.deck.places import named_place
 from heads_tools.common.text import sha256
 
 pytestmark = pytest.mark.program

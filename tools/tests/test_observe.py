@@ -141,14 +141,22 @@ def test_a_hob_file_between_cells_and_in_several_layers(example, tool, tmp_path)
         ("1 0.25 3 0.75", "1 0.25 3 0.25", "add up to 0.5"),
         ("8 8 1 0.0 0.0 0.0 9.5", "8 8 1 0.0 0.0", "line 4"),
         ("8 8 1 0.0 0.0 0.0 9.5", "8 8 1 0.0 0.0 x 9.5", "line 4"),
-        ("8 8 1 0.0 0.0 0.0 9.5", "8 8 1 7.0 0.0 0.0 9.5", "after the listing's last step"),
-        ("8 8 1 0.0 0.0 0.0 9.5", "8 8 1 -7.0 0.0 0.0 9.5", "before the start"),
     ],
 )
 def test_what_is_wrong_with_a_hob_file_is_said(old, new, said, example, tool, tmp_path):
     deck = run(example("three_aquifers"))
     status, _, err = observed(tool, deck, HOB.replace(old, new), tmp_path)
     assert status == 2 and said in err
+
+
+@pytest.mark.program
+@pytest.mark.parametrize("time, said", [("7.0", "after the listing's last step"), ("-7.0", "before the start")])
+def test_an_observation_outside_the_listing_leaves_the_others(time, said, example, tool, tmp_path):
+    deck = run(example("three_aquifers"))
+    hob = HOB.replace("8 8 1 0.0 0.0 0.0 9.5", f"8 8 1 {time} 0.0 0.0 9.5")
+    status, rows, err = observed(tool, deck, hob, tmp_path)
+    assert status == 0 and f"MIDDLE has no head: time {float(time):g} lies {said}" in err
+    assert [bool(row["lower"]) for row in rows] == [False, *[True] * (len(rows) - 1)]
 
 
 @pytest.mark.program
@@ -235,3 +243,79 @@ def test_what_was_measured_is_said_in_all_with_bounds(example, tool, tmp_path):
     low, high, least, most = map(float, found.groups()[:4])
     assert low <= -0.05 <= high <= low + 2e-6 and least <= 0.125**0.5 <= most <= least + 3e-6
     assert found.groups()[4:] == ("2", "2")
+
+
+PUMPED = "name,row,col,{},measured,weight\n{}"
+
+
+@pytest.fixture
+def pumped(example):
+    return run(example("pumping_test"))
+
+
+@pytest.mark.program
+@pytest.mark.parametrize("date", ["2024-03-01", "1.3.2024", "3/1/2024"])
+def test_dates_are_times_since_the_start(date, pumped, tool, tmp_path):
+    """The test takes a day. It begins here on the last of February, so that the first of March is time 1, but where day
+    and month can be taken for one another."""
+    words = ["--start", "2024-02-29"]
+    status, rows, err = observed(tool, pumped, f"name,row,col,date\na,1,2,{date}\n", tmp_path, *words)
+    if "/" in date:
+        assert status == 2 and "line 2: `3/1/2024`: a date is YYYY-MM-DD" in err
+        return
+    assert status == 0 and rows[0]["date"] == "2024-03-01", err
+    _, plain, _ = observed(tool, pumped, "name,row,col,time\na,1,2,1\n", tmp_path)
+    assert rows[0]["lower"] == plain[0]["lower"] and rows[0]["time"] == "1" and "date" not in plain[0]
+
+
+@pytest.mark.program
+def test_a_date_has_a_time_of_day_and_needs_a_start(pumped, tool, tmp_path):
+    text = "name;row;col;date\na;1;2;29-02-2024 06:00\n"
+    status, rows, err = observed(tool, pumped, text, tmp_path, "--start", "2024-02-29")
+    assert status == 0 and "row" not in err
+    (tmp_path / "points").write_text(text)
+    _, out, _ = tool("observe", pumped[2].path, tmp_path / "points", "--name", pumped[0], "--start", "2024-02-29")
+    assert out.splitlines()[1].split(",")[4] == "0.25"
+    status, _, err = observed(tool, pumped, text, tmp_path)
+    assert status == 2 and "line 2" in err and "a date needs that of the model's start" in err
+
+
+@pytest.mark.program
+def test_a_time_outside_the_listing_leaves_the_other_points(pumped, tool, tmp_path):
+    text = "name,row,col,time\nlate,1,2,1.5\nearly,1,2,-1\nright,1,2,1\n"
+    status, rows, err = observed(tool, pumped, text, tmp_path)
+    assert status == 0 and [bool(row["lower"]) for row in rows] == [False, False, True], err
+    assert "late has no head: time 1.5 lies after the listing's last step, 1" in err and "early has no head" in err
+    status, _, err = observed(tool, pumped, text.replace("right,1,2,1", "late2,1,2,7"), tmp_path)
+    assert status == 2 and "no point has a head; late: time 1.5 lies after" in err
+
+
+@pytest.mark.program
+def test_files_for_pest_name_each_observation_where_its_number_stands(pumped, tool, tmp_path):
+    """The instructions, followed by hand, find the middle of the pair of each point; names are of 20 letters, once each."""
+    points = "Well 7 (deep filter of 1970),1,2,1,3.5,2\nWell 7 (deep filter of 1970),1,3,1,3.25,\nno head,1,4,1,,\n"
+    status, rows, err = observed(tool, pumped, PUMPED.format("time", points), tmp_path, "--pest", tmp_path / "pest")
+    assert status == 0 and "2 observations in observed.out" in err, err
+    out = (tmp_path / "pest" / "observed.out").read_text().splitlines()
+    first, second, *lines = (tmp_path / "pest" / "observed.ins").read_text().splitlines()
+    assert first == "pif @" and second[1:-1] in out[0]
+    found = {}
+    for line, text in zip(lines, out[1:]):
+        name, begin, end = re.fullmatch(r"l1 \[(\S{1,20})\](\d+):(\d+)", line).groups()
+        found[name] = Fraction(text[int(begin) - 1 : int(end)].strip())
+    assert list(found) == ["well_7__deep_filter_", "well_7__deep_filte_2"]
+    middles = [(Fraction(r["lower"]) + Fraction(r["upper"])) / 2 for r in rows[:2]]
+    assert all(abs(a - b) < Fraction(1, 10**10) for a, b in zip(found.values(), middles))
+    control = (tmp_path / "pest" / "observed.pst").read_text()
+    assert re.search(r"^well_7__deep_filter_ +3.5\d*e\+00 2 heads$", control, re.M)
+    assert observed(tool, pumped, PUMPED.format("time", points), tmp_path, "--pest", tmp_path / "pest")[0] == 0  # anew
+
+
+@pytest.mark.program
+def test_a_picture_of_what_was_measured_is_drawn_whole_or_not_at_all(pumped, tool, tmp_path):
+    points = "a,1,2,1,3.5,1\nb,1,3,1,3.25,1\n"
+    status, _, err = observed(tool, pumped, PUMPED.format("time", points), tmp_path, "--picture", tmp_path / "seen.png")
+    assert status == 0 and (tmp_path / "seen.png").read_bytes().startswith(b"\x89PNG") and "seen.png" in err
+    for name, text in (("seen.jpg", points), ("none.png", "a,1,2,1,,\n")):
+        status, _, err = observed(tool, pumped, PUMPED.format("time", text), tmp_path, "--picture", tmp_path / name)
+        assert status == 2 and not (tmp_path / name).exists() and "picture" in err + "picture" * ("draw" in err)

@@ -20,6 +20,8 @@ HELP = {
     "hds": "a head file for FloPy, ModelMuse, Model Viewer",
     "export": "NetCDF, GeoTIFF, VTK and CSV of a listing, each if its package is here",
     "observe": "heads at points, by a table name,x,y,layer,time,measured or a HOB file: lower, upper, measured",
+    "template": "the deck with templates of its arrays in the form of PEST, for calibration and `ensemble`",
+    "ensemble": "many samples of a deck from templates and a table: least and most head at chosen places, no bounds",
     "mf2005": "run as MODFLOW-2005 is called by FloPy and ModelMuse: head file and list file",
     "exhibit": "for a report or a court: deck, listing, verdicts, hashes, versions, pictures; further options go to"
     " heads run",

@@ -6,10 +6,14 @@ import sys
 from pathlib import Path
 from typing import IO
 
+from ..common.whole_files import whole_file, whole_folder
+from ..deck.dates import start_of
 from ..deck.model import read_model
 from ..listing.fitting import demand_fit
 from ..listing.observe import observe
+from ..listing.pest import write_pest
 from ..listing.spans import demand_one
+from ..pages.observed_picture import draw_observed
 from ..program.about import write_about
 from ..program.verdict import status_of
 from .shared import existing, listing_of, place_for, say, verdict_of
@@ -32,6 +36,21 @@ def add(sub: argparse.ArgumentParser) -> None:
     add_wide(sub)
     sub.add_argument("--between", action="store_true", help="points of a table lie between the middles of cells, too")
     sub.add_argument("--out", type=Path, help="the table's file, standard output where left out")
+    sub.add_argument(
+        "--start",
+        metavar="YYYY-MM-DD",
+        help="the date on which the model starts, for points with dates; that of the name file's comments where left out",
+    )
+    sub.add_argument(
+        "--picture", type=Path, metavar="FILE.PNG", help="a picture: measured beside lower and upper heads"
+    )
+    sub.add_argument(
+        "--pest",
+        type=Path,
+        metavar="FOLDER",
+        help="observed.out, observed.ins and observed.pst for PEST: the middles of the pairs of all points with a"
+        " measured head, their instructions, and the control file's lines (column weight, else 1)",
+    )
     add_force(sub)
 
 
@@ -41,9 +60,20 @@ def do(args: argparse.Namespace, _: list[str], out: IO[str]) -> int:
     demand_fit(listing, model)
     verdict = verdict_of(args, listing)
     points, (place, told) = existing(args.points), place_for(args, model)
-    lines, lacking = observe(listing, model, points, place, args.out, args.between)
+    seen = observe(listing, model, points, place, args.between, start_of(args.start, model.deck.path))
+    written = []
+    if args.picture:
+        draw_observed(args.picture, seen)
+        written.append(f"written: {args.picture}")
+    if args.pest:
+        with whole_folder(args.pest) as folder:
+            written += write_pest(folder, seen.observations)
+    lines = seen.table().rstrip("\n").split("\n")
     if args.out:
+        with whole_file(args.out) as file:
+            file.write(seen.table())
         write_about(args.out, verdict)
-    print("\n".join([verdict.sentence, *told, *lacking]), file=sys.stderr)
+        lines = [f"written: {args.out} ({len(lines) - 1} lines)"]
+    print("\n".join([verdict.sentence, *told, *seen.lacking(), *written]), file=sys.stderr)
     say(lines, out)
     return status_of(args.name, verdict)

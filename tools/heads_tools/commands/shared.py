@@ -19,7 +19,7 @@ from ..listing.spans import second_deck
 from ..program.program import look_again
 from ..program.verdict import Verdict, check_listing, not_checked
 
-OUTPUTS = {"out", "csv", "map", "folder"}
+OUTPUTS = {"out", "csv", "map", "folder", "picture", "pest"}
 MOST_DIGITS = 18
 
 

@@ -21,6 +21,7 @@ ENDS = (b"HEADS ", b"REFUSED ", b"NOBOUND ", b"READFAULT", b"MEMORY", b"UNFINISH
 # How tables, job files, list files and the small files beside results begin, which heads-tools writes.
 BEGINS = re.compile(
     rb"period,step,[a-z,_]*(lower|least)|[0-9a-f]{64}  |                                  heads\n"
+    rb"|pif @\n@heads-tools@\n|# heads-tools: |heads-tools: "
     rb"|#!/bin/bash\n#(SBATCH --job-name=heads| Further words, as --sshloginfile hosts, go to parallel\.)"
 )
 PAGES, PICTURES = (b"<!doctype html", b"<!DOCTYPE html"), (b"\x89PNG", b"\x89HDF", b"CDF", b"II", b"MM", b"<?xml")

@@ -1,11 +1,10 @@
-"""What the comments of a name file say of the grid's place and of the start date, as FloPy writes them:
-`#xll:155000.0; yll:463000.0; rotation:12.0; crs:EPSG:28992; start_datetime:2024-01-01`."""
+"""What the comments of a deck say of the grid's place, as FloPy writes them into the name file, with the start date:
+`#xll:155000.0; yll:463000.0; rotation:12.0; crs:EPSG:28992; start_datetime:2024-01-01`, and ModelMuse into DIS."""
 from __future__ import annotations
 
 import math
 import re
 from dataclasses import dataclass
-from datetime import date
 from pathlib import Path
 
 import numpy as np
@@ -13,8 +12,6 @@ import numpy as np
 from ..common.text import Problem, read_text
 from .deck import Deck
 
-# FloPy writes this date where none was given.
-NO_DATE = date(1970, 1, 1)
 CORNER = re.compile(r"(upper|lower) (left|right) corner: *\(([-+.\dEe]+), *([-+.\dEe]+)\)", re.IGNORECASE)
 NEAR = 1e-5
 
@@ -64,30 +61,6 @@ def place_of_corners(deck: Deck) -> Place | None:
     if abs(across[0] * along[0] + across[1] * along[1]) > NEAR * math.hypot(*across) * math.hypot(*along):
         return None
     return Place(*begin, math.degrees(math.atan2(across[1], across[0])))
-
-
-def start_of(text: str | None, nam: Path) -> date | None:
-    """The date on which the model starts: the one that is asked for, else that of the name file's comments."""
-    if text:
-        found = date_of(text)
-        if found is None:
-            raise Problem(f"`{text}`: a start date is YYYY-MM-DD")
-        return found
-    found = date_of(fields_of(nam).get("start_datetime", ""))
-    return None if found == NO_DATE else found
-
-
-def date_of(text: str) -> date | None:
-    """The date of YYYY-MM-DD, or of M/D/YYYY where day and month can't be taken for one another."""
-    try:
-        if re.match(r"\d{4}-\d{1,2}-\d{1,2}(\D|$)", text):
-            return date(*map(int, re.findall(r"\d+", text)[:3]))
-        if parts := re.match(r"(\d{1,2})[/-](\d{1,2})[/-](\d{4})(\D|$)", text):
-            month, day, year = map(int, parts.groups()[:3])
-            return date(year, month, day) if day > 12 or day == month else None
-    except ValueError:
-        pass
-    return None
 
 
 @dataclass(frozen=True)

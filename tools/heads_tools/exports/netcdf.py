@@ -11,8 +11,9 @@ import numpy as np
 
 from ..common.text import LENGTHS, Problem
 from ..common.whole_files import write_whole
+from ..deck.dates import start_of
 from ..deck.model import Model
-from ..deck.places import Place, start_of
+from ..deck.places import Place
 from ..listing.listing import Listing
 from ..program.verdict import Verdict
 from .exports import comment_of, demand_unit, facts_for, middles, package, system_of, time_of

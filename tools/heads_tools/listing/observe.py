@@ -9,13 +9,14 @@ from __future__ import annotations
 import csv
 import io
 import math
-from dataclasses import dataclass
+from dataclasses import dataclass, replace
+from datetime import date
 from fractions import Fraction
 from functools import cached_property
 from pathlib import Path
 
 from ..common.text import Problem, counted, decimal_text, down, up
-from ..common.whole_files import whole_file
+from ..deck.dates import date_text
 from ..deck.model import Model, exact_ends
 from ..deck.places import Place
 from .listing import UNITS_IN_ONE, Listing, Step
@@ -24,6 +25,39 @@ from .points import Point, Points
 HEADER = "name layer row col time lower upper measured measured_less_upper measured_less_lower cells".split()
 NEARLY = Fraction(1, 10**9)
 Range = tuple[Fraction, Fraction]
+
+
+@dataclass(frozen=True)
+class Observation:
+    """A point at a time: its pair of heads in 10^-9, None where it has none."""
+
+    point: Point
+    time: Fraction
+    pair: tuple[int, int] | None = None
+
+    @property
+    def less(self) -> tuple[int, int] | None:
+        """What was measured less the upper and less the lower head, outward, in 10^-9."""
+        if self.pair is None or self.point.measured is None:
+            return None
+        units = self.point.measured * UNITS_IN_ONE
+        return math.floor(units - self.pair[1]), math.ceil(units - self.pair[0])
+
+    @property
+    def is_impossible(self) -> bool:
+        """Whether no exact solution has the head that was measured."""
+        return self.less is not None and (self.less[0] > 0 or self.less[1] < 0)
+
+    def row(self) -> list[str]:
+        """The row of the table."""
+        point, heads, less = self.point, ["", ""], ["", ""]
+        if self.pair is not None:
+            heads = [decimal_text(each, 9) for each in self.pair]
+        if self.less is not None:
+            less = [decimal_text(each, 9) for each in self.less]
+        measured = "" if point.measured is None else f"{float(point.measured):.12g}"
+        cell = map(str, point.cell) if point.cell else ["", "", ""]
+        return [point.name, *cell, f"{float(self.time):.12g}", *heads, measured, *less, str(len(point.weights))]
 
 
 @dataclass
@@ -44,11 +78,9 @@ class Observer:
         end."""
         assert point.time is not None
         if point.time < 0:
-            raise Problem(f"{point.name}: time {float(point.time):g} lies before the start")
+            raise Problem(f"time {float(point.time):g} lies before the start")
         if point.time > self.ends[-1] * (1 + NEARLY):
-            raise Problem(
-                f"{point.name}: time {float(point.time):g} lies after the listing's last step, {float(self.ends[-1]):g}"
-            )
+            raise Problem(f"time {float(point.time):g} lies after the listing's last step, {float(self.ends[-1]):g}")
         return next((n for n, end in enumerate(self.ends) if point.time <= end * (1 + NEARLY)), len(self.ends) - 1)
 
     def at_end(self, point: Point, step: Step) -> Range:
@@ -81,23 +113,58 @@ class Observer:
             low, high = ((1 - share) * a + share * b for a, b in zip(old, (low, high)))
         return math.floor(low), math.ceil(high)
 
-    def rows(self, point: Point) -> list[list[str]]:
-        """The rows of a point's table: one for its time, else one for each step."""
-        steps = range(len(self.ends)) if point.time is None else [self.step_of(point)]
-        return [self.row(point, n) for n in steps]
+    def of_point(self, point: Point) -> list[Observation]:
+        """A point at its time, else at the end of each step. One whose time lies outside of the listing has no head."""
+        if point.time is None:
+            pairs = (self.head(point, n) if point.weights else None for n in range(len(self.ends)))
+            return [Observation(point, time, pair) for time, pair in zip(self.ends, pairs)]
+        try:
+            step = self.step_of(point)
+        except Problem as error:
+            return [Observation(replace(point, weights={}, why=str(error)), point.time)]
+        return [Observation(point, point.time, self.head(point, step) if point.weights else None)]
 
-    def row(self, point: Point, n: int) -> list[str]:
-        time = self.ends[n] if point.time is None else point.time
-        head, measured = ["", ""], ["" if point.measured is None else f"{float(point.measured):.12g}", "", ""]
-        if point.weights:
-            low, high = self.head(point, n)
-            head = [decimal_text(low, 9), decimal_text(high, 9)]
-            if point.measured is not None:
-                units = point.measured * UNITS_IN_ONE
-                measured[1:] = decimal_text(math.floor(units - high), 9), decimal_text(math.ceil(units - low), 9)
-        count = str(len(point.weights)) if point.weights else "0"
-        cell = map(str, point.cell) if point.cell else ["", "", ""]
-        return [point.name, *cell, f"{float(time):.12g}", *head, *measured, count]
+
+@dataclass
+class Observed:
+    """The points of a file with their heads; the date of the model's start, where times were given as dates."""
+
+    observations: list[Observation]
+    model: Model
+    start: date | None = None
+
+    def table(self) -> str:
+        """The table as CSV, with a date at each line's end where the file had dates."""
+        text, itmuni = io.StringIO(), self.model.deck.itmuni
+        writer = csv.writer(text, lineterminator="\n")
+        writer.writerow(HEADER + ["date"] * (self.start is not None))
+        for each in self.observations:
+            writer.writerow(each.row() + [date_text(self.start, each.time, itmuni)] * (self.start is not None))
+        return text.getvalue()
+
+    def lacking(self) -> list[str]:
+        """A sentence on each point that has no head, and on what was measured in all."""
+        points = [each.point for each in self.observations]
+        return list(dict.fromkeys(f"{p.name} has no head: {p.why}" for p in points if p.why)) + self.residuals()
+
+    def residuals(self) -> list[str]:
+        """What was measured less the heads, in all: between which numbers the mean and the root of the mean square of
+        every exact solution lie, and how many heads no exact solution has."""
+        pairs = [each.less for each in self.observations if each.less is not None]
+        if not pairs:
+            return []
+        count = len(pairs)
+        sums = [sum(side) for side in zip(*pairs)]
+        mean = math.floor(Fraction(sums[0], count)), math.ceil(Fraction(sums[1], count))
+        least = sum(max(low, -high, 0) ** 2 for low, high in pairs)
+        most = sum(max(abs(low), abs(high)) ** 2 for low, high in pairs)
+        root = math.isqrt(least // count), math.isqrt(-(-most // count)) + 1
+        outside = sum(each.is_impossible for each in self.observations)
+        return [
+            f"Measured less head, {counted(count, 'value')}: mean {down(mean[0], 9)} to {up(mean[1], 9)}, root of the "
+            f"mean square {down(root[0], 9)} to {up(root[1], 9)}; {outside} of {count} measured heads are of no exact"
+            " solution"
+        ]
 
 
 def observe(
@@ -105,44 +172,13 @@ def observe(
     model: Model,
     path: Path,
     place: Place = Place(),
-    out: Path | None = None,
     is_between: bool = False,
-) -> tuple[list[str], list[str]]:
-    """The table of the points of a file, written where `out` names a file: its lines, and a sentence on each point
-    that has no head, and on what was measured in all."""
-    points = Points(path, listing, model, place, is_between).read()
+    start: date | None = None,
+) -> Observed:
+    """The points of a file, a table or a HOB file, with their heads."""
+    file = Points(path, listing, model, place, is_between, start)
     observer = Observer(listing, model)
-    table = io.StringIO()
-    rows = [HEADER, *(row for point in points for row in observer.rows(point))]
-    csv.writer(table, lineterminator="\n").writerows(rows)
-    lacking = list(dict.fromkeys(f"{p.name} has no head: {p.why}" for p in points if p.why)) + residuals(rows[1:])
-    if not out:
-        return table.getvalue().rstrip("\n").split("\n"), lacking
-    with whole_file(out) as file:
-        file.write(table.getvalue())
-    return [f"written: {out} ({len(rows) - 1} lines)"], lacking
-
-
-def residuals(rows: list[list[str]]) -> list[str]:
-    """What was measured less the heads, in all: between which numbers the mean and the root of the mean square of every
-    exact solution lie, and how many heads no exact solution has."""
-    low_at, high_at = HEADER.index("measured_less_upper"), HEADER.index("measured_less_lower")
-    pairs = [(units_of(row[low_at]), units_of(row[high_at])) for row in rows if row[low_at]]
-    if not pairs:
-        return []
-    count = len(pairs)
-    sums = [sum(side) for side in zip(*pairs)]
-    mean = math.floor(Fraction(sums[0], count)), math.ceil(Fraction(sums[1], count))
-    least = sum(max(low, -high, 0) ** 2 for low, high in pairs)
-    most = sum(max(abs(low), abs(high)) ** 2 for low, high in pairs)
-    root = math.isqrt(least // count), math.isqrt(-(-most // count)) + 1
-    outside = sum(low > 0 or high < 0 for low, high in pairs)
-    return [
-        f"Measured less head, {counted(count, 'value')}: mean {down(mean[0], 9)} to {up(mean[1], 9)}, root of the mean "
-        f"square {down(root[0], 9)} to {up(root[1], 9)}; {outside} of {count} measured heads are of no exact solution"
-    ]
-
-
-def units_of(text: str) -> int:
-    """A decimal of nine places as a whole number of 10^-9."""
-    return int(Fraction(text) * UNITS_IN_ONE)
+    observations = [each for point in file.read() for each in observer.of_point(point)]
+    if observations and all(each.point.why for each in observations):
+        raise Problem(f"{path}: no point has a head; {observations[0].point.name}: {observations[0].point.why}")
+    return Observed(observations, model, start if file.has_dates else None)

@@ -3,7 +3,8 @@ from __future__ import annotations
 
 import csv
 import math
-from dataclasses import dataclass, field
+from dataclasses import dataclass, field, replace
+from datetime import date
 from fractions import Fraction
 from pathlib import Path
 
@@ -11,6 +12,7 @@ import numpy as np
 
 from ..common.spelling import quoted_words
 from ..common.text import Problem, read_text
+from ..deck.dates import is_date, time_since
 from ..deck.model import Model, exact_value
 from ..deck.places import Place
 from .between import HALF, Cell, Spot, Weights, mixed, weights_of
@@ -24,7 +26,7 @@ MOST_OFF_ONE = Fraction(2, 100)
 class Point:
     """An observation: the cell that it is told of (None: outside the grid), the time since the start (None: every
     step), what was measured (None: nothing), the weights of the cells that its head is made of (none: `why` it has no
-    head)."""
+    head); `weight`: that of the measurement in a calibration."""
 
     name: str
     cell: Cell | None
@@ -32,18 +34,22 @@ class Point:
     measured: Fraction | None
     weights: Weights = field(default_factory=dict)
     why: str = ""
+    weight: float = 1.0
 
 
 @dataclass
 class Points:
     """A file of points, read for a listing and its model. `is_between`: points of a map lie between the middles of
-    cells, and aren't those of their cell."""
+    cells, and aren't those of their cell. `start`: the date on which the model starts. `has_dates`: some time of the
+    file is a date."""
 
     path: Path
     listing: Listing
     model: Model
     place: Place = Place()
     is_between: bool = False
+    start: date | None = None
+    has_dates: bool = False
 
     def read(self) -> list[Point]:
         """The points of a table with a header (name, x, y or row, col; layer, time, measured may lack) or of a HOB
@@ -73,19 +79,26 @@ class Points:
             layer = int(number("layer") or 1)
             x, y = (float(text(name)) if text("x") else math.nan for name in "xy")
             cell = None if text("x") else (layer, int(text("row")), int(text("col")))
-            name, time, measured = (row.get("name") or f"point {n - 1}").strip(), number("time"), number("measured")
+            name, measured = (row.get("name") or f"point {n - 1}").strip(), number("measured")
+            when = (row.get("date") or row.get("time") or "").strip()
+            self.has_dates = self.has_dates or is_date(when)
+            time = time_since(self.start, when, self.model.deck.itmuni) if is_date(when) else number("time")
+            weight = float(text("weight")) if text("weight") else 1.0
+        except Problem as error:
+            raise Problem(f"{self.path}, line {n}: {error}") from None
         except (ValueError, TypeError, KeyError):
             raise Problem(
-                f"{self.path}, line {n}: a line is name,x,y or name,row,col, with layer, time and measured where they"
-                " are known"
+                f"{self.path}, line {n}: a line is name,x,y or name,row,col, with layer, time (or date), measured and"
+                " weight where they are known"
             ) from None
         if cell:
-            return self.made(name, [(Spot(cell), ONE)], time, measured)
+            return replace(self.made(name, [(Spot(cell), ONE)], time, measured), weight=weight)
         try:
             spot = spot_at(self.model, self.place, layer, x, y)
         except Problem as error:
-            return Point(name, None, time, measured, why=str(error))
-        return self.made(name, [(spot if self.is_between else Spot(spot.cell), ONE)], time, measured)
+            return Point(name, None, time, measured, why=str(error), weight=weight)
+        spots = [(spot if self.is_between else Spot(spot.cell), ONE)]
+        return replace(self.made(name, spots, time, measured), weight=weight)
 
     def made(
         self, name: str, spots: list[tuple[Spot, Fraction]], time: Fraction | None, measured: Fraction | None
