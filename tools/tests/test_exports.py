@@ -126,6 +126,8 @@ def test_vtk_has_a_hexahedron_for_each_cell(valley, tmp_path):
         len(mesh.cells[0].data) == len(listing.cells)
         and mesh.cell_data["lower"][0][0] == listing.lower()[-1].ravel()[0]
     )
+    # Corners that cells share stand once: the valley is one layer of 20 by 30 cells, flat above and below.
+    assert len(mesh.points) == 2 * 21 * 31
     x, y, z = mesh.points.T
     assert (x.min(), x.max(), y.min()) == (100, 100 + model.delr.sum(), 200) and z.max() == model.top.max()
 
@@ -162,7 +164,7 @@ def test_the_change_of_two_runs_is_exported_with_bounds(example, tool, tmp_path)
     plan, base = (heads_tools.run(nam.parent / name).listing for name in ("two_wells.nam", "no_well.nam"))
     words = "export", plan.path, tmp_path, "--name", nam.parent / "two_wells.nam", "--minus", base.path
     status, out, err = tool(*words)
-    assert status == 0 and out.count("written: ") == 4 and "--base-name" in out, out + err
+    assert status == 0 and out.count("written: ") == 5 and "--base-name" in out, out + err
     with xarray.open_dataset(tmp_path / "change.nc") as data:
         assert data.lower.attrs["comment"].startswith("Not checked")
     status, out, err = tool(*words, "--base-name", nam.parent / "no_well.nam")
@@ -181,7 +183,7 @@ def test_the_change_of_two_runs_is_exported_with_bounds(example, tool, tmp_path)
 def test_export_says_what_it_could_not_write(valley, tool, tmp_path):
     nam, model, listing = valley
     status, out, err = tool("export", listing.path, tmp_path / "out", "--name", nam, "--at", "100,200,15,28992")
-    assert status == 0 and out.count("written: ") == 4
+    assert status == 0 and out.count("written: ") == 5
     assert tool("export", listing.path, tmp_path / "out", "--name", nam, "--at", "here")[0] == 2
     assert tool("export", listing.path, tmp_path / "out", "--name", nam, "--as", "shp")[0] == 2
 

@@ -1,6 +1,8 @@
 """The modules of heads_tools: in layers, without import cycles, none too long to be read at once."""
 import ast
 import re
+import subprocess
+import sys
 
 import pytest
 from conftest import TOOLS
@@ -71,3 +73,11 @@ def test_a_module_can_be_read_at_once(module):
 def test_each_folder_is_in_the_wheel():
     listed = re.findall(r'^    "heads_tools(?:\.(\w+))?",$', (TOOLS / "pyproject.toml").read_text(), re.M)
     assert sorted(listed) == sorted({folder_of(module) for module in MODULES}) == sorted(set().union(*LAYERS))
+
+
+def test_a_command_without_pictures_loads_neither_matplotlib_nor_scipy():
+    """Both take longer to load than most commands do."""
+    code = "import sys, heads_tools; from heads_tools.commands import command; command('run'); command('hds')"
+    code += "; print({'matplotlib', 'scipy'} & set(sys.modules))"
+    done = subprocess.run([sys.executable, "-c", code], cwd=TOOLS, capture_output=True, text=True)
+    assert done.stdout == "set()\n", done.stdout + done.stderr

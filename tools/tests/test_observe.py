@@ -292,7 +292,7 @@ def test_a_time_outside_the_listing_leaves_the_other_points(pumped, tool, tmp_pa
 
 @pytest.mark.program
 def test_files_for_pest_name_each_observation_where_its_number_stands(pumped, tool, tmp_path):
-    """The instructions, followed by hand, find the middle of the pair of each point; names are of 20 letters, once each."""
+    """The instructions, followed by hand, find the middle of each pair; names are of 20 letters, once each."""
     points = "Well 7 (deep filter of 1970),1,2,1,3.5,2\nWell 7 (deep filter of 1970),1,3,1,3.25,\nno head,1,4,1,,\n"
     status, rows, err = observed(tool, pumped, PUMPED.format("time", points), tmp_path, "--pest", tmp_path / "pest")
     assert status == 0 and "2 observations in observed.out" in err, err

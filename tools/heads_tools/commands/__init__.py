@@ -18,7 +18,7 @@ HELP = {
     "certify": "certified bounds from any solver's heads: margins by a sparse solve, then heads check",
     "check": "certify a listing by heads check, or piece by piece",
     "hds": "a head file for FloPy, ModelMuse, Model Viewer",
-    "export": "NetCDF, GeoTIFF, VTK and CSV of a listing, each if its package is here",
+    "export": "NetCDF, GeoTIFF, GeoPackage, VTK and CSV of a listing, each if its package is here",
     "observe": "heads at points, by a table name,x,y,layer,time,measured or a HOB file: lower, upper, measured",
     "template": "the deck with templates of its arrays in the form of PEST, for calibration and `ensemble`",
     "ensemble": "many samples of a deck from templates and a table: least and most head at chosen places, no bounds",

@@ -14,10 +14,10 @@ from .shared import existing, flags_of, place_for, say
 from .words import add_cells, add_force, add_quick, add_wide, add_words
 
 ENSEMBLE = """\
-Fills the templates (--tpl m.lpf.tpl, in the form of PEST; `heads-tools template` writes some) with each line of VALUES, a
-table whose first line names the marks, runs all the decks as a batch, and collects the lower and upper heads at the
-cells and points: samples.csv has those of each sample, least_most.csv the least lower and the most upper head of all.
-These are samples: they bound no model but their own. (Bounds for all stresses between two decks: heads run --to.)"""
+Fills the templates (--tpl m.lpf.tpl, in the form of PEST; `heads-tools template` writes some) with each line of
+VALUES, a table whose first line names the marks, runs all the decks as a batch, and collects the lower and upper heads
+at the cells and points: samples.csv has those of each sample, least_most.csv the least lower and the most upper head of
+all. These are samples: each bounds its own model alone. (Bounds for all stresses between two decks: heads run --to.)"""
 
 
 def add(sub: argparse.ArgumentParser) -> None:

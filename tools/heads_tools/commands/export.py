@@ -22,10 +22,10 @@ def add(sub: argparse.ArgumentParser) -> None:
     add_words(sub, LISTING, ("folder", "the folder to write into"))
     add_place(sub, True)
     sub.add_argument(
-        "--as", dest="formats", default="nc,tif,vtu,csv", metavar="LIST", help="of nc, tif, vtu, csv (all)"
+        "--as", dest="formats", default=",".join(FORMATS), metavar="LIST", help="of nc, tif, gpkg, vtu, csv (all)"
     )
     sub.add_argument(
-        "--last", action="store_true", help="GeoTIFF and VTK of the last step alone, and not of every step"
+        "--last", action="store_true", help="GeoTIFF, VTK and GeoPackage of the last step alone, and not of every step"
     )
     sub.add_argument(
         "--minus", type=Path, metavar="BASE.HEADS", help="another listing: export the change of the heads, with bounds"

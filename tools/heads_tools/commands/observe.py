@@ -39,7 +39,8 @@ def add(sub: argparse.ArgumentParser) -> None:
     sub.add_argument(
         "--start",
         metavar="YYYY-MM-DD",
-        help="the date on which the model starts, for points with dates; that of the name file's comments where left out",
+        help="the date on which the model starts, for points with dates; that of the name file's comments where left "
+        "out",
     )
     sub.add_argument(
         "--picture", type=Path, metavar="FILE.PNG", help="a picture: measured beside lower and upper heads"

@@ -13,7 +13,7 @@ from ..listing.below_top import lines_below_top
 from ..listing.made_by import made_by
 from ..listing.spans import second_deck, target_of
 from ..program.explain import Meaning, explain
-from ..program.follow import MOST_WATCHED
+from ..program import follow
 from ..program.program import Ended, digits_of, run, with_wide
 from .shared import MOST_DIGITS, Ran, existing, flags_of, say
 from .words import NAM, WIDE_RUN, add_force, add_quick, add_to, add_wide, add_words
@@ -41,7 +41,7 @@ def ran(args: argparse.Namespace, options: list[str], out: IO[str]) -> Ran:
         print(f"CAREFUL: {warning}", file=sys.stderr)
     target = (args.out or target_of(nam, to)).resolve()
     digits, tried, (steps, cells) = digits_of(options), [], size_of(nam)
-    is_followed = steps is not None and cells * steps <= MOST_WATCHED
+    is_followed = steps is not None and cells * steps <= follow.MOST_WATCHED
     ended = run(nam, options, target, steps, not args.quiet, is_followed)
     while True:
         if more := with_wide(ended, options, nam.parent):

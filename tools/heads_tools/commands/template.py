@@ -16,10 +16,10 @@ from .words import NAM, add_words
 NOTES = "template.txt"
 VALUES = "values.csv"
 TEMPLATE = """\
-Writes the deck into FOLDER in the spelling that heads reads, and beside it m.lpf.tpl, m.rch.tpl and m.evt.tpl: templates
-in the form of PEST. The factor of each array of HK, HANI, VKA, SS, VKCB (by layer: @hk_1@), RECH and EVTR (by stress
-period: @rech_1@) is a mark, or its value where it is constant. values.csv has the marks with the deck's own numbers: a
-table for `heads-tools ensemble`."""
+Writes the deck into FOLDER in the spelling that heads reads, and beside it m.lpf.tpl, m.rch.tpl and m.evt.tpl:
+templates in the form of PEST. The factor of each array of HK, HANI, VKA, SS, VKCB (by layer: @hk_1@), RECH and EVTR (by
+stress period: @rech_1@) is a mark, or its value where it is constant. values.csv has the marks with the deck's own
+numbers: a table for `heads-tools ensemble`."""
 
 
 def add(sub: argparse.ArgumentParser) -> None:

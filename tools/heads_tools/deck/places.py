@@ -24,8 +24,8 @@ def fields_of(nam: Path) -> dict[str, str]:
 
 
 def named_place(deck: Deck) -> tuple[Place | None, str]:
-    """The place that a deck's comments give to its grid, and where they stand; none where they don't: FloPy's in the name
-    file, ModelMuse's in DIS."""
+    """The place that a deck's comments give to its grid, and where they stand; none where they don't: FloPy's in the
+    name file, ModelMuse's in DIS."""
     place = place_of_fields(fields_of(deck.path))
     if place is not None:
         return place, f"the comments of {deck.path.name}"

@@ -116,5 +116,6 @@ def files_of_deck(nam: Path) -> list[Path]:
         try:
             out.append(path.relative_to(nam.resolve().parent))
         except ValueError:
-            raise Problem(f"{path} lies outside of the folder of {nam.name}, so copies of the deck can't have it") from None
+            said = f"{path} lies outside of the folder of {nam.name}, so copies of the deck can't have it"
+            raise Problem(said) from None
     return list(dict.fromkeys(out))

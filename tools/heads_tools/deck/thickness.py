@@ -64,8 +64,8 @@ def demand_even_thickness(reading: Reading) -> None:
                 "refusals",
                 deck.files["LPF"],
                 1,
-                f"UPW, and the neighbours {one} and {two} (layer row column) aren't equally thick: MODFLOW-NWT takes the"
-                " thickness of the upstream cell there, LPF both",
+                f"UPW, and the neighbours {one} and {two} (layer row column) aren't equally thick: MODFLOW-NWT takes"
+                " the thickness of the upstream cell there, LPF both",
             )
             return
 

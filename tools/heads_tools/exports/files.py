@@ -12,12 +12,14 @@ from ..common.whole_files import draft_of, whole_file, write_whole
 from ..deck.model import Model
 from ..deck.places import Place
 from ..listing.listing import Listing
+from ..listing.tables import write_heads_table
 from ..program.about import write_about
 from ..program.verdict import NO_CHECK, Verdict, not_checked
-from .exports import Unwritten, comment_of, demand_unit, facts_for, heads_frame, package, time_of
+from .exports import Unwritten, comment_of, demand_unit, facts_for, middles, package, time_of
+from .geopackage import to_geopackage
 from .netcdf import to_netcdf
 
-FORMATS = ("nc", "tif", "vtu", "csv")
+FORMATS = ("nc", "tif", "gpkg", "vtu", "csv")
 BY_STEPS = ("tif", "vtu")
 
 
@@ -37,7 +39,7 @@ def to_geotiff(
 
     for name, widths in (("DELR", model.delr), ("DELC", model.delc)):
         if widths.max() - widths.min() > 1e-9 * widths.max():
-            raise Unwritten(f"a GeoTIFF has cells of one width, and {name} differs: take NetCDF or VTK")
+            raise Unwritten(f"a GeoTIFF has cells of one width, and {name} differs: take GeoPackage, NetCDF or VTK")
     demand_unit(model, place)
     x, y = place.world(np.array(0.0), np.array(model.delc.sum()))
     corner, turn = Affine.translation(float(x), float(y)), Affine.rotation(place.angle)
@@ -82,10 +84,10 @@ def to_vtk(
     named. `verdict`: what `heads check` said of the listing, which stands in a comment of the file."""
     meshio, path = package("meshio"), Path(path)
     k, i, j = (listing.cells - 1).T
-    points = corners(listing, model, place)
+    points, cells = shared(corners(listing, model, place))
     lower, upper = step_of(listing, model, at)
     data = {"lower": [lower[k, i, j]], "upper": [upper[k, i, j]], "layer": [k + 1]}
-    mesh = meshio.Mesh(points, [("hexahedron", np.arange(len(points)).reshape(-1, 8))], cell_data=data)
+    mesh = meshio.Mesh(points, [("hexahedron", cells)], cell_data=data)
     facts = facts_for(listing, verdict)
     told = "".join(f"{name}: {text}\n" for name, text in facts.items()).replace("--", "- -")
     with draft_of(path) as draft:
@@ -109,6 +111,13 @@ def corners(listing: Listing, model: Model, place: Place) -> np.ndarray:
     levels = bottom, bottom + model.thick[k, i, j]
     found = [(*place.world(x[j + dx], y[i + dy]), z) for z in levels for dx, dy in ((0, 1), (1, 1), (1, 0), (0, 0))]
     return np.array([np.broadcast_arrays(*corner) for corner in found]).transpose(2, 0, 1).reshape(-1, 3)
+
+
+def shared(points: np.ndarray) -> tuple[np.ndarray, np.ndarray]:
+    """The points without repetition, and for each cell the numbers of its eight: cells that meet in a corner share it,
+    so that ParaView can go from cells to points."""
+    unique, at = np.unique(points, axis=0, return_inverse=True)
+    return unique, at.reshape(-1, 8)
 
 
 def write_series(path: Path, files: list[tuple[Path, float]]) -> None:
@@ -144,6 +153,7 @@ def export(
     seen = verdict or not_checked(listing, NO_CHECK)
     whole: dict[str, Callable[[Path], None]] = {
         "nc": lambda path: to_netcdf(path, listing, model, place, seen, start),
+        "gpkg": lambda path: to_geopackage(path, listing, model, place, seen, is_last),
         "csv": lambda path: to_csv(path, listing, model, place, seen),
     }
     said = []
@@ -162,11 +172,19 @@ def export(
 
 
 def to_csv(path: Path, listing: Listing, model: Model, place: Place, verdict: Verdict) -> None:
-    """A table of all steps and cells, with the verdict in a file beside it."""
-    frame = heads_frame(listing, model, place)
-    with whole_file(path) as file:
-        frame.to_csv(file, index=False)
+    """The table of all steps and cells that `look` writes, and cells.csv with the cells' middles on the map, tops and
+    bottoms; the verdict in a file beside each."""
+    write_heads_table(path, listing, model.times)
     write_about(path, verdict)
+    x, y = middles(model)
+    k, i, j = (listing.cells - 1).T
+    bottom = model.bottom[k, i, j]
+    columns = [*(listing.cells.T), *place.world(x[j], y[i]), bottom + model.thick[k, i, j], bottom]
+    cells = path.with_name("cells.csv")
+    with whole_file(cells) as file:
+        file.write("layer,row,col,x,y,top,bottom\n")
+        file.writelines("%d,%d,%d,%.12g,%.12g,%.12g,%.12g\n" % row for row in zip(*columns))
+    write_about(cells, verdict)
 
 
 def export_steps(

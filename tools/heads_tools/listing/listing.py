@@ -171,9 +171,9 @@ def listing_bytes(path: Path) -> bytes:
 
 
 def read_listing(path: str | Path, has_convertible: bool = False) -> Listing:
-    """Reads a listing; one of a model with convertible layers only where that is asked for. One that ended early is read
-    as far as its steps are whole; `end` is its last line. One that a shell or a mail program has written in UTF-16 or
-    with CR LF is read as `heads` wrote it; `sha256` is of that."""
+    """Reads a listing; one of a model with convertible layers only where that is asked for. One that ended early is
+    read as far as its steps are whole; `end` is its last line. One that a shell or a mail program has written in UTF-16
+    or with CR LF is read as `heads` wrote it; `sha256` is of that."""
     content = listing_bytes(Path(path))
     lines = content.decode("latin-1").split("\n")
     first = lines[0].split()

@@ -1,5 +1,5 @@
-"""Heads at observation points as PEST reads them: an output file of the model, its instructions (.ins), and the lines of
-the control file that say what was measured."""
+"""Heads at observation points as PEST reads them: an output file of the model, its instructions (.ins), and the lines
+of the control file that say what was measured."""
 from __future__ import annotations
 
 import itertools
@@ -53,7 +53,8 @@ def write_pest(folder: Path, observations: list[Observation]) -> list[str]:
         file.write("pif @\n@heads-tools@\n")
         file.writelines(f"l1 [{name}]{COLUMNS[0] + 1}:{COLUMNS[1]}\n" for name in names)
     with whole_file(folder / MEASURED) as file:
-        file.write("# heads-tools: sections of a control file of PEST\n* observation groups\nheads\n* observation data\n")
+        file.write("# heads-tools: sections of a control file of PEST\n")
+        file.write("* observation groups\nheads\n* observation data\n")
         for name, each in zip(names, kept):
             file.write(f"{name:<{COLUMNS[0]}}{float(each.point.measured or 0):.12e} {each.point.weight:g} heads\n")
         file.write(f"* model input/output\n{INSTRUCTIONS} {OUTPUT}\n")

@@ -51,18 +51,25 @@ def budget_of(step: Step) -> Budget:
     return Budget(rows, nets, discrepancy)
 
 
+def write_heads_table(
+    path: Path, listing: Listing, times: dict[tuple[int, int], tuple[float, float]] | None
+) -> None:
+    """The heads of all steps as a table, with all nine decimals."""
+    with whole_file(path) as file:
+        file.write("period,step,time,layer,row,col,lower,upper\n")
+        for step in listing.steps:
+            time = f"{times[step.period, step.step][1]:.12g}" if times and (step.period, step.step) in times else ""
+            head = f"{step.period},{step.step},{time}"
+            write_cells(file, f"{head},", ",", listing.cells, step.low, step.high)
+
+
 def write_tables(
     listing: Listing, folder: Path, times: dict[tuple[int, int], tuple[float, float]] | None
 ) -> list[str]:
     """heads.csv, budget.csv and, where there are zones, zones.csv: their names. Every bound stands there with all its
     digits."""
     places = listing.flow_places
-    with whole_file(folder / "heads.csv") as file:
-        file.write("period,step,time,layer,row,col,lower,upper\n")
-        for step in listing.steps:
-            time = f"{times[step.period, step.step][1]:.12g}" if times and (step.period, step.step) in times else ""
-            head = f"{step.period},{step.step},{time}"
-            write_cells(file, f"{head},", ",", listing.cells, step.low, step.high)
+    write_heads_table(folder / "heads.csv", listing, times)
     with whole_file(folder / "budget.csv") as file:
         file.write(
             "period,step,term,in_lower,in_upper,out_lower,out_upper,net_lower,net_upper,narrowed_lower,narrowed_upper\n"

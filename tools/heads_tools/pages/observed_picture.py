@@ -31,7 +31,8 @@ def draw_observed(path: Path, seen: Observed) -> None:
     with Album(path.parent).figure(path.stem, SIDE + 0.9, SIDE + 1.1) as figure:
         axes = box(figure, 0.75, 0.95, SIDE, SIDE)
         axes.plot(ends, ends, color="0.6", lw=0.8, label="measured head")
-        for mask, colour, name in ((~impossible, FITS, "lower to upper head"), (impossible, IMPOSSIBLE, "of no exact solution")):
+        kinds = (~impossible, FITS, "lower to upper head"), (impossible, IMPOSSIBLE, "of no exact solution")
+        for mask, colour, name in kinds:
             if mask.any():
                 axes.vlines(measured[mask], *pairs[mask].T, color=colour, lw=1.2, label=name)
                 axes.plot(measured[mask], pairs[mask].mean(axis=1), ls="", marker="o", ms=3.5, color=colour)

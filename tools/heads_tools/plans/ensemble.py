@@ -30,8 +30,8 @@ NO_BOUNDS = (
 
 @dataclass
 class Asked:
-    """What is asked for: the deck, the table of values, the templates, the cells, a file of points and the grid's place,
-    the options of the runs, how many at a time."""
+    """What is asked for: the deck, the table of values, the templates, the cells, a file of points and the grid's
+    place, the options of the runs, how many at a time."""
 
     nam: Path
     values: Path
