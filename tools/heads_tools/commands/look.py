@@ -5,9 +5,11 @@ import argparse
 from pathlib import Path
 from typing import IO
 
+from ..common.whole_files import whole_folder
 from ..deck.model import read_model
 from ..listing.zones import read_zones
-from ..pages.look import look
+from ..pages.look import look, look_at_map
+from ..pages.map_page import NAME
 from ..program.verdict import status_of
 from .shared import existing, listing_of, model_for_zones, page_folder, say, verdict_of
 from .words import LISTING, add_force, add_to, add_wide, add_words, cell
@@ -49,6 +51,12 @@ def add(sub: argparse.ArgumentParser) -> None:
         metavar="M.ZON",
         help="the zone file of the run: a map of the zones with their net flows, which heads check then checks, too",
     )
+    sub.add_argument(
+        "--page",
+        action="store_true",
+        help="the interactive map alone, FOLDER/map.html, in one file: layers, steps, sections, curves over time, and "
+        "both heads of the cell that one points at",
+    )
     add_wide(sub)
     sub.add_argument("--every", action="store_true", help="maps of every step, and not of the last alone")
     sub.add_argument("--svg", action="store_true", help="each picture as SVG, too")
@@ -63,6 +71,11 @@ def do(args: argparse.Namespace, _: list[str], out: IO[str]) -> int:
     given = existing(args.given) if args.given else None
     zones = read_zones(existing(args.zones), existing(args.name), model.shape) if args.zones and model else None
     base = listing_of(args.minus) if args.minus else None
+    if args.page:
+        with whole_folder(args.folder, NAME) as folder:
+            said = look_at_map(listing, folder, model, verdict, zones, base)
+        say(said + [f"open {args.folder / NAME}"], out)
+        return status_of(args.name, verdict)
     with page_folder(args.folder) as folder:
         said = look(listing, folder, model, args.cell, given, args.every, verdict, zones, base, args.svg)
     say(said + [f"open {args.folder / 'index.html'}"], out)

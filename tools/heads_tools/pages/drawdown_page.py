@@ -10,6 +10,7 @@ from ..plans.drawdown import Cell, Change, Drawdown, Pair, place_of
 from ..program.verdict import Verdict
 from . import curves, maps
 from .looking import plan_for, title_of
+from .map_page import NAME, write_drawdown_map
 from .page import Page, write_page
 from .page_facts import Facts, facts_of, facts_of_making
 from .pictures import Album
@@ -132,6 +133,8 @@ def draw(it: Drawdown, folder: Path, cells: list[Cell], files: list[str]) -> Non
             rows.append([place_of(cell)[3:], it.at(change), *fall_pair(change, at)])
     page.text("Drawdown", f"In {it.unit}, at the end of the last step, and of that where it is deepest in the cell.")
     page.table("Drawdown", ["cell", "at the end of", "from", "to"], rows)
+    if about := write_drawdown_map(it, folder, page):
+        page.add("Maps", f'<p><a href="{NAME}">A map to point at</a>: {about}</p>')
     album = Album(folder)
     draw_maps(it, album, page)
     draw_curves(it, album, page, chosen)

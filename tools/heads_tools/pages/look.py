@@ -7,13 +7,13 @@ from typing import Sequence
 import numpy as np
 
 from ..listing.listing import Cell, Listing
-from .live_map import NAME, write_live_map
 from .look_flows import Flows
 from .look_others import Others
 from .look_sections import Sections
 from .look_tops import Tops
 from .looking import HEADS, title_of
 from ..deck.model import Model
+from .map_page import NAME, write_map
 from .page import write_page
 from ..listing.tables import write_tables
 from ..common.text import Problem
@@ -52,7 +52,7 @@ def look(
             "Its pairs are bounds only where a run ends with END."
         )
     last = listing.steps[-1]
-    it.jobs.append(lambda: add_live_map(it))
+    it.jobs.append(lambda: add_map(it, base, zones))
     it.add_steps(listing.steps if is_every else [last])
     it.add_below_top()
     it.add_sections(last, *(cells[0][1:] if cells else it.place[1:]))
@@ -74,9 +74,27 @@ def look_at_given(listing: Listing, folder: Path, model: Model | None, verdict: 
     finish(it)
 
 
-def add_live_map(it: Look) -> None:
+def look_at_map(
+    listing: Listing,
+    folder: Path,
+    model: Model | None = None,
+    verdict: Verdict | None = None,
+    zones: np.ndarray | None = None,
+    base: Listing | None = None,
+) -> list[str]:
+    """Writes the interactive map alone; what there is to say about it."""
+    it = Look(listing, folder, model, verdict)
+    make_folder(folder)
+    about = write_map(it, base, zones, is_alone=True)
+    if not about:
+        raise Problem(f"{listing.path} has more cells than a map has room for: look without --page draws pictures")
+    tops = it.below_top.sentences(it.verdict.is_certified) if it.below_top else []
+    return [it.verdict.sentence, f"{listing.summary()} in {it.unit}", *tops]
+
+
+def add_map(it: Look, base: Listing | None, zones: np.ndarray | None) -> None:
     """The map to point at, beside the page, with a link to it."""
-    if about := write_live_map(it):
+    if about := write_map(it, base, zones):
         it.page.add(HEADS, f'<p><a href="{NAME}">A map to point at</a>: {about}</p>')
 
 

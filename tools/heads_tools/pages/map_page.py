@@ -1,0 +1,158 @@
+"""map.html: an interactive map of a listing, or of a plan beside its base, in one file without a library or a server."""
+from __future__ import annotations
+
+import json
+from functools import cache
+from html import escape
+from pathlib import Path
+from string import Template
+from typing import Sequence
+
+import numpy as np
+
+from ..listing.below_top import units_at
+from ..listing.listing import Listing, Step
+from .looking import Looking, plan_for
+from .map_data import CHANGE, FALL, HEAD, Difference, Field, Scene, bottoms_of
+from ..deck.model import Model
+from .one_page import one_script, policy
+from ..plans.drawdown import Drawdown
+from .page import Page, bare, shown
+from ..common.text import Problem
+from ..common.whole_files import whole_file
+
+PARTS = Path(__file__).parents[1] / "map"
+NAME = "map.html"
+MOST_PAIRS = 1_500_000
+
+
+def steps_of(steps: Sequence[Step], cells: int, fields: int) -> list[Step]:
+    """The steps that a map has room for, the last among them; none where one has too many cells."""
+    room = MOST_PAIRS // max(1, cells * fields)
+    return list(steps[::-1][:: -(-len(steps) // room)][::-1]) if room else []
+
+
+def names_of(steps: Sequence[Step], model: Model | None) -> list[tuple[int, int, float]]:
+    """Period and step with the time at its end, or with its number where no times are known."""
+    times = model.times if model else {}
+    return [(s.period, s.step, times.get((s.period, s.step), (0, n))[1]) for n, s in enumerate(steps, 1)]
+
+
+def heads_of(name: str, steps: Sequence[Step]) -> Field:
+    return Field(name, HEAD, np.array([s.low for s in steps]), np.array([s.high for s in steps]))
+
+
+def source_of(*listings: Listing) -> str:
+    named = ", ".join(f"{it.path.name} (sha256 {it.sha256[:16]}..)" for it in listings)
+    return f"Made by heads-tools, which isn't proved, from {named}"
+
+
+def scene_of(it: Looking, steps: list[Step], base: Listing | None, zones: np.ndarray | None) -> Scene:
+    listing = it.listing
+    fields: list[Field | Difference] = [heads_of("head", steps)]
+    if base:
+        same = [base.step_at(s.period, s.step) for s in steps]
+        fields += [heads_of(f"head of {base.path.name}", same)]
+        fields += [Difference(f"head less that of {base.path.name}", CHANGE, (0, 1))]
+    return Scene(
+        it.page.title,
+        it.page.verdict.replace("`", ""),
+        source_of(listing, *([base] if base else [])),
+        it.shape,
+        it.plan,
+        listing.cells,
+        names_of(steps, it.model),
+        it.time if it.model else "",
+        fields,
+        it.below_top.tops if it.below_top else None,
+        bottoms_of(it.model.deck, listing.cells) if it.model else None,
+        zones[tuple((listing.cells - 1).T)] if zones is not None else None,
+    )
+
+
+def shared(listing: Listing, base: Listing | None) -> list[Step]:
+    """The steps of a listing, those alone that the other has, too."""
+    if base is None:
+        return listing.steps
+    if not np.array_equal(listing.cells, base.cells):
+        raise Problem(f"{base.path} has other cells with flow than {listing.path}: their heads can't be subtracted")
+    others = {(s.period, s.step) for s in base.steps}
+    return [s for s in listing.steps if (s.period, s.step) in others]
+
+
+def write_map(it: Looking, base: Listing | None = None, zones: np.ndarray | None = None, is_alone: bool = False) -> str:
+    """Writes the map of a listing: what there is to say of it beside its link; nothing where it isn't written. `is_alone`:
+    no other page is beside it."""
+    of = shared(it.listing, base)
+    steps = steps_of(of, len(it.listing.cells), 2 if base else 1)
+    if not steps:
+        return ""
+    about = left_out(len(of), len(steps), is_alone)
+    write(it.folder, it.page, scene_of(it, steps, base, zones), about, not is_alone)
+    return f"layers, steps, sections, and the two heads of the cell that you point at. {about}".strip()
+
+
+def left_out(count: int, kept: int, is_alone: bool) -> str:
+    if kept == count:
+        return ""
+    return f"{kept} of {count} steps" + (": the others are in the listing." if is_alone else ": the others are in the tables.")
+
+
+def write_drawdown_map(it: Drawdown, folder: Path, page: Page) -> str:
+    """The same of a plan beside its base: heads of both, and the drawdown between them."""
+    of = shared(it.plan, it.base)
+    steps = steps_of(of, len(it.plan.cells), 2)
+    if not steps:
+        return ""
+    model, cells = it.model, it.plan.cells
+    shape = model.shape if model else it.plan.shape
+    same = [it.base.step_at(s.period, s.step) for s in steps]
+    scene = Scene(
+        page.title,
+        page.verdict.replace("`", ""),
+        source_of(it.plan, it.base),
+        shape,
+        plan_for(model, shape, it.unit),
+        cells,
+        names_of(steps, model),
+        model.time if model else "",
+        [
+            heads_of("head", steps),
+            heads_of(f"head of {it.base.path.name}", same),
+            Difference("drawdown", FALL, (1, 0)),
+        ],
+        units_at(model.deck, cells, model.deck.top_of) if model else None,
+        bottoms_of(model.deck, cells) if model else None,
+    )
+    about = left_out(len(of), len(steps), False)
+    write(folder, page, scene, about, True)
+    return f"the drawdown and both heads of the cell that you point at. {about}".strip()
+
+
+@cache
+def parts() -> tuple[str, str, str]:
+    """The page's script, style and elements."""
+    names = [*(PARTS / "scripts.txt").read_text(encoding="utf-8").split(), "packed.mjs", "begin.mjs"]
+    script = one_script(PARTS / name for name in names)
+    style = "\n".join((PARTS / name).read_text(encoding="utf-8") for name in ("page.css", "map.css"))
+    return script, style, (PARTS / "parts.html").read_text(encoding="utf-8")
+
+
+def write(folder: Path, page: Page, scene: Scene, about: str, has_links: bool) -> None:
+    script, style, elements = parts()
+    data = json.dumps(scene.data(), separators=(",", ":")).replace("<", "\\u003c")
+    with whole_file(folder / NAME) as file:
+        file.write(
+            Template((PARTS / "page.html").read_text(encoding="utf-8")).substitute(
+                policy=policy(script, style),
+                style=style,
+                title=bare(page.title),
+                kind={True: "yes", False: "no", None: ""}[page.is_good],
+                verdict=shown(page.verdict),
+                map=elements,
+                about=escape(about),
+                links=' <a href="index.html">Tables and pictures</a>' if has_links else "",
+                data=data,
+                script=script,
+            )
+        )
