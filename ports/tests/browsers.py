@@ -19,7 +19,7 @@ from typing import Any
 import websocket
 
 SECONDS = 120
-CHROMIUM_WORDS = ["--headless=new", "--no-sandbox", "--disable-gpu", "--disable-dev-shm-usage"]
+CHROMIUM_WORDS = ["--headless=new", "--no-sandbox", "--disable-gpu", "--disable-dev-shm-usage", "--hide-scrollbars"]
 # Firefox takes what a page is told of the looks from here: 0 is dark, 1 is light.
 LOOKS = 'user_pref("layout.css.prefers-color-scheme.content-override", %d);\n'
 

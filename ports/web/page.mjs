@@ -1,7 +1,8 @@
 // The page: files come in, a worker runs the program, the result is shown.
-import { joined } from "./host.mjs";
+import { Folder, joined } from "./host.mjs";
 import { last_line } from "./listing.mjs";
-import { HeadMap } from "./map.mjs";
+import { HeadMap } from "../../tools/heads_tools/map/map.mjs";
+import { scene_of_listing } from "./scene_of.mjs";
 import { unzipped } from "./unzip.mjs";
 
 const at = (id) => document.getElementById(id);
@@ -29,10 +30,7 @@ function promise(command, is_two) {
 const held = new Map();
 /** The names of listings that the page made: those of files that were dropped are never taken. */
 const made = new Set();
-const map = new HeadMap({
-    canvas: at("canvas"), layer: at("layer"), step: at("step"), value: at("value"),
-    least: at("least"), greatest: at("greatest"), ramp: at("ramp"), said: at("cell"),
-});
+const map = new HeadMap(at("heads-map"));
 let saved;
 /** Ends the worker that runs, if one does. */
 let cancel;
@@ -139,7 +137,27 @@ function say(text, kind = "") {
     at("said").className = kind;
 }
 
-function begin() {
+/** Runs the program once in a worker; `told` is called with the count of steps. Its end, or that it was stopped. */
+function run(words, from, told = () => {}) {
+    const code = new Blob([at("worker").textContent], { type: "text/javascript" }), place = URL.createObjectURL(code);
+    const worker = new Worker(place);
+    return new Promise((done) => {
+        const end = (ended) => {
+            URL.revokeObjectURL(place);
+            worker.terminate();
+            cancel = undefined;
+            show_form();
+            done(ended);
+        };
+        cancel = () => end({ is_stopped: true });
+        worker.onmessage = ({ data }) => (data.steps === undefined ? end(data) : told(data.steps));
+        worker.onerror = (event) => end({ fault: event.message ?? "the worker failed" });
+        worker.postMessage({ packed: at("module").textContent, words, files: held, from });
+        show_form();
+    });
+}
+
+async function begin() {
     const from = folder_of(at("name").value), command = at("command").value, words = words_of(from);
     const began = performance.now(), line = `heads ${words.join(" ")}`;
     drop_result();
@@ -150,34 +168,10 @@ function begin() {
     let steps = 0;
     const seconds = () => `${((performance.now() - began) / 1000).toFixed(1)} s`;
     const clock = setInterval(() => say(`${line} .. ${steps ? `${steps} steps, ` : ""}${seconds()}`), 500);
-    const code = new Blob([at("worker").textContent], { type: "text/javascript" }), place = URL.createObjectURL(code);
-    const worker = new Worker(place);
-    const end = () => {
-        clearInterval(clock);
-        URL.revokeObjectURL(place);
-        worker.terminate();
-        cancel = undefined;
-        show_form();
-    };
-    cancel = end;
-    at("stop").onclick = () => {
-        end();
-        say(`${line}: stopped after ${seconds()}`, "bad");
-    };
-    worker.onmessage = ({ data }) => {
-        if (data.steps !== undefined) {
-            steps = data.steps;
-            return;
-        }
-        end();
-        show_end(command, line, data, seconds());
-    };
-    worker.onerror = (event) => {
-        end();
-        say(`${line}: no answer: ${event.message ?? "the worker failed"}`, "bad");
-    };
-    worker.postMessage({ packed: at("module").textContent, words, files: held, from });
-    show_form();
+    const ended = await run(words, from, (count) => (steps = count));
+    clearInterval(clock);
+    if (ended.is_stopped) return say(`${line}: stopped after ${seconds()}`, "bad");
+    return show_end(command, line, ended, seconds());
 }
 
 async function sha256(bytes) {
@@ -196,10 +190,29 @@ async function show_end(command, line, { status, out, side, taken, fault }, seco
     at("text").textContent = out.length > SHOWN ? `${text}\n..` : text;
     at("shown").hidden = false;
     if (status === 0 && command !== "check") keep(command, out);
-    const listing = command === "check" ? held.get(at("listing").value) : out;
-    at("map").hidden = status !== 0 || command === "write" || !map.show(listing);
-    if (!at("map").hidden) map.draw(false);
+    if (status === 0 && command !== "write") await show_map(command === "check" ? held.get(at("listing").value) : out, well);
     return undefined;
+}
+
+/** Shows the map of a listing, on the grid of its deck as the program reads that. */
+async function show_map(listing, verdict) {
+    const name = at("name").value, from = folder_of(name);
+    const { status, out } = await run(["write", from_folder(name, from), ...(at("wide").checked ? ["--wide"] : [])], from);
+    const source = `Made by heads.html, which isn't proved, of the listing with sha256 ${await sha256(listing)}`;
+    const about = { time: time_unit(name), title: name, verdict, source };
+    const scene = scene_of_listing(listing, status === 0 ? out : undefined, about);
+    at("map").hidden = !scene;
+    if (scene) map.show(scene);
+}
+
+/** ITMUNI, which `heads write` leaves out: the fifth number of the file DIS; 0 where it isn't found. */
+function time_unit(name) {
+    const text = (bytes) => new TextDecoder("latin1").decode(bytes.subarray(0, SHOWN));
+    const words = (line) => line.split(/[\s,]+/).filter(Boolean);
+    const line = text(held.get(name)).split("\n").map(words).find(([kind]) => /^dis$/i.test(kind ?? ""));
+    const file = line && new Folder(held, folder_of(name)).find(line[2].replaceAll("\\", "/"));
+    const first = file && text(file).split("\n").find((it) => it.trim() && !it.startsWith("#"));
+    return first ? Number(words(first)[4]) || 0 : 0;
 }
 
 /** Offers what was written as a file, and a listing as one that can be checked. */
@@ -239,5 +252,4 @@ at("drop").ondrop = (event) => {
         for (const entry of entries) await take_entry(entry);
     });
 };
-window.onresize = () => at("map").hidden || map.draw(false);
 show_files();
