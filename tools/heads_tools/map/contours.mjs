@@ -2,6 +2,7 @@
 
 /** The corners of a square in turn, and the sides between them, which are named by their first corner's number. */
 const TURN = [[0, 0], [0, 1], [1, 1], [1, 0]];
+const MOST_PARTS = 100_000;
 
 /** Where a level crosses the side between two corners. */
 function crossing(grid, level, [r1, c1], [r2, c2]) {
@@ -24,17 +25,28 @@ function joined_sides(corners, level) {
     return is_middle_above === is_above[0] ? [[0, 1], [2, 3]] : [[3, 0], [1, 2]];
 }
 
-/** The parts of a level's lines, square by square: two names of sides and two points each. */
-function parts_of(grid, level) {
-    const parts = [], { values, rows, columns } = grid;
+/** A part of a level's line in a square: two names of sides, with a point on each. */
+function part_of(grid, level, row, column, sides) {
+    return sides.map((side) => {
+        const end = [side, (side + 1) % 4].map((n) => [row + TURN[n][0], column + TURN[n][1]]);
+        return { name: side_name(grid, ...end), point: crossing(grid, level, ...end) };
+    });
+}
+
+/** The parts of all levels' lines, square by square; nothing where they are so many that they would hide the map. */
+function parts_of(grid, levels) {
+    const parts = levels.map(() => []), { values, rows, columns } = grid;
+    let count = 0;
     for (let row = 0; row + 1 < rows; row++) {
         for (let column = 0; column + 1 < columns; column++) {
             const at = row * columns + column;
-            const corners = [values[at], values[at + 1], values[at + columns + 1], values[at + columns]];
-            if (!(Math.max(...corners) >= level && Math.min(...corners) < level)) continue;
-            for (const sides of joined_sides(corners, level)) {
-                const ends = sides.map((side) => [side, (side + 1) % 4].map((n) => [row + TURN[n][0], column + TURN[n][1]]));
-                parts.push(ends.map((end) => ({ name: side_name(grid, ...end), point: crossing(grid, level, ...end) })));
+            const a = values[at], b = values[at + 1], c = values[at + columns + 1], d = values[at + columns];
+            const least = Math.min(a, b, c, d), most = Math.max(a, b, c, d);
+            if (!(most > least) || most < levels[0] || least >= levels.at(-1)) continue;
+            for (let n = 0; n < levels.length; n++) {
+                if (!(most >= levels[n] && least < levels[n])) continue;
+                for (const sides of joined_sides([a, b, c, d], levels[n])) parts[n].push(part_of(grid, levels[n], row, column, sides));
+                if (++count > MOST_PARTS) return undefined;
             }
         }
     }
@@ -57,7 +69,12 @@ function follow(start, first, meeting, used) {
 /** Joins parts into lines. */
 function lines_of(parts) {
     const meeting = new Map(), used = new Set(), lines = [];
-    for (const part of parts) for (const end of part) meeting.set(end.name, [...(meeting.get(end.name) ?? []), part]);
+    for (const part of parts) {
+        for (const { name } of part) {
+            if (meeting.has(name)) meeting.get(name).push(part);
+            else meeting.set(name, [part]);
+        }
+    }
     for (const part of parts) {
         if (used.has(part)) continue;
         const [a] = part, forward = follow(a.name, part, meeting, used);
@@ -69,9 +86,11 @@ function lines_of(parts) {
 }
 
 /**
- * The lines of each level. `grid`: values by rows and columns, NaN where there are none, and the middles x and y of the
- * columns and rows. A square with a corner without a value has no line.
+ * The lines of each level, of which the levels ascend; nothing where they are too ragged to be drawn. `grid`: values by rows
+ * and columns, NaN where there are none, and the middles x and y of the columns and rows. A square with a corner without a
+ * value has no line.
  */
 export function contours(grid, levels) {
-    return levels.map((level) => ({ level, lines: lines_of(parts_of(grid, level)) }));
+    const parts = levels.length ? parts_of(grid, levels) : [];
+    return parts ? levels.map((level, n) => ({ level, lines: lines_of(parts[n]) })) : [];
 }

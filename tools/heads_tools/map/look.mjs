@@ -4,7 +4,7 @@ import { contours } from "./contours.mjs";
 import { round_numbers } from "./numbers.mjs";
 import { BELOW, SIDES, ZONES } from "./scene.mjs";
 
-const LEVELS = 10, FEW = 4;
+const LEVELS = 10, FEW = 4, SHADES = 1024;
 
 /** The quantities that a scene has, as values of a choice with their names. */
 export function choices_of(scene) {
@@ -42,21 +42,26 @@ export class Look {
     colours(palette) {
         const { rows, columns, places } = this.scene, first = this.layer * rows * columns;
         const bits = ([red, green, blue]) => ((255 << 24) | (blue << 16) | (green << 8) | red) >>> 0;
-        const none = bits(palette.none);
-        return Uint32Array.from({ length: rows * columns }, (_, n) => {
+        const table = Uint32Array.from({ length: SHADES }, (_, n) => bits(this.scale.at(n / (SHADES - 1))));
+        const none = bits(palette.none), found = new Uint32Array(rows * columns).fill(none);
+        for (let n = 0; n < found.length; n++) {
             const place = places[first + n];
-            return place < 0 ? none : bits(this.colour(place, palette));
-        });
+            if (place < 0) continue;
+            found[n] = this.has_numbers ? table[this.#shade(place)] : bits(this.colour(place, palette));
+        }
+        return found;
+    }
+
+    #shade(place) {
+        return Math.round(Math.min(Math.max(this.scale.part(this.value(place)), 0), 1) * (SHADES - 1));
     }
 
     /** The contours of the layer, at the round numbers of the scale, or of the layer's range where few of those fall into it. */
     contours() {
         const { rows, columns, places, x, y } = this.scene, first = this.layer * rows * columns;
         if (!this.has_numbers || rows < 2 || columns < 2) return [];
-        const values = Float64Array.from({ length: rows * columns }, (_, n) => {
-            const place = places[first + n];
-            return place < 0 ? NaN : this.value(place);
-        });
+        const values = new Float64Array(rows * columns).fill(NaN);
+        for (let n = 0; n < values.length; n++) if (places[first + n] >= 0) values[n] = this.value(places[first + n]);
         const middles = (edges) => Array.from(edges).slice(1).map((edge, n) => (edge + edges[n]) / 2);
         return contours({ values, rows, columns, x: middles(x), y: middles(y) }, this.#levels(values));
     }

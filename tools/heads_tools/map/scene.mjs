@@ -100,14 +100,24 @@ export class Scene {
 
     #range_of(field, side, step, last_step, first, end) {
         let least = null, most = null, above = null;
+        const value_at = this.#reader(field, side);
         for (let at = step; at < last_step; at++) {
             for (let place = first; place < end; place++) {
-                const value = this[side](field, at, place);
+                const value = value_at(at, place);
                 if (least === null || value < least) least = value;
                 if (most === null || value > most) most = value;
                 if (value > 0n && (above === null || value < above)) above = value;
             }
         }
         return least === null ? [0, 1, 0] : [least, most, above ?? 0n].map(value_of);
+    }
+
+    /** Reads a side of a field by step and place. */
+    #reader(field, side) {
+        const { low, high, less } = this.fields[field], { count } = this;
+        if (less) return (step, place) => this[side](field, step, place);
+        if (side === "width") return (step, place) => high[step * count + place] - low[step * count + place];
+        const values = side === "low" ? low : high;
+        return (step, place) => values[step * count + place];
     }
 }
