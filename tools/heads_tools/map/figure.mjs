@@ -3,7 +3,6 @@ import { LIGHT } from "./colours.mjs";
 import { write } from "./chart.mjs";
 import { draw_hydrographs, draw_mark_names, draw_names, section_name } from "./curves.mjs";
 import { draw_kinds, draw_scale, kinds_here } from "./legend.mjs";
-import { step_name } from "./look.mjs";
 import { Frame, height_for, whole } from "./plan.mjs";
 import { pairs_text } from "./words.mjs";
 
@@ -51,7 +50,7 @@ function parts_of(map) {
     const parts = [
         text_part(scene.title ?? "heads", TITLE, 28),
         ...(scene.verdict ? [text_part(scene.verdict)] : []),
-        text_part(`Layer ${map.layer + 1}, ${step_name(scene, map.step)}: ${look.about}`, STRONG, 26),
+        text_part(look.title, STRONG, 26),
         [tall + 14, (context, top) => map.paint(context, new Frame(scene, map.view, [EDGE, top, wide, tall]), LIGHT)],
     ];
     if (look.has_numbers) parts.push([54, (context, top) => draw_scale(context, [EDGE, top, 520], look.scale, look.about, LIGHT)]);

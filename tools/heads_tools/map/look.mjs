@@ -79,6 +79,11 @@ export class Look {
         return whole.length < FEW ? within(round_numbers(least, most, LEVELS - 2)) : whole;
     }
 
+    /** Layer, step, and what the colours are of. */
+    get title() {
+        return `Layer ${this.layer + 1}, ${step_name(this.scene, this.step)}: ${this.about}`;
+    }
+
     /** What the colours are of. */
     get about() {
         const name = choices_of(this.scene).find(([value]) => value === this.shows)[1];

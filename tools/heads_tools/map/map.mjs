@@ -20,7 +20,7 @@ export class HeadMap {
         this.root = root;
         const found = (selector) => root.querySelector(selector);
         this.form = found(".choices").elements;
-        for (const name of ["map", "scale", "said", "when", "marks", "hydrographs", "section", "hint"]) this[name] = found(`.${name}`);
+        for (const name of ["map", "scale", "said", "when", "marks", "caption", "hydrographs", "section", "hint"]) this[name] = found(`.${name}`);
         [this.canvas, this.kept_list] = [this.map, found(".kept")];
         found(".choices").onsubmit = (event) => event.preventDefault();
         this.#listen(found);
@@ -73,6 +73,7 @@ export class HeadMap {
         this.look = new Look(this.scene, this.layer, this.step, this.form.shows.value, this.form.alone.checked);
         this.contours = this.form.contours.checked ? this.look.contours() : [];
         this.when.textContent = step_name(this.scene, this.step);
+        this.caption.textContent = this.look.title;
         this.form.alone.parentElement.hidden = !this.look.has_numbers;
         this.form.contours.parentElement.hidden = !this.look.has_numbers || Math.min(this.scene.rows, this.scene.columns) < 2;
         this.#draw_map();
