@@ -105,6 +105,14 @@ def test_page_writes_the_map_alone(looked):
 
 
 @pytest.mark.program
+def test_the_page_names_the_bytes_that_it_was_made_of(looked):
+    _, listing, folder, _ = looked("river_valley", "--name", "--page")
+    made_of = f"m.heads, sha256 {listing.sha256}"
+    assert made_of in re.search('<p class="note">(.*?)</p>', text_of(folder), re.S)[1]
+    assert made_of in data_in(folder)["source"] and "CERTIFIED" in data_in(folder)["verdict"]
+
+
+@pytest.mark.program
 def test_the_page_names_its_own_script_and_style_and_loads_nothing(looked):
     _, _, folder, _ = looked("river_valley", "--name", "--page")
     text = text_of(folder)

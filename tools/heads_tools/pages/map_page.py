@@ -43,7 +43,7 @@ def heads_of(name: str, steps: Sequence[Step]) -> Field:
 
 
 def source_of(*listings: Listing) -> str:
-    named = ", ".join(f"{it.path.name} (sha256 {it.sha256[:16]}..)" for it in listings)
+    named = ", ".join(f"{it.path.name}, sha256 {it.sha256}" for it in listings)
     return f"Made by heads-tools, which isn't proved, from {named}"
 
 
@@ -150,7 +150,7 @@ def write(folder: Path, page: Page, scene: Scene, about: str, has_links: bool) -
                 kind={True: "yes", False: "no", None: ""}[page.is_good],
                 verdict=shown(page.verdict),
                 map=elements,
-                about=escape(about),
+                about=escape(f"{scene.source}. {about}".strip()),
                 links=' <a href="index.html">Tables and pictures</a>' if has_links else "",
                 data=data,
                 script=script,
