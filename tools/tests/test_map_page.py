@@ -1,5 +1,6 @@
 """The page of the interactive map: its data are the listing's, it is one file that loads nothing, and it is small."""
 import base64
+import csv
 import json
 import re
 import time
@@ -160,6 +161,21 @@ def test_a_listing_beside_another_has_both_heads_and_their_difference(example, t
         ("head", "head"), ("head of no_well.heads", "head"), ("head less that of no_well.heads", "change")
     ]
     assert fields[2]["less"] == [0, 1]
+
+
+@pytest.mark.program
+def test_a_plan_whatever_the_weather_has_a_map_of_its_drawdown(example, tool, tmp_path):
+    base = example("pumping_plans").with_name("no_well.nam")
+    assert tool("drawdown", base, base.with_name("one_well.wel"), tmp_path / "down", "--any")[0] == 0
+    folder = tmp_path / "down"
+    with open(folder / "drawdown.csv", newline="") as file:
+        rows = list(csv.DictReader(file))
+    data = data_in(folder)
+    (field,) = data["fields"]
+    low, width = (unpacked(field[side], data["count"])[0] for side in ("low", "width"))
+    assert (field["name"], field["kind"], data["tops"]) == ("drawdown", "fall", None)
+    wanted = [[int(row[name].replace(".", "")) for row in rows] for name in ("drawdown_lower", "drawdown_upper")]
+    assert [low.tolist(), (low + width).tolist()] == wanted
 
 
 def large_listing(tmp_path, layers, rows, cols, steps):

@@ -60,6 +60,13 @@ def test_a_corner_at_the_level_has_a_line_through_it():
     assert all(x == 1 for x, _ in line)
 
 
+def test_contours_that_would_hide_the_map_are_left_out():
+    """400 rows in each of which all cells differ from their neighbours."""
+    places = "x: [...Array(400).keys()], y: [...Array(400).keys()]"
+    grid = f"{{ values: Array.from({{ length: 160000 }}, (_, n) => n % 2), rows: 400, columns: 400, {places} }}"
+    assert told("contours.mjs", f"it.contours({grid}, [0.5]) ?? null") is None
+
+
 def test_round_numbers_lie_between_the_ends():
     assert told("numbers.mjs", "it.round_numbers(0.3, 9.7, 4)") == [2.5, 5, 7.5]
     assert told("numbers.mjs", "it.round_numbers(-1, 1, 4)") == [-1, -0.5, 0, 0.5, 1]

@@ -92,5 +92,5 @@ function lines_of(parts) {
  */
 export function contours(grid, levels) {
     const parts = levels.length ? parts_of(grid, levels) : [];
-    return parts ? levels.map((level, n) => ({ level, lines: lines_of(parts[n]) })) : [];
+    return parts && levels.map((level, n) => ({ level, lines: lines_of(parts[n]) }));
 }

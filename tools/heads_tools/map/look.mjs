@@ -56,7 +56,10 @@ export class Look {
         return Math.round(Math.min(Math.max(this.scale.part(this.value(place)), 0), 1) * (SHADES - 1));
     }
 
-    /** The contours of the layer, at the round numbers of the scale, or of the layer's range where few of those fall into it. */
+    /**
+     * The contours of the layer, at the round numbers of the scale, or of the layer's range where few of those fall into it;
+     * nothing where they are too ragged to be drawn.
+     */
     contours() {
         const { rows, columns, places, x, y } = this.scene, first = this.layer * rows * columns;
         if (!this.has_numbers || rows < 2 || columns < 2) return [];

@@ -20,7 +20,7 @@ export class HeadMap {
         this.root = root;
         const found = (selector) => root.querySelector(selector);
         this.form = found(".choices").elements;
-        for (const name of ["map", "scale", "said", "when", "marks", "caption", "hydrographs", "section", "hint"]) this[name] = found(`.${name}`);
+        for (const name of ["map", "scale", "said", "when", "marks", "caption", "hydrographs", "section", "hint", "ragged"]) this[name] = found(`.${name}`);
         [this.canvas, this.kept_list] = [this.map, found(".kept")];
         found(".choices").onsubmit = (event) => event.preventDefault();
         this.#listen(found);
@@ -71,7 +71,9 @@ export class HeadMap {
         if (!this.scene || !this.root.clientWidth) return;
         this.palette = palette_of(is_paper);
         this.look = new Look(this.scene, this.layer, this.step, this.form.shows.value, this.form.alone.checked);
-        this.contours = this.form.contours.checked ? this.look.contours() : [];
+        const contours = this.form.contours.checked ? this.look.contours() : [];
+        this.contours = contours ?? [];
+        this.ragged.hidden = contours !== undefined;
         this.when.textContent = step_name(this.scene, this.step);
         this.caption.textContent = this.look.title;
         this.form.alone.parentElement.hidden = !this.look.has_numbers;

@@ -6,7 +6,7 @@ from functools import cache
 from html import escape
 from pathlib import Path
 from string import Template
-from typing import Sequence
+from typing import Protocol, Sequence, TypeVar
 
 import numpy as np
 
@@ -17,6 +17,7 @@ from .map_data import CHANGE, FALL, HEAD, Difference, Field, Scene, bottoms_of
 from ..deck.model import Model
 from .one_page import one_script, policy
 from ..plans.drawdown import Drawdown
+from ..plans.drawdown_weather import Weathered
 from .page import Page, bare, shown
 from ..common.text import Problem
 from ..common.whole_files import whole_file
@@ -26,13 +27,26 @@ NAME = "map.html"
 MOST_PAIRS = 1_500_000
 
 
-def steps_of(steps: Sequence[Step], cells: int, fields: int) -> list[Step]:
+class Named(Protocol):
+    """What has the period and the number of a step."""
+
+    @property
+    def period(self) -> int: ...
+
+    @property
+    def step(self) -> int: ...
+
+
+Each = TypeVar("Each", bound=Named)
+
+
+def steps_of(steps: Sequence[Each], cells: int, fields: int) -> list[Each]:
     """The steps that a map has room for, the last among them; none where one has too many cells."""
     room = MOST_PAIRS // max(1, cells * fields)
     return list(steps[::-1][:: -(-len(steps) // room)][::-1]) if room else []
 
 
-def names_of(steps: Sequence[Step], model: Model | None) -> list[tuple[int, int, float]]:
+def names_of(steps: Sequence[Named], model: Model | None) -> list[tuple[int, int, float]]:
     """Period and step with the time at its end, or with its number where no times are known."""
     times = model.times if model else {}
     return [(s.period, s.step, times.get((s.period, s.step), (0, n))[1]) for n, s in enumerate(steps, 1)]
@@ -47,26 +61,32 @@ def source_of(*listings: Listing) -> str:
     return f"Made by heads-tools, which isn't proved, from {named}"
 
 
-def scene_of(it: Looking, steps: list[Step], base: Listing | None, zones: np.ndarray | None) -> Scene:
-    listing = it.listing
-    fields: list[Field | Difference] = [heads_of("head", steps)]
-    if base:
-        same = [base.step_at(s.period, s.step) for s in steps]
-        fields += [heads_of(f"head of {base.path.name}", same)]
-        fields += [Difference(f"head less that of {base.path.name}", CHANGE, (0, 1))]
+def scene_of(
+    page: Page,
+    listings: Sequence[Listing],
+    model: Model | None,
+    unit: str,
+    steps: Sequence[Named],
+    fields: list[Field | Difference],
+    zones: np.ndarray | None = None,
+) -> Scene:
+    """The scene of some fields at the cells of the first listing. The tops of cells are for heads alone: of changes it
+    isn't asked whether they lie below them."""
+    listing, has_heads = listings[0], fields[0].kind == HEAD
+    cells, shape = listing.cells, model.shape if model else listing.shape
     return Scene(
-        it.page.title,
-        it.page.verdict.replace("`", ""),
-        source_of(listing, *([base] if base else [])),
-        it.shape,
-        it.plan,
-        listing.cells,
-        names_of(steps, it.model),
-        it.time if it.model else "",
+        page.title,
+        page.verdict.replace("`", ""),
+        source_of(*listings),
+        shape,
+        plan_for(model, shape, unit),
+        cells,
+        names_of(steps, model),
+        model.time if model else "",
         fields,
-        it.below_top.tops if it.below_top else None,
-        bottoms_of(it.model.deck, listing.cells) if it.model else None,
-        zones[tuple((listing.cells - 1).T)] if zones is not None else None,
+        units_at(model.deck, cells, model.deck.top_of) if model and has_heads else None,
+        bottoms_of(model.deck, cells) if model and has_heads else None,
+        zones[tuple((cells - 1).T)] if zones is not None else None,
     )
 
 
@@ -87,15 +107,14 @@ def write_map(it: Looking, base: Listing | None = None, zones: np.ndarray | None
     steps = steps_of(of, len(it.listing.cells), 2 if base else 1)
     if not steps:
         return ""
+    fields: list[Field | Difference] = [heads_of("head", steps)]
+    if base:
+        fields += [heads_of(f"head of {base.path.name}", same(base, steps))]
+        fields += [Difference(f"head less that of {base.path.name}", CHANGE, (0, 1))]
+    listings = [it.listing, *([base] if base else [])]
     about = left_out(len(of), len(steps), is_alone)
-    write(it.folder, it.page, scene_of(it, steps, base, zones), about, not is_alone)
+    write(it.folder, it.page, scene_of(it.page, listings, it.model, it.unit, steps, fields, zones), about, not is_alone)
     return f"layers, steps, sections, and the two heads of the cell that you point at. {about}".strip()
-
-
-def left_out(count: int, kept: int, is_alone: bool) -> str:
-    if kept == count:
-        return ""
-    return f"{kept} of {count} steps" + (": the others are in the listing." if is_alone else ": the others are in the tables.")
 
 
 def write_drawdown_map(it: Drawdown, folder: Path, page: Page) -> str:
@@ -104,29 +123,34 @@ def write_drawdown_map(it: Drawdown, folder: Path, page: Page) -> str:
     steps = steps_of(of, len(it.plan.cells), 2)
     if not steps:
         return ""
-    model, cells = it.model, it.plan.cells
-    shape = model.shape if model else it.plan.shape
-    same = [it.base.step_at(s.period, s.step) for s in steps]
-    scene = Scene(
-        page.title,
-        page.verdict.replace("`", ""),
-        source_of(it.plan, it.base),
-        shape,
-        plan_for(model, shape, it.unit),
-        cells,
-        names_of(steps, model),
-        model.time if model else "",
-        [
-            heads_of("head", steps),
-            heads_of(f"head of {it.base.path.name}", same),
-            Difference("drawdown", FALL, (1, 0)),
-        ],
-        units_at(model.deck, cells, model.deck.top_of) if model else None,
-        bottoms_of(model.deck, cells) if model else None,
-    )
+    heads = heads_of("head", steps), heads_of(f"head of {it.base.path.name}", same(it.base, steps))
+    fields: list[Field | Difference] = [*heads, Difference("drawdown", FALL, (1, 0))]
     about = left_out(len(of), len(steps), False)
-    write(folder, page, scene, about, True)
+    write(folder, page, scene_of(page, [it.plan, it.base], it.model, it.unit, steps, fields), about, True)
     return f"the drawdown and both heads of the cell that you point at. {about}".strip()
+
+
+def write_weather_map(it: Weathered, folder: Path, page: Page) -> str:
+    """The same of what a plan does whatever the weather: its drawdown alone."""
+    effects = steps_of(it.effects, len(it.listing.cells), 1)
+    if not effects:
+        return ""
+    low, high = (np.array([getattr(effect, side) for effect in effects]) for side in ("low", "high"))
+    fields: list[Field | Difference] = [Field("drawdown", FALL, low, high)]
+    about = left_out(len(it.effects), len(effects), False)
+    write(folder, page, scene_of(page, [it.listing], it.model, it.model.length, effects, fields), about, True)
+    return f"the bounds of the drawdown of the cell that you point at. {about}".strip()
+
+
+def same(listing: Listing, steps: Sequence[Step]) -> list[Step]:
+    """The steps of a listing that have the periods and numbers of others."""
+    return [listing.step_at(s.period, s.step) for s in steps]
+
+
+def left_out(count: int, kept: int, is_alone: bool) -> str:
+    if kept == count:
+        return ""
+    return f"{kept} of {count} steps" + (": the others are in the listing." if is_alone else ": the others are in the tables.")
 
 
 @cache

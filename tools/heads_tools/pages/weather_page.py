@@ -31,6 +31,7 @@ from ..program.verdict import status_of
 from . import curves, maps
 from .drawdown_page import MOST_MAPS, scale_of
 from .looking import plan_for
+from .map_page import NAME, write_weather_map
 from .page import Page, write_page
 from .page_facts import facts_of, facts_of_making
 from .pictures import Album
@@ -148,6 +149,8 @@ def draw(it: Weathered, folder: Path, tables: list[str], named: str, at_well: li
     page.table("Drawdown", ["place", "layer row column", "at the end of", "from", "to"], rows_of(it, cells))
     for text in at_well:
         page.text("HK within ranges", text)
+    if about := write_weather_map(it, folder, page):
+        page.add("Maps", f'<p><a href="{NAME}">A map to point at</a>: {about}</p>')
     album = Album(folder)
     draw_maps(it, album, page)
     draw_curves(it, album, page, cells)
