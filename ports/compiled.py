@@ -48,8 +48,8 @@ def fetch_musl(folder: Path) -> tuple[Path, str]:
 
 def make_arm64(text: str, target: Path, folder: Path, of: str, more: Sequence[Path] = (),
                wrapped: Sequence[str] = ()) -> str:
-    """The port for Linux on ARM64, statically linked with musl, and with `more`, whose functions stand before those that
-    are `wrapped`. What it was made with."""
+    """The port for Linux on ARM64, statically linked with musl, and with `more`, whose functions stand before those
+    that are `wrapped`. What it was made with."""
     packages = ("gcc-aarch64-linux-gnu", "binutils-aarch64-linux-gnu")
     made_with = versions_of(packages)
     require(bool(made_with), f"{target.name} needs Debian's {' '.join(packages)}")

@@ -1,5 +1,5 @@
-"""Each call of a page's program fails in turn: the trials of tests/failing_calls and tests/refused_memory with the page in
-place of a program. The page is one that was built with faults.c; Node or a browser's worker runs its module."""
+"""Each call of a page's program fails in turn: the trials of tests/failing_calls and tests/refused_memory with the page
+in place of a program. The page is one that was built with faults.c; Node or a browser's worker runs its module."""
 from __future__ import annotations
 
 import base64

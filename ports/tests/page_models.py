@@ -1,4 +1,4 @@
-"""The examples as the tests of heads.html take them: put into the page, run there, and what dist/heads makes of them."""
+"""The examples as the tests of heads.html take them: put into the page, run there, beside what dist/heads makes."""
 from __future__ import annotations
 
 import shutil

@@ -83,7 +83,9 @@ class OfDeck(unittest.TestCase):
 
     def test_grid_and_elevations_are_those_of_the_files(self):
         """The file DIS: 15 columns of 200 m; layers from 45 to 30, 28 to 10 and 7 to -15 m, with beds between them."""
-        text = "[scene.x.at(-1), scene.y.at(-1), scene.unit, ...[0, 1, 2].map((k) => scene.place(k, 7, 7)).map((n) => [scene.tops[n], scene.bottoms[n]].map(decimal))]"
+        ends = "[scene.tops[n], scene.bottoms[n]].map(decimal)"
+        cells = f"...[0, 1, 2].map((k) => scene.place(k, 7, 7)).map((n) => {ends})"
+        text = f"[scene.x.at(-1), scene.y.at(-1), scene.unit, {cells}]"
         self.assertEqual(self.scene(text, "three_aquifers"), [
             3000, 3000, "m", ["45.000000000", "30.000000000"], ["28.000000000", "10.000000000"],
             ["7.000000000", "-15.000000000"]])

@@ -123,7 +123,8 @@ def test_keys_go_from_cell_to_cell_through_steps_and_layers(opened, browser):
     low, high = heads[1, 1, 2, 2, 3]
     assert browser.evaluate(SAID) == f"layer 2 row 2 column 3: head from {low} to {high} m"
     browser.press(ENTER)
-    assert browser.evaluate("document.querySelector('.heads-map .kept').textContent").strip().endswith("row 2 column 3 ×")
+    kept = browser.evaluate("document.querySelector('.heads-map .kept').textContent")
+    assert kept.strip().endswith("layer 2 row 2 column 3 ×")
     assert not browser.evaluate("document.querySelector('.heads-map .section').hidden")
     browser.press(ESCAPE)
     assert browser.evaluate("document.querySelector('.heads-map .section').hidden")

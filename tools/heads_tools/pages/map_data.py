@@ -20,8 +20,8 @@ BYTES = 8
 
 @dataclass
 class Field:
-    """A quantity with a lower and an upper number, in 10^-9, steps by cells. `kind`: heads, or base less plan (FALL: above
-    0 where the head is lowered), or plan less base (CHANGE)."""
+    """A quantity with a lower and an upper number, in 10^-9, steps by cells. `kind`: heads, or base less plan (FALL:
+    above 0 where the head is lowered), or plan less base (CHANGE)."""
 
     name: str
     kind: str
@@ -40,8 +40,9 @@ class Difference:
 
 @dataclass
 class Scene:
-    """What a map shows. `verdict`, `source`: what a figure of it says below its title and at its end; `cells`: layer, row and column of each cell with flow; `steps`: period, step and the time at the
-    end of each; `time`: the unit of times, empty where they aren't known; `zones`: of each cell with flow."""
+    """What a map shows. `verdict`, `source`: what a figure of it says below its title and at its end; `cells`: layer, row
+    and column of each cell with flow; `steps`: period, step and the time at the end of each; `time`: the unit of times,
+    empty where they aren't known; `zones`: of each cell with flow."""
 
     title: str
     verdict: str

@@ -1,4 +1,4 @@
-"""map.html: an interactive map of a listing, or of a plan beside its base, in one file without a library or a server."""
+"""map.html: an interactive map of a listing, or of what a plan does, in one file without a library or a server."""
 from __future__ import annotations
 
 import json
@@ -101,8 +101,8 @@ def shared(listing: Listing, base: Listing | None) -> list[Step]:
 
 
 def write_map(it: Looking, base: Listing | None = None, zones: np.ndarray | None = None, is_alone: bool = False) -> str:
-    """Writes the map of a listing: what there is to say of it beside its link; nothing where it isn't written. `is_alone`:
-    no other page is beside it."""
+    """Writes the map of a listing: what there is to say of it beside its link; nothing where it isn't written.
+    `is_alone`: no other page is beside it."""
     of = shared(it.listing, base)
     steps = steps_of(of, len(it.listing.cells), 2 if base else 1)
     if not steps:
@@ -150,7 +150,7 @@ def same(listing: Listing, steps: Sequence[Step]) -> list[Step]:
 def left_out(count: int, kept: int, is_alone: bool) -> str:
     if kept == count:
         return ""
-    return f"{kept} of {count} steps" + (": the others are in the listing." if is_alone else ": the others are in the tables.")
+    return f"{kept} of {count} steps: the others are in the {'listing' if is_alone else 'tables'}."
 
 
 @cache

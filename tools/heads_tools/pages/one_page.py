@@ -1,4 +1,4 @@
-"""A page in one file: its scripts as one, and a policy by which it can load and send nothing. Python alone is needed."""
+"""A page in one file: its scripts as one, and a policy by which it loads and sends nothing. Needs Python alone."""
 from __future__ import annotations
 
 import base64
