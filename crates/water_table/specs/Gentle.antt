@@ -34,6 +34,6 @@ pub record IsGentle (m : FlowModel) (w : ConvertibleLayers) (p : ℕ) (h : ℕ �
   pub falls : (c : ℕ) → c < cell_count m.grid → is_variable m p c ≡ true →
       All (λ x. FallsGently m w h c x.axis x.end) (variable_faces m p c) × All (λ x. FallsGently m w h c x.axis x.end) (constant_faces m p c)
   -- Of an active cell and an active cell below it, one of them convertible, the lower one's head is at or above the upper one's bottom. It may be
-  -- at that bottom: the lower cell is full there, and the flow down still doesn't grow faster than the fall.
+  -- at that bottom: the lower cell is full there, and the fall to it is within the upper cell's saturated thickness.
   pub over_bottom : (c : ℕ) → c + layer_size m.grid < cell_count m.grid → is_active m c ≡ true → is_active m (c + layer_size m.grid) ≡ true →
       (is_convertible m w c || is_convertible m w (c + layer_size m.grid)) ≡ true → AtMost (number (bottom_at m c)) (h (c + layer_size m.grid))
