@@ -1,18 +1,22 @@
 // The data of the lines so far.
 use crate::entries::{cell_of_row, empty_cell, push_entry};
 use crate::moves::Move;
+use plan_step::difference_problem;
 use std::alloc::{AllocError, Global};
 use std::mem;
 use step_problem::{Bound, Cell, Problem, fits};
 use test_lines::{bounds_of, number_at};
 
-/// The cells so far of a problem that isn't finished, a problem, bounds of its heads, and moves on them.
+/// The cells so far of a problem that isn't finished, a problem, bounds of its heads, and moves on them; and the problem and heads of
+/// a base plan, where the others are those of another plan.
 #[derive(Drop)]
 pub struct Given {
     cells: Vec<Cell>,
     pub problem: Option<Problem>,
     pub bounds: Vec<Bound>,
     pub moves: Vec<Move>,
+    base: Option<Problem>,
+    base_bounds: Vec<Bound>,
 }
 
 impl Given {
@@ -22,7 +26,36 @@ impl Given {
             problem: None,
             bounds: Vec::new(alloc),
             moves: Vec::new(alloc),
+            base: None,
+            base_bounds: Vec::new(alloc),
         }
+    }
+
+    // What was given becomes that of the base plan.
+    fn begin_plan(&mut self, alloc: Global) {
+        self.finish(alloc);
+        let base = mem::replace(self, Given::new(alloc));
+        self.base = base.problem;
+        self.base_bounds = base.bounds;
+    }
+
+    // The problem of the differences of the two plans' heads in place of what was given.
+    fn take_differences(&mut self, alloc: Global, old: &[Bound]) -> Result<(), AllocError> {
+        self.finish(alloc);
+        let (Some(base), Some(planned)) = (&self.base, &self.problem) else {
+            return Ok(());
+        };
+        let next = difference_problem(
+            alloc,
+            base,
+            planned,
+            self.base_bounds.as_slice(),
+            self.bounds.as_slice(),
+            old,
+        )?;
+        *self = Given::new(alloc);
+        self.problem = Some(next);
+        Ok(())
     }
 
     // Whether a line is a part of the problem.
@@ -62,6 +95,8 @@ impl Given {
             "problem" => drop(mem::replace(self, Given::new(alloc))),
             "heads" => self.bounds = bounds_of(alloc, numbers)?,
             "moves" => self.moves = Vec::new(alloc),
+            "planned" => self.begin_plan(alloc),
+            "differences" => self.take_differences(alloc, &bounds_of(alloc, numbers)?)?,
             _ => {
                 let Some(next) = Move::of(line, numbers) else {
                     return self.take_entry(alloc, word, numbers);

@@ -5,7 +5,8 @@
 //! `link INDEX C C`, `storage C C HEAD HEAD` (or `general`; `constant` with its cell number first), `well FLOW FLOW` (or
 //! `recharge`), `river C C STAGE STAGE BOTTOM BOTTOM`, `drain C C ELEVATION ELEVATION`, `evaporation C C EXTINCTION
 //! EXTINCTION SURFACE SURFACE`. `row COUNT` gives cells in a row, each beside a general head of its own, from 0 to 9 in
-//! turn.
+//! turn. `planned` makes what was given that of a base plan, and the other plan follows; `differences OLD OLD ..` makes the problem of the
+//! differences of the two plans' heads of them, with the old differences by cell number.
 //!
 //! Asked are `fits` (how many cells the problem has, where it is one), `raised INDEX HEAD HEAD ..` and `sunk` (the raise and
 //! sink values of a cell at its own head and those of its links), `barrier`, `guess`, `sweeps ROUNDS`, `workers WORKERS TURNS
