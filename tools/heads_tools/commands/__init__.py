@@ -22,6 +22,7 @@ HELP = {
     "observe": "heads at points, by a table name,x,y,layer,time,measured or a HOB file: lower, upper, measured",
     "template": "the deck with templates of its arrays in the form of PEST, for calibration and `ensemble`",
     "ensemble": "many samples of a deck from templates and a table: least and most head at chosen places, no bounds",
+    "zonebudget": "the water budget of each zone, with bounds: wells, rivers, recharge, storage, faces",
     "mf2005": "run as MODFLOW-2005 is called by FloPy and ModelMuse: head file and list file",
     "exhibit": "for a report or a court: deck, listing, verdicts, hashes, versions, pictures; further options go to"
     " heads run",
