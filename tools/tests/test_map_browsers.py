@@ -167,22 +167,41 @@ def test_the_cells_with_the_least_and_the_greatest_head_have_the_ends_of_the_col
         assert found == colour
 
 
-def test_cells_below_their_tops_are_counted(browser, example, tool, tmp_path):
-    """The top of the valley is moved up to 11 m, so that the heads of some cells lie below it."""
+def raised_valley(example, tool):
+    """The valley with its top moved up to 11 m, so that the heads of some cells lie below it: the model and its
+    listing."""
     nam = example("river_valley")
     dis = nam.with_suffix(".dis")
     assert "\nCONSTANT 5" in dis.read_text()
     dis.write_text(dis.read_text().replace("\nCONSTANT 5", "\nCONSTANT 11", 1))
     tool("run", nam)
-    listing = nam.with_suffix(".heads")
+    return nam, nam.with_suffix(".heads")
+
+
+def test_cells_below_their_tops_are_counted(browser, example, tool, tmp_path):
+    nam, listing = raised_valley(example, tool)
     assert tool("look", listing, tmp_path / "look", "--page", "--name", nam)[0] == 0
-    open_page(browser, tmp_path / "look" / "map.html", "#shows=below")
+    open_page(browser, tmp_path / "look" / "map.html", "#shows=below&cell=1,8,17")
     pairs = [(Decimal(low), Decimal(high)) for low, high in heads_in(listing).values()]
     below = sum(high < 11 for _, high in pairs)
     perhaps = sum(low < 11 <= high for low, high in pairs)
     said = browser.evaluate("document.querySelector('.heads-map .scale').getAttribute('aria-label')")
     assert re.findall(r": (\d+) cell", said) == [str(len(pairs) - below - perhaps), str(below), str(perhaps)]
     assert 0 < below < len(pairs)
+    more = browser.evaluate("document.querySelector('.heads-map .more').textContent")
+    assert "every exact head lies below the cell's top" in more
+
+
+def test_of_a_listing_that_is_not_certified_exact_heads_are_not_spoken_of(browser, example, tool, tmp_path):
+    nam, listing = raised_valley(example, tool)
+    text = listing.read_text()
+    low, high = heads_in(listing)[1, 1, 1, 8, 17]
+    listing.write_text(text.replace(f"HEAD 1 8 17 {low} {high}", f"HEAD 1 8 17 {low} {low}"))
+    assert tool("look", listing, tmp_path / "look", "--page", "--name", nam)[0] == 8
+    open_page(browser, tmp_path / "look" / "map.html", "#cell=1,8,17")
+    assert browser.evaluate("document.querySelector('.verdict').className") == "verdict no"
+    more = browser.evaluate("document.querySelector('.heads-map .more').textContent")
+    assert "the upper head lies below the cell's top" in more and "exact" not in more
 
 
 def test_a_figure_is_saved_as_a_picture(opened, browser):

@@ -164,6 +164,21 @@ def test_a_listing_beside_another_has_both_heads_and_their_difference(example, t
 
 
 @pytest.mark.program
+def test_a_map_of_a_cut_listing_says_so(example, tool, tmp_path):
+    nam = example("pumping_test")
+    assert tool("run", nam)[0] == 0
+    text = nam.with_suffix(".heads").read_text()
+    cut = tmp_path / "cut.heads"
+    cut.write_text(text[: text.index("STEP 1 4")] + "NOBOUND 22 ConductanceTooLarge 1 4 1 1 1\n")
+    status, said, _ = tool("look", cut, tmp_path / "look", "--page")
+    assert status == 0 and "NOT A WHOLE RUN: the listing ends with `NOBOUND 22" in said
+    shown = re.search('<p class="verdict ">(.*?)</p>', text_of(tmp_path / "look"))[1]
+    assert shown.startswith("NOT A WHOLE RUN: the listing ends with NOBOUND 22")
+    assert data_in(tmp_path / "look")["verdict"].startswith("NOT A WHOLE RUN")
+    assert not data_in(tmp_path / "look")["is_certified"] and len(data_in(tmp_path / "look")["steps"]) == 3
+
+
+@pytest.mark.program
 def test_a_plan_whatever_the_weather_has_a_map_of_its_drawdown(example, tool, tmp_path):
     base = example("pumping_plans").with_name("no_well.nam")
     assert tool("drawdown", base, base.with_name("one_well.wel"), tmp_path / "down", "--any")[0] == 0

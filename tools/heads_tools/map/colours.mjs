@@ -83,7 +83,7 @@ export function zone_colour(zone, palette) {
 /** The names and colours of what a map shows that is no number. */
 export function kinds_of(shows, scene, palette) {
     if (shows === BELOW) {
-        const names = ["at or above its top", "every head below its top", "lower head below its top"];
+        const names = ["at or above its top", "upper head below its top", "lower head alone below its top"];
         return names.map((name, n) => [name, palette.below[n]]);
     }
     if (shows !== ZONES) return [];

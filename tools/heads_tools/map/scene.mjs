@@ -17,6 +17,7 @@ export const SIDES = ["low", "high", "width"];
  *               cells; or `less`, the numbers of two fields of which it is the difference with bounds
  *     tops, bottoms   of each cell with flow, in 10^-9, or null; a top is rounded up
  *     zones     of each cell with flow, or null
+ *     is_certified   whether the pairs of heads are certified
  *     marks     entries by kind: `kind`, `name`, and their `cells`, which are numbers in the grid
  */
 export class Scene {
@@ -71,7 +72,7 @@ export class Scene {
         return value_of(this[side](field, step, place));
     }
 
-    /** Of the field 0, which is the heads: 1 where every exact head lies below the cell's top, 2 where one may, else 0. */
+    /** Of the field 0, which is the heads: 1 where the upper head lies below the cell's top, 2 where the lower one alone does, else 0. */
     below(step, place) {
         if (!this.tops || this.low(0, step, place) >= this.tops[place]) return 0;
         return this.high(0, step, place) < this.tops[place] ? 1 : 2;

@@ -1,7 +1,11 @@
 // What is said of a cell: the listing's own digits, and what else is known of it.
 import { counted, decimal } from "./numbers.mjs";
 
-const TOPS = ["", "every exact head lies below the cell's top", "the lower head lies below the cell's top"];
+/** What a cell below its top is said to be; of exact heads certified pairs alone say it. */
+function told_of_top(scene, kind) {
+    if (kind === 1) return `${scene.is_certified ? "every exact" : "the upper"} head lies below the cell's top`;
+    return kind === 2 ? "the lower head alone lies below the cell's top" : "";
+}
 
 /** The pair of each quantity, with all its digits. */
 export function pairs_text(scene, step, place) {
@@ -16,7 +20,7 @@ export function more_text(scene, step, place) {
     if (scene.tops && scene.bottoms) {
         parts.push(`cell from ${plain(scene.bottoms[place])} to ${plain(scene.tops[place])} ${scene.unit}`);
     }
-    const told = TOPS[scene.below(step, place)];
+    const told = told_of_top(scene, scene.below(step, place));
     if (told) parts.push(told);
     if (scene.zones) parts.push(`zone ${scene.zones[place]}`);
     for (const { name, cells } of scene.marks) {

@@ -13,7 +13,7 @@ from .look_sections import Sections
 from .look_tops import Tops
 from .looking import HEADS, title_of
 from ..deck.model import Model
-from .map_page import NAME, write_map
+from .map_page import NAME, not_whole, write_map
 from .page import write_page
 from ..listing.tables import write_tables
 from ..common.text import Problem
@@ -46,11 +46,8 @@ def look(
         raise Problem(f"--every draws at most {MOST_STEPS} steps, and these are {len(listing.steps)}")
     it = Look(listing, folder, model, verdict, has_svg)
     make_folder(folder)
-    if not listing.is_whole:
-        it.page.say(
-            f"NOT A WHOLE RUN: the listing ends with `{listing.end or 'a part of a step'}`. "
-            "Its pairs are bounds only where a run ends with END."
-        )
+    if warning := not_whole(listing):
+        it.page.say(warning)
     last = listing.steps[-1]
     it.jobs.append(lambda: add_map(it, base, zones))
     it.add_steps(listing.steps if is_every else [last])
@@ -89,7 +86,8 @@ def look_at_map(
     if not about:
         raise Problem(f"{listing.path} has more cells than a map has room for: look without --page draws pictures")
     tops = it.below_top.sentences(it.verdict.is_certified) if it.below_top else []
-    return [it.verdict.sentence, f"{listing.summary()} in {it.unit}", *tops]
+    warning = not_whole(listing)
+    return [it.verdict.sentence, f"{listing.summary()} in {it.unit}", *([warning] if warning else []), *tops]
 
 
 def add_map(it: Look, base: Listing | None, zones: np.ndarray | None) -> None:

@@ -56,6 +56,7 @@ class Scene:
     tops: np.ndarray | None = None
     bottoms: np.ndarray | None = None
     zones: np.ndarray | None = None
+    is_certified: bool = False
 
     def data(self) -> dict[str, Any]:
         plan = self.plan
@@ -76,6 +77,7 @@ class Scene:
             "tops": elevations(self.tops),
             "bottoms": elevations(self.bottoms),
             "zones": None if self.zones is None else packed(self.zones),
+            "is_certified": self.is_certified,
             "marks": marks_of(plan, self.shape),
         }
 

@@ -76,7 +76,7 @@ def scene_of(
     cells, shape = listing.cells, model.shape if model else listing.shape
     return Scene(
         page.title,
-        page.verdict.replace("`", ""),
+        said_of(page, listings),
         source_of(*listings),
         shape,
         plan_for(model, shape, unit),
@@ -87,7 +87,23 @@ def scene_of(
         units_at(model.deck, cells, model.deck.top_of) if model and has_heads else None,
         bottoms_of(model.deck, cells) if model and has_heads else None,
         zones[tuple((cells - 1).T)] if zones is not None else None,
+        page.is_good is True,
     )
+
+
+def not_whole(listing: Listing) -> str:
+    """What has to be said of a listing that isn't that of a whole run; nothing of another."""
+    if listing.is_whole:
+        return ""
+    return (
+        f"NOT A WHOLE RUN: the listing ends with `{listing.end or 'a part of a step'}`. "
+        "Its pairs are bounds only where a run ends with END."
+    )
+
+
+def said_of(page: Page, listings: Sequence[Listing]) -> str:
+    """The verdict below the title, after what is wrong with the listings."""
+    return " ".join([*filter(None, map(not_whole, listings)), page.verdict]).replace("`", "")
 
 
 def shared(listing: Listing, base: Listing | None) -> list[Step]:
@@ -172,7 +188,7 @@ def write(folder: Path, page: Page, scene: Scene, about: str, has_links: bool) -
                 style=style,
                 title=bare(page.title),
                 kind={True: "yes", False: "no", None: ""}[page.is_good],
-                verdict=shown(page.verdict),
+                verdict=shown(scene.verdict),
                 map=elements,
                 about=escape(f"{scene.source}. {about}".strip()),
                 links=' <a href="index.html">Tables and pictures</a>' if has_links else "",
