@@ -1,4 +1,5 @@
 // What is seen as one picture on white ground, to be kept or printed.
+import { draw_section, section_at, section_height } from "./beside.mjs";
 import { LIGHT } from "./colours.mjs";
 import { write } from "./chart.mjs";
 import { draw_hydrographs, draw_mark_names, draw_names, section_name } from "./curves.mjs";
@@ -46,7 +47,7 @@ export function figure_of(map) {
 function parts_of(map) {
     const { scene, look } = map, room = WIDE - 2 * EDGE, [tall, , wide] = height_for(scene, whole(scene), room, MOST);
     const kinds = look.has_numbers ? [] : kinds_here(scene, look.shows, map.layer, map.step, LIGHT);
-    const marks = scene.marks.filter(({ kind }) => map.kinds.has(kind)), along = map.section_at();
+    const marks = scene.marks.filter(({ kind }) => map.kinds.has(kind)), along = section_at(map);
     const parts = [
         text_part(scene.title ?? "heads", TITLE, 28),
         ...(scene.verdict ? [text_part(scene.verdict)] : []),
@@ -64,7 +65,7 @@ function parts_of(map) {
         parts.push([30 + 20 * Math.floor(names.length / 4), (context, top) => draw_names(context, [EDGE + 66, top, room - 66], names, LIGHT)]);
     }
     if (along) parts.push(text_part(section_name(along), STRONG, 24));
-    if (along) parts.push([map.section_height() + 10, (context, top) => map.draw_section(context, [EDGE, top + 10, room], along, LIGHT)]);
+    if (along) parts.push([section_height(map) + 10, (context, top) => draw_section(map, context, [EDGE, top + 10, room], along, LIGHT)]);
     if (scene.source) parts.push(text_part(scene.source));
     return parts;
 }

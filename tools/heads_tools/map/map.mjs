@@ -1,9 +1,8 @@
-// The map of a listing on a page: its choices, keys and pointer, and what it draws. parts.html has its elements.
+// The map of a listing on a page: its choices, and what it draws. parts.html has its elements.
+import { draw_beside } from "./beside.mjs";
 import { context_of } from "./chart.mjs";
-import {
-    draw_hydrographs, draw_names, draw_place, draw_section_cells, draw_section_heads, section_name, section_of, time_of,
-} from "./curves.mjs";
 import { figure_of } from "./figure.mjs";
+import { Hands } from "./hands.mjs";
 import { draw_kinds, draw_scale, kinds_here } from "./legend.mjs";
 import { choices_of, Look, palette_of, step_name } from "./look.mjs";
 import { counted } from "./numbers.mjs";
@@ -12,18 +11,19 @@ import {
 } from "./plan.mjs";
 import { more_text, pairs_text } from "./words.mjs";
 
-const MOST_KEPT = 6, CLOSER = 1.6, DRAGGED = 4, CHART = 230, LEAST_MAP = 220;
-const ARROWS = { ArrowUp: [-1, 0], ArrowDown: [1, 0], ArrowLeft: [0, -1], ArrowRight: [0, 1] };
+const MOST_KEPT = 6, CLOSER = 1.6, LEAST_MAP = 220, KEPT_FOR = 60_000;
 
 export class HeadMap {
     constructor(root) {
         this.root = root;
         const found = (selector) => root.querySelector(selector);
         this.form = found(".choices").elements;
-        for (const name of ["map", "scale", "said", "when", "marks", "caption", "hydrographs", "section", "hint", "ragged"]) this[name] = found(`.${name}`);
-        [this.canvas, this.kept_list] = [this.map, found(".kept")];
+        const names = ["scale", "said", "when", "marks", "caption", "hydrographs", "section", "hint", "ragged"];
+        for (const name of names) this[name] = found(`.${name}`);
+        [this.canvas, this.kept_list] = [found(".map"), found(".kept")];
         found(".choices").onsubmit = (event) => event.preventDefault();
         this.#listen(found);
+        new Hands(this);
     }
 
     /** Shows a scene from its last step on; `asked`: layer, step, shows and cells of a link, all counted from 1. */
@@ -80,7 +80,7 @@ export class HeadMap {
         this.form.contours.parentElement.hidden = !this.look.has_numbers || Math.min(this.scene.rows, this.scene.columns) < 2;
         this.#draw_map();
         this.#draw_scale();
-        this.#draw_beside();
+        draw_beside(this);
     }
 
     /** The map in a box of a canvas, as it is seen. */
@@ -110,7 +110,7 @@ export class HeadMap {
         this.paint(context, this.frame, this.palette);
         this.base = new OffscreenCanvas(this.canvas.width, this.canvas.height);
         this.base.getContext("2d").drawImage(this.canvas, 0, 0);
-        this.canvas.classList.toggle("near", this.#is_near);
+        this.canvas.classList.toggle("near", this.is_near);
         this.#draw_cursor();
     }
 
@@ -135,70 +135,6 @@ export class HeadMap {
         const height = draw_kinds(context_of(this.scale, width, 10), [0, 0, width], kinds, palette);
         draw_kinds(context_of(this.scale, width, height), [0, 0, width], kinds, palette);
         this.scale.setAttribute("aria-label", kinds.map(([name, , count]) => `${name}: ${counted(count, "cell")}`).join("; "));
-    }
-
-    /** The kept cells, their curves over time, and a section through the last of them. */
-    #draw_beside() {
-        const { scene, palette } = this;
-        this.kept_buttons();
-        this.hydrographs.hidden = !this.kept.length || scene.last === 0;
-        const width = Math.max(260, this.hint.parentElement.clientWidth);
-        if (!this.hydrographs.hidden) {
-            this.hydrographs.querySelector("figcaption").textContent = `${scene.fields[this.look.field].name} over time`;
-            const context = context_of(this.hydrographs.querySelector("canvas"), width, CHART);
-            this.curves = draw_hydrographs(context, [0, 0, width, CHART], scene, this.look.field, this.kept, this.step, palette);
-        }
-        const along = this.section_at();
-        this.section.hidden = !along;
-        if (!along) return;
-        this.section.querySelector("span").textContent = section_name(along);
-        this.section.querySelector("button").hidden = scene.rows === 1 || scene.columns === 1;
-        const height = this.section_height();
-        this.draw_section(context_of(this.section.querySelector("canvas"), width, height), [0, 0, width], along, palette);
-    }
-
-    /** The section through the last kept cell, or the only one of a model of one row or column. */
-    section_at() {
-        const { scene } = this, is_line = scene.rows === 1 || scene.columns === 1;
-        if (!this.kept.length && !is_line) return undefined;
-        const [, row, column] = this.kept.length ? scene.cell(this.kept.at(-1)) : [0, 0, 0];
-        const is_row = scene.columns > 1 && (scene.rows === 1 || !this.is_turned);
-        return section_of(scene, is_row, is_row ? row : column);
-    }
-
-    section_height() {
-        const names = this.scene.layers > 1 ? 30 + 20 * Math.floor(this.scene.layers / 4) : 0;
-        return CHART + names + (this.scene.tops && this.scene.bottoms ? CHART : 0);
-    }
-
-    draw_section(context, [left, top, width], along, palette) {
-        const { scene, look } = this, charts = [];
-        charts.push(draw_section_heads(context, [left, top, width, CHART], scene, along, look.field, this.step, palette));
-        let below = top + CHART;
-        if (scene.layers > 1) {
-            const names = scene.filled.map((layer) => `layer ${layer + 1}`);
-            below += draw_names(context, [left + 66, below, width - 80], names, palette) + 10;
-        }
-        if (scene.tops && scene.bottoms) {
-            const colour = (place) => look.colour(place, palette);
-            charts.push(draw_section_cells(context, [left, below, width, CHART], scene, along, colour, this.kinds, palette));
-        }
-        if (!this.kept.length) return;
-        const [, row, column] = scene.cell(this.kept.at(-1));
-        for (const chart of charts) draw_place(chart, along, along.is_row ? column : row, palette);
-    }
-
-    /** A button for each kept cell, which lets it go. */
-    kept_buttons() {
-        this.kept_list.hidden = !this.kept.length;
-        this.kept_list.replaceChildren(...this.kept.map((place, n) => {
-            const button = document.createElement("button"), line = document.createElement("span");
-            line.textContent = "\u2501";
-            line.style.color = this.palette.lines[n % this.palette.lines.length];
-            Object.assign(button, { type: "button", title: "let this cell go", onclick: () => this.keep(place) });
-            button.append(line, this.scene.name(place), " \u00d7");
-            return button;
-        }));
     }
 
     #show_marks() {
@@ -242,7 +178,8 @@ export class HeadMap {
         this.draw();
     }
 
-    get #is_near() {
+    /** Whether a part of the grid alone is shown. */
+    get is_near() {
         return this.view.some((edge, n) => edge !== whole(this.scene)[n]);
     }
 
@@ -263,7 +200,7 @@ export class HeadMap {
     }
 
     #listen(found) {
-        const { form, canvas } = this;
+        const { form } = this;
         form.layer.onchange = form.step.oninput = form.shows.onchange = () => this.change();
         form.contours.onchange = form.alone.onchange = () => this.draw();
         form.before.onclick = () => this.turn("step", -1);
@@ -275,12 +212,6 @@ export class HeadMap {
         button("turn", () => ((this.is_turned = !this.is_turned), this.draw()));
         button("figure", () => this.save_figure());
         button("print", () => window.print());
-        canvas.onkeydown = (event) => this.#key(event);
-        canvas.onpointerdown = (event) => this.#press(event);
-        canvas.onpointermove = (event) => this.#move(event);
-        canvas.onclick = (event) => this.#click(event);
-        canvas.onwheel = (event) => event.ctrlKey && (event.preventDefault(), this.zoom(event.deltaY < 0 ? 1.15 : 1 / 1.15, this.#length_at(event)));
-        this.hydrographs.querySelector("canvas").onclick = (event) => this.#choose_step(event);
         new ResizeObserver(() => this.root.clientWidth !== this.wide && ((this.wide = this.root.clientWidth), this.draw())).observe(this.root);
         window.addEventListener("beforeprint", () => this.draw(true));
         window.addEventListener("afterprint", () => this.draw());
@@ -302,76 +233,12 @@ export class HeadMap {
         this.change();
     }
 
-    #key(event) {
-        const by = ARROWS[event.key], { scene } = this, within = (value, most) => Math.min(Math.max(value, 0), most - 1);
-        const [row, column] = this.cursor ?? [0, by ? -by[1] : 0];
-        const actions = {
-            Enter: () => this.keep(this.place), " ": () => this.keep(this.place),
-            PageUp: () => this.turn("layer", -1), PageDown: () => this.turn("layer", 1),
-            ",": () => this.turn("step", -1), ".": () => this.turn("step", 1),
-            "+": () => this.zoom(CLOSER, this.#cursor_length), "-": () => this.zoom(1 / CLOSER), 0: () => this.zoom(0),
-            Escape: () => ((this.kept = []), this.draw()),
-        };
-        if (event.ctrlKey || event.metaKey || event.altKey || !(by || actions[event.key])) return;
-        event.preventDefault();
-        if (by) this.point([within(row + by[0], scene.rows), within(column + by[1], scene.columns)]);
-        else actions[event.key]();
-    }
-
-    get #cursor_length() {
-        if (!this.cursor) return undefined;
-        const [row, column] = this.cursor, { x, y } = this.scene;
-        return [(x[column] + x[column + 1]) / 2, (y[row] + y[row + 1]) / 2];
-    }
-
-    #spot(event) {
-        const box = this.canvas.getBoundingClientRect();
-        return [((event.clientX - box.left) * this.frame.width) / box.width, ((event.clientY - box.top) * this.frame.height) / box.height];
-    }
-
-    #length_at(event) {
-        const [x, y] = this.#spot(event);
-        return [this.view[0] + x / this.frame.across, this.view[1] + y / this.frame.down];
-    }
-
-    #press(event) {
-        this.dragged = { from: this.#spot(event), view: this.view, is_far: false };
-    }
-
-    #move(event) {
-        const spot = this.#spot(event), { dragged } = this;
-        if (event.buttons && dragged && this.#is_near) {
-            const [dx, dy] = [spot[0] - dragged.from[0], spot[1] - dragged.from[1]];
-            dragged.is_far ||= Math.hypot(dx, dy) > DRAGGED;
-            const [x0, y0, x1, y1] = dragged.view;
-            if (dragged.is_far) this.move_to(x0 - dx / this.frame.across, y0 - dy / this.frame.down, x1 - x0, y1 - y0);
-            return;
-        }
-        const cell = this.frame.cell_at(...spot);
-        if (cell) this.point(cell);
-    }
-
-    #click(event) {
-        const cell = this.frame.cell_at(...this.#spot(event));
-        if (!cell || this.dragged?.is_far) return;
-        this.point(cell);
-        this.keep(this.place);
-    }
-
-    /** The step whose end is nearest to a place on the curves over time. */
-    #choose_step(event) {
-        const box = event.target.getBoundingClientRect(), time = this.curves.value_at(event.clientX - box.left);
-        const off = this.scene.steps.map((_, n) => Math.abs(time_of(this.scene, n) - time));
-        this.form.step.value = off.indexOf(Math.min(...off));
-        this.change();
-    }
-
     save_figure() {
         const link = document.createElement("a");
         figure_of(this).convertToBlob({ type: "image/png" }).then((blob) => {
             Object.assign(link, { href: URL.createObjectURL(blob), download: "map.png" });
             link.click();
-            URL.revokeObjectURL(link.href);
+            setTimeout(() => URL.revokeObjectURL(link.href), KEPT_FOR);
         });
     }
 }
