@@ -32,6 +32,8 @@ const held = new Map();
 const made = new Set();
 const map = new HeadMap(at("heads-map"));
 let saved;
+/** Counts the results that were asked for or dropped: what comes late for another one is not shown. */
+let turn = 0;
 /** Ends the worker that runs, if one does. */
 let cancel;
 
@@ -77,6 +79,7 @@ function show_form() {
 }
 
 function drop_result() {
+    turn++;
     at("result").hidden = true;
     if (saved) URL.revokeObjectURL(saved);
     saved = undefined;
@@ -158,9 +161,12 @@ function run(words, from, told = () => {}) {
 }
 
 async function begin() {
-    const from = folder_of(at("name").value), command = at("command").value, words = words_of(from);
-    const began = performance.now(), line = `heads ${words.join(" ")}`;
+    // What is asked for is kept: the choices may be changed before the answer comes.
+    const name = at("name").value, from = folder_of(name), command = at("command").value;
+    const asked = { command, name, from, wide: at("wide").checked ? ["--wide"] : [], listing: held.get(at("listing").value) };
+    const words = words_of(from), began = performance.now(), line = `heads ${words.join(" ")}`;
     drop_result();
+    asked.turn = turn;
     at("result").hidden = false;
     for (const id of ["map", "save", "shown"]) at(id).hidden = true;
     at("facts").textContent = "";
@@ -170,8 +176,9 @@ async function begin() {
     const clock = setInterval(() => say(`${line} .. ${steps ? `${steps} steps, ` : ""}${seconds()}`), 500);
     const ended = await run(words, from, (count) => (steps = count));
     clearInterval(clock);
+    if (asked.turn !== turn) return undefined;
     if (ended.is_stopped) return say(`${line}: stopped after ${seconds()}`, "bad");
-    return show_end(command, line, ended, seconds());
+    return show_end(asked, line, ended, seconds());
 }
 
 async function sha256(bytes) {
@@ -180,29 +187,34 @@ async function sha256(bytes) {
     return [...sum].map((byte) => byte.toString(16).padStart(2, "0")).join("");
 }
 
-async function show_end(command, line, { status, out, side, taken, fault }, seconds) {
+async function show_end(asked, line, { status, out, side, taken, fault }, seconds) {
     if (fault) return say(`${line}: no answer: ${fault}`, "bad");
-    const sum = await sha256(out), text = new TextDecoder("latin1").decode(joined([out.subarray(0, SHOWN), side]));
+    const { command } = asked, sum = await sha256(out);
+    if (asked.turn !== turn) return undefined;
+    const text = new TextDecoder("latin1").decode(joined([out.subarray(0, SHOWN), side]));
     const last = last_line(out), well = status === 0 ? promise(command, line.includes(" --to ")) : "";
     say(well || `${SENTENCES[status] ?? `Status ${status}.`} ${last}`, well ? "well" : "bad");
     const names = taken.map(([asked, name]) => `; ${asked} was read as ${name}`).join("");
     at("facts").textContent = `${line}: status ${status}, ${out.length} bytes, sha256 ${sum}, ${seconds}${names}`;
     at("text").textContent = out.length > SHOWN ? `${text}\n..` : text;
     at("shown").hidden = false;
-    if (status === 0 && command !== "check") keep(command, out);
-    if (status === 0 && command !== "write") await show_map(command === "check" ? held.get(at("listing").value) : out, well);
+    if (status === 0 && command !== "check") keep(asked, out);
+    if (status === 0 && command !== "write") await show_map(asked, command === "check" ? asked.listing : out, well);
     return undefined;
 }
 
 /** Shows the map of a listing, on the grid of its deck as the program reads that. */
-async function show_map(listing, verdict) {
-    const name = at("name").value, from = folder_of(name);
-    const { status, out } = await run(["write", from_folder(name, from), ...(at("wide").checked ? ["--wide"] : [])], from);
+async function show_map(asked, listing, verdict) {
+    const { name, from, wide } = asked, { status, out } = await run(["write", from_folder(name, from), ...wide], from);
     const source = `Made by heads.html, which isn't proved, of the listing with sha256 ${await sha256(listing)}`;
+    if (asked.turn !== turn) return;
     const about = { time: time_unit(name), title: name, verdict, source };
     const scene = scene_of_listing(listing, status === 0 ? out : undefined, about);
     at("map").hidden = !scene;
-    if (scene) map.show(scene);
+    if (!scene) return;
+    const kept = scene.steps.length;
+    at("left-out").textContent = kept < scene.all_steps ? `The map has ${kept} of ${scene.all_steps} steps. ` : "";
+    map.show(scene);
 }
 
 /** ITMUNI, which `heads write` leaves out: the fifth number of the file DIS; 0 where it isn't found. */
@@ -216,8 +228,8 @@ function time_unit(name) {
 }
 
 /** Offers what was written as a file, and a listing as one that can be checked. */
-function keep(command, out) {
-    const stem = at("name").value.replace(/\.[^.]*$/, ""), ending = command === "write" ? ".deck" : ".heads";
+function keep({ command, name: deck }, out) {
+    const stem = deck.replace(/\.[^.]*$/, ""), ending = command === "write" ? ".deck" : ".heads";
     const name = held.has(stem + ending) && !made.has(stem + ending) ? `${stem}.page${ending}` : stem + ending;
     saved = URL.createObjectURL(new Blob([out]));
     Object.assign(at("save"), { href: saved, download: name.slice(name.lastIndexOf("/") + 1), hidden: false });

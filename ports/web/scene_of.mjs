@@ -24,8 +24,9 @@ function of_cells(layers, cells, columns) {
 }
 
 /**
- * The scene of a listing that a run here wrote whole, or that a check here certified; nothing where it has no step or no cell. `deck`: what `heads write` wrote of its deck, or nothing;
- * `time`: ITMUNI; `title`, `verdict` and `source`: for a picture of the map.
+ * The scene of a listing that a run here wrote whole, or that a check here certified, with the count of all its steps;
+ * nothing where it has no step or no cell. `deck`: what `heads write` wrote of its deck, or nothing; `time`: ITMUNI;
+ * `title`, `verdict` and `source`: for a picture of the map.
  */
 export function scene_of_listing(listing, deck, { time = 0, title, verdict, source }) {
     const pairs = pairs_of(listing);
@@ -33,7 +34,7 @@ export function scene_of_listing(listing, deck, { time = 0, title, verdict, sour
     const grid = deck ? deck_of(deck) : squares(pairs.cells), [, rows, columns] = grid.shape;
     const steps = pairs.steps.map(({ period, step }, n) => [period, step, grid.times.get(`${period} ${step}`) ?? n + 1]);
     return new Scene({
-        title, verdict, source, steps, is_certified: true,
+        title, verdict, source, steps, is_certified: true, all_steps: pairs.count,
         shape: grid.shape, x: grid.x, y: grid.y, is_true: Boolean(deck), marks: grid.marks,
         unit: LENGTHS[unit_of(listing)] ?? LENGTHS[0],
         time: deck ? TIMES[time] ?? TIMES[0] : "",
