@@ -1,37 +1,42 @@
 """Tools beside `heads`, the program of certified heads for MODFLOW-2005. Nothing in this package is proved."""
-import sys
-from types import ModuleType
-
-from .plans.drawdown import changes_of  # before the call drawdown, whose name the module would take
+from .answers import Answer
 from .calls import (
-    Answer,
+    batch,
     between,
     certify,
     check,
     compare,
     drawdown,
     drawdown_whatever,
+    ensemble,
+    exhibit,
     export,
     hds,
     inside,
     look,
     observe,
     plain,
+    plans,
+    plot,
     run,
+    template,
+    zonebudget,
+    zones_frame,
 )
-from .exports.exports import heads_frame, terms_frame
+from .common.text import VERSION, Problem
+from .deck.model import Model, read_model
 from .deck.places import Place
-from .program.failures import NoBounds, RunFailed
+from .exports.exports import heads_frame, terms_frame
 from .exports.files import to_geotiff, to_vtk
+from .exports.geopackage import to_geopackage
+from .exports.netcdf import to_netcdf, to_xarray
 from .listing.headfile import read_heads, write_heads
 from .listing.listing import Listing, Step, read_listing
-from .deck.model import Model, read_model
-from .exports.netcdf import to_netcdf, to_xarray
-from .common.text import VERSION, Problem
+from .planning.drawdown import changes_of
+from .program.failures import NoBounds, RunFailed
 from .program.verdict import Verdict
 
 __version__ = VERSION
-CALLS = ("between", "certify", "compare", "drawdown", "inside", "look", "observe", "plain", "run")
 __all__ = [
     "Answer",
     "Listing",
@@ -42,13 +47,16 @@ __all__ = [
     "RunFailed",
     "Step",
     "Verdict",
+    "batch",
     "between",
     "certify",
-    "check",
     "changes_of",
+    "check",
     "compare",
     "drawdown",
     "drawdown_whatever",
+    "ensemble",
+    "exhibit",
     "export",
     "hds",
     "heads_frame",
@@ -56,26 +64,20 @@ __all__ = [
     "look",
     "observe",
     "plain",
+    "plans",
+    "plot",
     "read_heads",
     "read_listing",
     "read_model",
     "run",
+    "template",
     "terms_frame",
+    "to_geopackage",
     "to_geotiff",
     "to_netcdf",
     "to_vtk",
     "to_xarray",
     "write_heads",
+    "zonebudget",
+    "zones_frame",
 ]
-
-
-class Package(ModuleType):
-    """This package, whose calls keep their names: some of its modules have the same ones, and the first import of a
-    module would put it in the call's place."""
-
-    def __setattr__(self, name: str, value: object) -> None:
-        if not (name in CALLS and isinstance(value, ModuleType)):
-            super().__setattr__(name, value)
-
-
-sys.modules[__name__].__class__ = Package

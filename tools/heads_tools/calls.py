@@ -1,173 +1,346 @@
-"""The commands as calls of Python. Each takes the command's words and, by name, its options: `run(nam, digits=9)` is
-`heads-tools run NAM --digits 9`. What isn't known to the command, and a run that doesn't end well, raises Problem."""
+"""The commands as calls of Python: `run(nam, digits=9)` is `heads-tools run NAM --digits 9`. What a command can't do
+raises Problem; a run that doesn't end well RunFailed, where it isn't asked not to (check=False)."""
 from __future__ import annotations
 
-import argparse
-import io
-from dataclasses import dataclass
+from importlib import import_module
 from pathlib import Path
-from typing import Any
+from typing import TYPE_CHECKING, Any, Union
 
-from .cli import joined, parser
-from .commands import PASSING, command
+import numpy as np
+
+from .answers import Answer, Cells, Span, arguments, call, cells_of, made, span_of
 from .commands.shared import existing, guarded, listing_of
-from .common.text import Problem
+from .deck.model import Model
 from .listing.listing import Listing, read_listing
 from .listing.spans import second_deck
-from .program.failures import failure_of
 from .program.verdict import Verdict, check_listing
 
+if TYPE_CHECKING:
+    import pandas
+    from matplotlib.axes import Axes
 
-@dataclass(repr=False)
-class Answer:
-    """How a command ended: its status (0: well), what it said, and the listing that it wrote, if any."""
-
-    command: str
-    status: int
-    lines: list[str]
-    written: Listing | None = None
-
-    def __repr__(self) -> str:
-        return f"<{self.command}: status {self.status}, {self.lines[0] if self.lines else 'nothing said'}>"
-
-    def __str__(self) -> str:
-        return "\n".join(self.lines)
-
-    @property
-    def is_good(self) -> bool:
-        return self.status == 0
-
-    @property
-    def listing(self) -> Listing:
-        """The listing that the command wrote, as it was written: what became of the file later changes nothing."""
-        if self.written is None:
-            raise Problem(f"{self.command} wrote no listing")
-        return self.written
+PathLike = Union[str, Path]
+Listed = Union[str, Path, Listing]
 
 
-def option_words(options: dict[str, Any]) -> list[str]:
-    """The words of options by name: True is the word alone, None and False nothing, a list each of its values."""
-    out = []
-    for name, value in options.items():
-        word = "--" + name.replace("_", "-")
-        for one in value if isinstance(value, list) else [value]:
-            text = ",".join(map(str, one)) if isinstance(one, tuple) else str(one)
-            out += [] if one is None or one is False else [word] if one is True else [word, text]
-    return out
+def run(
+    nam: PathLike,
+    out: PathLike | None = None,
+    *,
+    to: PathLike | None = None,
+    digits: int | None = None,
+    zones: PathLike | None = None,
+    quick: bool = False,
+    wide: bool = False,
+    workers: int | None = None,
+    rounds: int | None = None,
+    watch: int | None = None,
+    quiet: bool = False,
+    force: bool = False,
+    check: bool = True,
+) -> Answer:
+    """Runs the model; `.listing` is its listing. `to`: a second deck; `quiet`: no progress on standard error. A run
+    that doesn't end well raises RunFailed, where a step has no bounds NoBounds; with check=False it is an answer with
+    its status, which has no listing: `success, lines = run(nam, check=False)`."""
+    options = dict(
+        out=out, to=to, digits=digits, zones=zones, quick=quick, wide=wide, workers=workers, rounds=rounds, watch=watch
+    )
+    return made("run", {"nam": nam}, options | dict(quiet=quiet, force=force), check)
 
 
-def arguments(command: str, given: dict[str, Any], options: dict[str, Any]) -> tuple[argparse.Namespace, list[str]]:
-    """What the command's parser makes of words by name and of options. Listings in memory are handed over as they
-    are."""
-    memory = {name: each for name, each in (given | options).items() if isinstance(each, Listing)}
-    words = [str(each.path if isinstance(each, Listing) else each) for each in given.values()]
-    named = {name: each.path if isinstance(each, Listing) else each for name, each in options.items()}
-    try:
-        args, rest = parser([command]).parse_known_args(joined([command, *words, *option_words(named)]))
-    except SystemExit:
-        raise Problem(f"{command}: help and version are for the command line") from None
-    if rest and command not in PASSING:
-        raise Problem(f"{command} doesn't know {' '.join(rest)}")
-    vars(args).update(memory)
-    return args, rest
+def inside(nam: PathLike, *, most: int | None = None, heads: PathLike | None = None) -> Answer:
+    """Whether the model is inside, with all reasons; status 1 where it isn't. `heads`: those of a run, where a layer is
+    convertible."""
+    return call("inside", {"nam": nam}, dict(most=most, heads=heads))
 
 
-def call(name: str, given: dict[str, Any], options: dict[str, Any]) -> Answer:
-    """Does a command, whose words are `given` by their names in the parser."""
-    args, rest = arguments(name, given, options)
-    said = io.StringIO()
-    with guarded(args, rest):
-        status = command(name).do(args, rest, said)
-    return Answer(name, status, said.getvalue().rstrip("\n").split("\n"))
+def plain(nam: PathLike, folder: PathLike, *, dry: PathLike | None = None, as_confined: bool = False) -> Answer:
+    """Writes the deck in the spelling that heads reads; of a MODFLOW 6 simulation the deck with its equations."""
+    return call("plain", {"nam": nam, "folder": folder}, dict(dry=dry, as_confined=as_confined))
 
 
-def made(name: str, given: dict[str, Any], options: dict[str, Any]) -> Answer:
-    """Does a command that makes a listing, and raises RunFailed where it makes none."""
-    args, rest = arguments(name, given, options)
-    said = io.StringIO()
-    with guarded(args, rest):
-        ran = command(name).ran(args, rest, said)
-    if ran.status != 0 or ran.listing is None:
-        raise failure_of(ran.status, ran.last, ran.lines)
-    return Answer(name, 0, said.getvalue().rstrip("\n").split("\n"), ran.listing)
+def between(
+    nam: PathLike,
+    folder: PathLike,
+    *,
+    wells: Span = None,
+    recharge: Span = None,
+    stage: Span = None,
+    package: PathLike | list[PathLike] | None = None,
+) -> Answer:
+    """Writes two decks of one shape: factors of wells and recharge, shifts of stages, each (LOW, HIGH) or
+    "LOW..HIGH"; packages of another plan."""
+    spans = dict(wells=span_of(wells), recharge=span_of(recharge), stage=span_of(stage))
+    return call("between", {"nam": nam, "folder": folder}, spans | dict(package=package))
 
 
-def run(nam: str | Path, out: str | Path | None = None, **options: Any) -> Answer:
-    """Runs the model; `.listing` is its listing. Options are those of `heads run`: digits, workers, rounds, zones,
-    watch, quick, wide, to; and quiet, without progress on standard error. A run that doesn't end well raises RunFailed;
-    where a step has no bounds, NoBounds."""
-    return made("run", {"nam": nam}, {"out": out} | options)
-
-
-def inside(nam: str | Path, **options: Any) -> Answer:
-    """Whether the model is inside, with all reasons; status 1 where it isn't."""
-    return call("inside", {"nam": nam}, options)
-
-
-def plain(nam: str | Path, folder: str | Path, **options: Any) -> Answer:
-    """Writes the deck in the spelling that heads reads: dry, as_confined."""
-    return call("plain", {"nam": nam, "folder": folder}, options)
-
-
-def between(nam: str | Path, folder: str | Path, **options: Any) -> Answer:
-    """Writes two decks of one shape: wells, recharge, stage (each (LOW, HIGH) or "LOW..HIGH"), package."""
-    spans = {name: "{}..{}".format(*each) if isinstance(each, tuple) else each for name, each in options.items()}
-    return call("between", {"nam": nam, "folder": folder}, spans)
-
-
-def look(listing: str | Path | Listing, folder: str | Path, **options: Any) -> Answer:
-    """Draws a listing: name, cell, given, every and what else the command knows."""
+def look(
+    listing: Listed,
+    folder: PathLike,
+    *,
+    name: PathLike | None = None,
+    to: PathLike | None = None,
+    cell: Cells = None,
+    given: PathLike | None = None,
+    minus: Listed | None = None,
+    zones: PathLike | None = None,
+    wide: bool = False,
+    every: bool = False,
+    svg: bool = False,
+    force: bool = False,
+    **more: Any,
+) -> Answer:
+    """Draws a listing: maps, sections, hydrographs, budget, a page. `name`: the model, whose check is called first;
+    `more`: what else `heads-tools look` knows."""
+    options = dict(name=name, to=to, cell=cells_of(cell), given=given, minus=minus, zones=zones, wide=wide)
+    options |= dict(every=every, svg=svg, force=force) | more
     return call("look", {"listing": listing, "folder": folder}, options)
 
 
-def compare(listing: str | Path | Listing, heads: str | Path, **options: Any) -> Answer:
-    """How far given heads are off: name, map, csv."""
+def compare(
+    listing: Listed,
+    heads: PathLike,
+    *,
+    name: PathLike | None = None,
+    map: PathLike | None = None,
+    csv: PathLike | None = None,
+    to: PathLike | None = None,
+    zones: PathLike | None = None,
+    wide: bool = False,
+    force: bool = False,
+) -> Answer:
+    """How far given heads are off from every exact solution."""
+    options = dict(name=name, map=map, csv=csv, to=to, zones=zones, wide=wide, force=force)
     return call("compare", {"listing": listing, "heads": heads}, options)
 
 
-def certify(nam: str | Path, heads: str | Path, out: str | Path | None = None, **options: Any) -> Answer:
+def certify(
+    nam: PathLike,
+    heads: PathLike,
+    out: PathLike | None = None,
+    *,
+    digits: int | None = None,
+    theta: float | None = None,
+    zones: PathLike | None = None,
+    convertible: bool = False,
+    wide: bool = False,
+    force: bool = False,
+    check: bool = True,
+) -> Answer:
     """Certified bounds round given heads; `.listing` is the certified listing. Where the check refuses them it raises
-    RunFailed."""
-    return made("certify", {"nam": nam, "heads": heads}, {"out": out} | options)
+    RunFailed, or with check=False gives an answer with its status."""
+    options = dict(out=out, digits=digits, theta=theta, zones=zones, convertible=convertible, wide=wide, force=force)
+    return made("certify", {"nam": nam, "heads": heads}, options, check)
 
 
-def drawdown(plan: str | Path | Listing, base: str | Path | Listing, folder: str | Path, **options: Any) -> Answer:
-    """What a plan does: name, base_name, cell."""
+def drawdown(
+    plan: Listed,
+    base: Listed,
+    folder: PathLike,
+    *,
+    name: PathLike | None = None,
+    base_name: PathLike | None = None,
+    cell: Cells = None,
+    zones: PathLike | None = None,
+    wide: bool = False,
+    force: bool = False,
+) -> Answer:
+    """What a plan does: the differences of two listings."""
+    options = dict(name=name, base_name=base_name, cell=cells_of(cell), zones=zones, wide=wide, force=force)
     return call("drawdown", {"plan": plan, "base": base, "folder": folder}, options)
 
 
 def drawdown_whatever(
-    base: str | Path, plan: str | Path, folder: str | Path, to: str | Path | None = None, **options: Any
+    base: PathLike,
+    plan: PathLike,
+    folder: PathLike,
+    to: PathLike | None = None,
+    *,
+    any: bool = False,
+    cell: Cells = None,
+    at: str | list[str] | None = None,
+    hk: Span = None,
+    digits: int | None = None,
+    quick: bool = False,
+    wide: bool = False,
+    force: bool = False,
 ) -> Answer:
     """What a plan does to a base deck in every weather between it and the deck `to`, in any weather (any=True), or in
-    its own. `plan`: a file of WEL or a name file. `.listing` is that of the difference decks. cell, at, digits, quick,
-    wide."""
-    answer = call("drawdown", {"plan": base, "base": plan, "folder": folder}, {"to": to} | options)
+    its own. `plan`: a file of WEL or a name file. `.listing` is that of the difference decks."""
+    options = dict(to=to, any=any, cell=cells_of(cell), at=at, hk=span_of(hk), digits=digits, quick=quick, wide=wide)
+    answer = call("drawdown", {"plan": base, "base": plan, "folder": folder}, options | dict(force=force))
     answer.written = read_listing(Path(folder) / "difference.heads")
     return answer
 
 
-def export(listing: str | Path | Listing, folder: str | Path, name: str | Path, **options: Any) -> Answer:
-    """Writes NetCDF, GeoTIFF, VTK and CSV of a listing of the model `name`, after its check: at, start, minus."""
-    return call("export", {"listing": listing, "folder": folder}, {"name": name} | options)
+def plans(
+    batch_list: PathLike, folder: PathLike, *, base: str | None = None, cell: Cells = None, force: bool = False
+) -> Answer:
+    """One page that compares all listings of a batch with one of them."""
+    return call("plans", {"list": batch_list, "folder": folder}, dict(base=base, cell=cells_of(cell), force=force))
 
 
-def hds(listing: str | Path | Listing, out: str | Path, **options: Any) -> Answer:
-    """Writes a head file of a listing: name, lower, upper, middle, single."""
+def batch(
+    batch_list: PathLike,
+    *,
+    digits: int | None = None,
+    jobs: int | None = None,
+    quick: bool = False,
+    wide: bool = False,
+    slurm: bool = False,
+    parallel: bool = False,
+    write_only: bool = False,
+    force: bool = False,
+) -> Answer:
+    """Runs the models of a list; the status is the first one that isn't 0, and the lines say how each ended."""
+    options = dict(digits=digits, jobs=jobs, quick=quick, wide=wide, slurm=slurm, parallel=parallel)
+    return call("batch", {"list": batch_list}, options | dict(write_only=write_only, force=force))
+
+
+def exhibit(
+    nam: PathLike,
+    folder: PathLike,
+    *,
+    to: PathLike | None = None,
+    digits: int | None = None,
+    zones: PathLike | None = None,
+    quick: bool = False,
+    wide: bool = False,
+) -> Answer:
+    """All that a report or a court needs of one run, in one folder."""
+    options = dict(to=to, digits=digits, zones=zones, quick=quick, wide=wide)
+    return call("exhibit", {"nam": nam, "folder": folder}, options)
+
+
+def export(
+    listing: Listed,
+    folder: PathLike,
+    name: PathLike,
+    *,
+    formats: str | None = None,
+    at: str | tuple[float, ...] | None = None,
+    last: bool = False,
+    minus: Listed | None = None,
+    base_name: PathLike | None = None,
+    start: str | None = None,
+    to: PathLike | None = None,
+    wide: bool = False,
+    force: bool = False,
+    **more: Any,
+) -> Answer:
+    """Writes NetCDF, GeoTIFF, GeoPackage, VTK and CSV of a listing of the model `name`, after its check. `formats`: of
+    nc, tif, gpkg, vtu, csv, with commas between."""
+    options = dict(name=name, at=at, last=last, minus=minus, base_name=base_name, start=start, to=to, wide=wide)
+    options |= {"as": formats or more.pop("as", None), "force": force} | more
+    return call("export", {"listing": listing, "folder": folder}, options)
+
+
+def hds(
+    listing: Listed,
+    out: PathLike,
+    *,
+    name: PathLike | None = None,
+    lower: bool = False,
+    upper: bool = False,
+    middle: bool = False,
+    single: bool = False,
+    to: PathLike | None = None,
+    wide: bool = False,
+    force: bool = False,
+) -> Answer:
+    """Writes a head file of a listing: middle heads where no side is named."""
+    options = dict(name=name, lower=lower, upper=upper, middle=middle, single=single, to=to, wide=wide, force=force)
     return call("hds", {"listing": listing, "out": out}, options)
 
 
-def observe(listing: str | Path | Listing, points: str | Path, name: str | Path, **options: Any) -> Answer:
-    """Heads at the points of a table or a HOB file; the lines of the answer are the table: at, between, out."""
-    return call("observe", {"listing": listing, "points": points}, {"name": name} | options)
+def observe(
+    listing: Listed,
+    points: PathLike,
+    name: PathLike,
+    *,
+    at: str | tuple[float, ...] | None = None,
+    between: bool = False,
+    out: PathLike | None = None,
+    start: str | None = None,
+    picture: PathLike | None = None,
+    pest: PathLike | None = None,
+    zones: PathLike | None = None,
+    wide: bool = False,
+    quiet: bool = False,
+    force: bool = False,
+) -> Answer:
+    """Heads at the points of a table or a HOB file; the lines of the answer are the table. `quiet`: nothing on standard
+    error."""
+    options = dict(name=name, at=at, between=between, out=out, start=start, picture=picture, pest=pest, zones=zones)
+    return call("observe", {"listing": listing, "points": points}, options | dict(wide=wide, quiet=quiet, force=force))
 
 
-def check(nam: str | Path, listing: str | Path | Listing, **options: Any) -> Verdict:
-    """What `heads check` says of a listing: to, zones, wide. It goes with the listing into to_netcdf and the like."""
-    args, rest = arguments("check", {"nam": nam, "listing": listing}, options)
-    if args.parts is not None:
-        raise Problem("a check by parts has no verdict of the whole: call `heads-tools check --parts`")
+def zonebudget(
+    listing: Listed, zones: PathLike, name: PathLike, *, out: PathLike | None = None, wide: bool = False
+) -> Answer:
+    """The water budget of each zone; the lines of the answer are the table after the verdict."""
+    return call("zonebudget", {"listing": listing, "zones": zones}, dict(name=name, out=out, wide=wide))
+
+
+def template(nam: PathLike, folder: PathLike) -> Answer:
+    """The deck with templates of its arrays in the form of PEST."""
+    return call("template", {"nam": nam, "folder": folder}, {})
+
+
+def ensemble(
+    nam: PathLike,
+    values: PathLike,
+    folder: PathLike,
+    tpl: PathLike | list[PathLike],
+    *,
+    cell: Cells = None,
+    points: PathLike | None = None,
+    at: str | tuple[float, ...] | None = None,
+    start: str | None = None,
+    digits: int | None = None,
+    jobs: int | None = None,
+    quick: bool = False,
+    wide: bool = False,
+    force: bool = False,
+) -> Answer:
+    """Samples of a deck from templates and a table: least and most head at chosen places, which are no bounds."""
+    options = dict(tpl=tpl, cell=cells_of(cell), points=points, at=at, start=start, digits=digits, jobs=jobs)
+    given = {"nam": nam, "values": values, "folder": folder}
+    return call("ensemble", given, options | dict(quick=quick, wide=wide, force=force))
+
+
+def check(
+    nam: PathLike, listing: Listed, *, to: PathLike | None = None, zones: PathLike | None = None, wide: bool = False
+) -> Verdict:
+    """What `heads check` says of a listing. It goes with the listing into to_netcdf and the like."""
+    args, rest = arguments("check", {"nam": nam, "listing": listing}, dict(to=to, zones=zones, wide=wide))
     path = existing(args.nam)
-    zones = existing(args.zones) if args.zones else None
+    file = existing(args.zones) if args.zones else None
     with guarded(args, rest):
-        return check_listing(path, listing_of(args.listing), zones, second_deck(path, args.to), args.wide)
+        return check_listing(path, listing_of(args.listing), file, second_deck(path, args.to), args.wide)
+
+
+def plot(
+    listing: Listing,
+    model: Model | None = None,
+    ax: Axes | None = None,
+    *,
+    layer: int = 1,
+    kstpkper: tuple[int, int] | None = None,
+    side: str = "middle",
+) -> Axes:
+    """Draws the heads of a layer at a step, the last where it isn't named, into axes of matplotlib; lower, upper or
+    middle heads. `kstpkper`: step and period from 0, as FloPy counts."""
+    drawn = import_module(f"{__package__}.pages.plot").plot_heads
+    return drawn(listing, model, ax, layer, kstpkper, side)  # type: ignore[no-any-return]
+
+
+def zones_frame(
+    listing: Listing,
+    model: Model | None = None,
+    zones: PathLike | np.ndarray | None = None,
+    verdict: Verdict | None = None,
+) -> pandas.DataFrame:
+    """A table of pandas: the flows between zones that a listing has (its lines ZONE); with a model and `zones`, a zone
+    file or an array of zones, the whole budget of each zone, its nets narrowed. Rounded outward to doubles."""
+    return import_module(f"{__package__}.frames").zones_frame(listing, model, zones, verdict)

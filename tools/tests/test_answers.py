@@ -54,7 +54,7 @@ def test_a_run_whose_words_are_not_taken_raises_and_names_the_word(valley):
     with pytest.raises(RunFailed, match="`--digits 99`: a whole number from 0 to 18") as raised:
         heads_tools.run(valley, digits=99)
     assert raised.value.status == 1
-    with pytest.raises(RunFailed, match="`--digit` isn't known"):
+    with pytest.raises(TypeError, match="digit"):
         heads_tools.run(valley, digit=9)
 
 
@@ -155,7 +155,7 @@ def test_heads_that_are_not_certified_raise_and_leave_the_certified_listing(vall
 
 
 def test_a_command_writes_to_the_stream_that_it_is_given(valley):
-    from heads_tools.calls import arguments
+    from heads_tools.answers import arguments
     from heads_tools.commands import command
 
     args, rest = arguments("model", {"nam": valley}, {})

@@ -7,7 +7,7 @@ import pytest
 from conftest import TOP
 
 from heads_tools import Problem, read_listing
-from heads_tools.plans.drawdown import difference, told
+from heads_tools.planning.drawdown import difference, told
 
 PLAN = """HEADS 2 DIGITS 0 UNIT 2
 STEP 1 1

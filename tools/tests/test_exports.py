@@ -55,7 +55,7 @@ def test_calls_keep_their_names_beside_the_modules(tide, tmp_path):
     assert heads_tools.compare(tide[2], tmp_path / "m.hds", csv=tmp_path / "off.csv").is_good
     rows = list(csv.DictReader((tmp_path / "off.csv").open()))
     assert len(rows) == 48 and all(r["outside"] == "0" and r["given"] == "60" for r in rows)
-    with pytest.raises(Problem, match="doesn't know --nothing"):
+    with pytest.raises(TypeError, match="nothing"):
         heads_tools.inside(tide[0], nothing=1)
     with pytest.raises(Problem):
         heads_tools.run(tmp_path / "none.nam")

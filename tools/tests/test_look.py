@@ -9,7 +9,7 @@ from conftest import heads
 from matplotlib.backends.backend_agg import FigureCanvasAgg
 from matplotlib.text import Text
 
-from heads_tools.plans.drawdown import difference
+from heads_tools.planning.drawdown import difference
 from heads_tools.listing.listing import Step, read_listing
 from heads_tools.listing.zones import net_flows
 

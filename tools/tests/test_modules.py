@@ -14,7 +14,7 @@ LAYERS = [
     {"deck"},
     {"listing", "modflow6"},
     {"program"},
-    {"numbers", "plans", "exports"},
+    {"numbers", "planning", "exports"},
     {"water", "pages"},
     {"commands"},
     {""},

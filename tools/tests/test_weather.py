@@ -10,11 +10,11 @@ import pytest
 from conftest import heads
 
 from heads_tools import Problem
-from heads_tools.plans.drawdown_weather import Asked, weathered
+from heads_tools.planning.drawdown_weather import Asked, weathered
 from heads_tools.deck.packages import read_deck
 from heads_tools.deck.writing import package_lines
-from heads_tools.plans.plan_sources import FLOW_PLACES
-from heads_tools.plans.shares import share, word_of
+from heads_tools.planning.plan_sources import FLOW_PLACES
+from heads_tools.planning.shares import share, word_of
 
 pytestmark = [pytest.mark.program, pytest.mark.spans]
 PLANS = int(os.environ.get("PLANS", "30"))

@@ -14,8 +14,8 @@ from ..listing.below_top import BelowTop
 from ..listing.listing import Cell, Listing
 from ..pages.drawdown_page import draw
 from ..pages.weather_page import NOTES, drawdown_weather, folder_of
-from ..plans.drawdown import Drawdown, difference, tops_lines, verdict_of, write_changes
-from ..plans.drawdown_weather import Asked
+from ..planning.drawdown import Drawdown, difference, tops_lines, verdict_of, write_changes
+from ..planning.drawdown_weather import Asked
 from ..program.verdict import status_of
 from .shared import existing, listing_of, page_folder, say
 from .words import add_force, add_quick, add_to, add_wide, add_words, add_zones, cell, named_point, stress_range

@@ -9,7 +9,7 @@ from ..common.text import Problem
 from ..common.whole_files import whole_folder
 from ..deck.dates import start_of
 from ..deck.model import read_model
-from ..plans.ensemble import NOTES, Asked, drop_samples, run_ensemble
+from ..planning.ensemble import NOTES, Asked, drop_samples, run_ensemble
 from .shared import existing, flags_of, place_for, say
 from .words import add_cells, add_force, add_quick, add_wide, add_words
 

@@ -10,7 +10,7 @@ from ..common.whole_files import whole_folder
 from ..deck.model import read_model
 from ..exports.files import FORMATS, export
 from ..listing.fitting import demand_fit
-from ..plans.drawdown import changes_of
+from ..planning.drawdown import changes_of
 from ..program.verdict import both, check_listing, not_checked, status_of
 from .shared import existing, listing_of, place_for, say, verdict_of
 from .words import LISTING, add_force, add_place, add_to, add_wide, add_words

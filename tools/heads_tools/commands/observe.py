@@ -32,6 +32,7 @@ def add(sub: argparse.ArgumentParser) -> None:
     add_words(sub, LISTING, ("points", "the table or the HOB file"))
     add_place(sub, True)
     sub.description = OBSERVE
+    sub.add_argument("--quiet", action="store_true", help="no sentences on standard error: the table alone")
     add_zones(sub)
     add_wide(sub)
     sub.add_argument("--between", action="store_true", help="points of a table lie between the middles of cells, too")
@@ -75,6 +76,7 @@ def do(args: argparse.Namespace, _: list[str], out: IO[str]) -> int:
             file.write(seen.table())
         write_about(args.out, verdict)
         lines = [f"written: {args.out} ({len(lines) - 1} lines)"]
-    print("\n".join([verdict.sentence, *told, *seen.lacking(), *written]), file=sys.stderr)
+    if not args.quiet:
+        print("\n".join([verdict.sentence, *told, *seen.lacking(), *written]), file=sys.stderr)
     say(lines, out)
     return status_of(args.name, verdict)

@@ -12,8 +12,8 @@ from ..deck.sizes import size_of
 from ..listing.below_top import lines_below_top
 from ..listing.made_by import made_by
 from ..listing.spans import second_deck, target_of
-from ..program.explain import Meaning, explain
 from ..program import follow
+from ..program.explain import Meaning, explain
 from ..program.program import Ended, digits_of, run, with_wide
 from .shared import MOST_DIGITS, Ran, existing, flags_of, say
 from .words import NAM, WIDE_RUN, add_force, add_quick, add_to, add_wide, add_words

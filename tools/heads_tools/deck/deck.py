@@ -4,6 +4,7 @@ from __future__ import annotations
 from dataclasses import dataclass, field
 from pathlib import Path
 
+from ..common.text import counted
 from .sources import Array
 
 KINDS = ("DIS", "BAS6", "LPF", "WEL", "RIV", "DRN", "GHB", "RCH", "CHD", "EVT")
@@ -68,7 +69,7 @@ def unread() -> Array:
     return Array([], "0", (0, 0))
 
 
-@dataclass
+@dataclass(repr=False)
 class Deck:
     """What the files of a name file say. Lists have, for each period, entries or None for 'as in the last one'."""
 
@@ -97,6 +98,10 @@ class Deck:
     properties: list[dict[str, Array]] = field(default_factory=list)
     lists: dict[str, list[list[Entry] | None]] = field(default_factory=dict)
     areal: dict[str, Areal] = field(default_factory=dict)
+
+    def __repr__(self) -> str:
+        size = f"{self.nlay} x {self.nrow} x {self.ncol}"
+        return f"<deck {self.path.name}: {size} cells, {counted(len(self.periods), 'period')}, {' '.join(self.files)}>"
 
     def top_of(self, layer: int) -> Array:
         """The elevation above a layer, counted from 0: the bottom of the bed above it, where there is one."""

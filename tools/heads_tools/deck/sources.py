@@ -55,7 +55,7 @@ class Report:
             where.insert(0 if is_first else len(where), remark)
 
 
-@dataclass
+@dataclass(repr=False)
 class Array:
     """An array of a deck: the words of its numbers, one for a constant, the factor's word ("0": none), and the file and
     the line on which it begins, where it was read."""
@@ -65,6 +65,10 @@ class Array:
     shape: tuple[int, int]
     file: str = ""
     line: int = 0
+
+    def __repr__(self) -> str:
+        size = " x ".join(map(str, self.shape))
+        return f"<array of {size}: {self.words[0] if self.is_constant else f'{len(self.words)} numbers'}>"
 
     @property
     def is_constant(self) -> bool:

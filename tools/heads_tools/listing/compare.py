@@ -3,12 +3,13 @@ from __future__ import annotations
 
 from dataclasses import dataclass
 from pathlib import Path
+from typing import Mapping
 
 import numpy as np
 
 from ..common.text import Problem, counted, short_down, short_up
 from ..common.whole_files import whole_file
-from .headfile import ANY_STEP, Heads
+from .headfile import ANY_STEP
 from .listing import Listing, Step
 
 
@@ -22,7 +23,7 @@ class Difference:
     most: np.ndarray
 
 
-def compare(listing: Listing, heads: Heads) -> list[Difference]:
+def compare(listing: Listing, heads: Mapping[tuple[int, int], np.ndarray]) -> list[Difference]:
     """The differences of all steps for which heads are given."""
     at, out = tuple((listing.cells - 1).T), []
     for step in listing.steps:

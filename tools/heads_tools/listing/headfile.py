@@ -5,18 +5,26 @@ import csv
 import math
 import struct
 from pathlib import Path
+from typing import Dict, Tuple
 
 import numpy as np
 
 from ..common.marks import plain, tell
-from ..common.text import Problem, read_raw
+from ..common.text import Problem, counted, read_raw
 from ..common.whole_files import whole_file
 from .listing import Listing
 from .spans import demand_one
 
-Heads = dict[tuple[int, int], np.ndarray]
 ANY_STEP = (0, 0)
 NO_HEAD = 1e20
+
+
+class Heads(Dict[Tuple[int, int], np.ndarray]):
+    """Heads by (period, step), shown in one line."""
+
+    def __repr__(self) -> str:
+        shape = " x ".join(map(str, next(iter(self.values())).shape)) if self else "no"
+        return f"<heads of {counted(len(self), 'step')}, {shape} cells>"
 
 
 def read_heads(path: str | Path, shape: tuple[int, int, int] | None = None, most: float = NO_HEAD) -> Heads:
@@ -54,7 +62,7 @@ def _binary(
             values = np.frombuffer(raw, f"<f{size}", ncol * nrow, at).astype(float).reshape(nrow, ncol)
             layers.setdefault((period, step), {})[layer] = np.where(np.abs(values) < most, values, np.nan)
         at += ncol * nrow * size + marks
-    out = {}
+    out = Heads()
     for key, by_layer in layers.items():
         first = next(iter(by_layer.values()))
         out[key] = np.full(shape or (max(by_layer), *first.shape), np.nan)
@@ -82,7 +90,7 @@ def _table(path: Path, text: str, shape: tuple[int, int, int] | None) -> Heads:
                 f"{path}, line {n}: a line is [period,step,]layer,row,col,head, and this one `{','.join(row)[:60]}`"
             ) from None
         rows.setdefault(key, []).append((k, i, j, head))
-    out = {}
+    out = Heads()
     for key, entries in rows.items():
         table = np.array(entries)
         cells = table[:, :3].astype(int) - 1

@@ -3,9 +3,11 @@ from __future__ import annotations
 
 import functools
 import hashlib
+import math
 import re
 from dataclasses import dataclass, field
 from pathlib import Path
+from typing import Mapping, NamedTuple, overload
 
 import numpy as np
 
@@ -40,6 +42,13 @@ class Step:
 
     def width(self) -> np.ndarray:
         return self.high - self.low
+
+
+class Bounds(NamedTuple):
+    """Lower and upper heads."""
+
+    lower: np.ndarray
+    upper: np.ndarray
 
 
 @dataclass(repr=False)
@@ -92,8 +101,34 @@ class Listing:
         is_within = all(1 <= n <= most for n, most in zip(cell, self.shape))
         return is_within and bool(self.places[tuple(n - 1 for n in cell)] >= 0)
 
+    @overload
     def at(self, cell: tuple[int, int, int]) -> int:
-        """The place of a cell (layer, row, column) in the arrays of a step."""
+        ...
+
+    @overload
+    def at(
+        self,
+        *,
+        kstpkper: tuple[int, int] | None = None,
+        totim: float | None = None,
+        times: Mapping[tuple[int, int], tuple[float, float]] | None = None,
+    ) -> Bounds:
+        ...
+
+    def at(
+        self,
+        cell: tuple[int, int, int] | None = None,
+        *,
+        kstpkper: tuple[int, int] | None = None,
+        totim: float | None = None,
+        times: Mapping[tuple[int, int], tuple[float, float]] | None = None,
+    ) -> int | Bounds:
+        """The place of a cell (layer, row, column) in the arrays of a step; or lower and upper heads of a step, shape
+        (layers, rows, cols): that of `kstpkper`, step and period from 0 as FloPy counts, or that which ends at the time
+        `totim` (`times`: those of the model, model.times)."""
+        if cell is None:
+            step = self.step_of(kstpkper, totim, times or {})
+            return Bounds(self.grid(head_floor(step.low)), self.grid(-head_floor(-step.high)))
         if not self.has(cell):
             raise Problem("cell {},{},{} isn't in the listing: it has no flow, or lies outside the grid".format(*cell))
         return int(self.places[tuple(n - 1 for n in cell)])
@@ -123,6 +158,23 @@ class Listing:
         if found is None:
             raise Problem(f"{self.path} has no period {period} step {step}")
         return found
+
+    def step_of(
+        self,
+        kstpkper: tuple[int, int] | None,
+        totim: float | None,
+        times: Mapping[tuple[int, int], tuple[float, float]],
+    ) -> Step:
+        """The step that is named by its numbers from 0, or by the time of its end."""
+        if (kstpkper is None) == (totim is None):
+            raise Problem("at(cell), at(kstpkper=(step, period)) from 0, or at(totim=.., times=model.times)")
+        if kstpkper is not None:
+            return self.step_at(kstpkper[1] + 1, kstpkper[0] + 1)
+        here = {(step.period, step.step) for step in self.steps}
+        near = [key for key, (_, end) in times.items() if key in here and math.isclose(end, totim or 0, rel_tol=1e-6)]
+        if not near:
+            raise Problem(f"{self.path} has no step that ends at {totim}" + ("" if times else ": times=model.times"))
+        return self.step_at(*near[-1])
 
     def series(self, cell: tuple[int, int, int]) -> tuple[np.ndarray, np.ndarray]:
         """Lower and upper heads of a cell (layer, row, column) at the ends of all steps, rounded outward."""

@@ -3,8 +3,8 @@ rivers, recharge, storage and the other terms, and what flows through the faces 
 
 Between two heads a flow into a cell lies between its value at the upper and that at the lower one, since it falls as
 the cell's head rises. So where each exact solution lies between the listed heads, its flows lie between the sums here.
-A constant head's flow counts in the zone of its own cell, as in ZONEBUDGET; zone 0 has no budget, and its faces count as
-those of any other zone."""
+A constant head's flow counts in the zone of its own cell, as in ZONEBUDGET; zone 0 has no budget, and its faces count
+as those of any other zone."""
 from __future__ import annotations
 
 from dataclasses import dataclass, field

@@ -6,7 +6,7 @@ from pathlib import Path
 import numpy as np
 
 from ..common.text import decimal_text, down, up
-from ..plans.drawdown import Cell, Change, Drawdown, Pair, place_of
+from ..planning.drawdown import Cell, Change, Drawdown, Pair, place_of
 from ..program.verdict import Verdict
 from . import curves, maps
 from .looking import plan_for, title_of

@@ -8,7 +8,7 @@ import numpy as np
 
 from . import maps
 from ..listing.compare import compare, sentences
-from ..plans.drawdown import Drawdown, difference
+from ..planning.drawdown import Drawdown, difference
 from ..listing.headfile import read_heads
 from ..listing.listing import Listing
 from .looking import GIVEN, MINUS, Looking

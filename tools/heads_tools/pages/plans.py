@@ -8,7 +8,7 @@ from ..common.whole_files import whole_file
 from ..deck.model import read_model
 from ..listing.below_top import BelowTop
 from ..listing.listing import Listing, read_listing
-from ..plans.drawdown import Cell, Drawdown, difference, said_of, verdict_of
+from ..planning.drawdown import Cell, Drawdown, difference, said_of, verdict_of
 from ..program.batch import Job, read_jobs
 from ..program.explain import explain_output
 from ..program.verdict import Verdict, status_of

@@ -8,7 +8,7 @@ import numpy as np
 
 from ..common.text import counted, down, up
 from ..listing.below_top import THINNER, BelowTop
-from ..plans.drawdown import Cell, Drawdown, tops_lines
+from ..planning.drawdown import Cell, Drawdown, tops_lines
 from . import maps
 from .drawdown_page import fall, fall_pair, scale_of, set_verdict, shape_of, title
 from .looking import plan_for

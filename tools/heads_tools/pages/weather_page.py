@@ -8,11 +8,11 @@ import numpy as np
 
 from ..common.text import Problem, decimal_text
 from ..deck.ranges import Range
-from ..plans.difference_decks import HIGH_DIFFERENCE, LOW_DIFFERENCE
-from ..plans.drawdown import place_of
-from ..plans.drawdown_weather import Asked, Cell, Effect, Weathered, weathered
-from ..plans.plan_decks import BASE, PLAN, write_file
-from ..plans.weather_words import (
+from ..planning.difference_decks import HIGH_DIFFERENCE, LOW_DIFFERENCE
+from ..planning.drawdown import place_of
+from ..planning.drawdown_weather import Asked, Cell, Effect, Weathered, weathered
+from ..planning.plan_decks import BASE, PLAN, write_file
+from ..planning.weather_words import (
     cell_at,
     deepest,
     lines,
@@ -26,7 +26,7 @@ from ..plans.weather_words import (
     worst,
     write_tables,
 )
-from ..plans.well_ranges import at_the_well, demand_hk, well_lines
+from ..planning.well_ranges import at_the_well, demand_hk, well_lines
 from ..program.verdict import status_of
 from . import curves, maps
 from .drawdown_page import MOST_MAPS, scale_of
