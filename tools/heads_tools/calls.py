@@ -84,6 +84,7 @@ def look(
     given: PathLike | None = None,
     minus: Listed | None = None,
     zones: PathLike | None = None,
+    page: bool = False,
     wide: bool = False,
     every: bool = False,
     svg: bool = False,
@@ -91,9 +92,9 @@ def look(
     **more: Any,
 ) -> Answer:
     """Draws a listing: maps, sections, hydrographs, budget, a page. `name`: the model, whose check is called first;
-    `more`: what else `heads-tools look` knows."""
+    `page`: the interactive map alone; `more`: what else `heads-tools look` knows."""
     options = dict(name=name, to=to, cell=cells_of(cell), given=given, minus=minus, zones=zones, wide=wide)
-    options |= dict(every=every, svg=svg, force=force) | more
+    options |= dict(page=page, every=every, svg=svg, force=force) | more
     return call("look", {"listing": listing, "folder": folder}, options)
 
 

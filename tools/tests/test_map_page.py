@@ -9,6 +9,7 @@ import zlib
 import numpy as np
 import pytest
 
+import heads_tools
 from heads_tools.pages import map_data, map_page
 from heads_tools.listing.below_top import below_top
 from heads_tools.listing.listing import Listing, Step, read_listing
@@ -103,6 +104,13 @@ def test_page_writes_the_map_alone(looked):
     assert [path.name for path in folder.iterdir()] == ["map.html"]
     assert "heads check: CERTIFIED" in said and "open" in said and "map.html" in said
     assert 'href="index.html"' not in text_of(folder)
+
+
+@pytest.mark.program
+def test_python_asks_for_the_map_alone(looked, tmp_path):
+    nam, listing, _, _ = looked("three_cells", "--name", "--page")
+    answer = heads_tools.look(listing, tmp_path / "python", name=nam, page=True)
+    assert answer.is_good and [path.name for path in (tmp_path / "python").iterdir()] == ["map.html"]
 
 
 @pytest.mark.program

@@ -6,18 +6,18 @@ from typing import Sequence
 
 import numpy as np
 
+from ..common.text import Problem
+from ..deck.model import Model
 from ..listing.listing import Cell, Listing
+from ..listing.tables import write_tables
+from ..program.verdict import Verdict
 from .look_flows import Flows
 from .look_others import Others
 from .look_sections import Sections
 from .look_tops import Tops
 from .looking import HEADS, title_of
-from ..deck.model import Model
 from .map_page import NAME, not_whole, write_map
 from .page import write_page
-from ..listing.tables import write_tables
-from ..common.text import Problem
-from ..program.verdict import Verdict
 
 __all__ = ["Look", "look", "look_at_given", "title_of"]
 MOST_STEPS = 400

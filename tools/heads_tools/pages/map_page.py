@@ -10,17 +10,17 @@ from typing import Protocol, Sequence, TypeVar
 
 import numpy as np
 
-from ..listing.below_top import units_at
-from ..listing.listing import Listing, Step
-from .looking import Looking, plan_for
-from .map_data import CHANGE, FALL, HEAD, Difference, Field, Scene, bottoms_of
-from ..deck.model import Model
-from .one_page import one_script, policy
-from ..plans.drawdown import Drawdown
-from ..plans.drawdown_weather import Weathered
-from .page import Page, bare, shown
 from ..common.text import Problem
 from ..common.whole_files import whole_file
+from ..deck.model import Model
+from ..listing.below_top import units_at
+from ..listing.listing import Listing, Step
+from ..planning.drawdown import Drawdown
+from ..planning.drawdown_weather import Weathered
+from .looking import Looking, plan_for
+from .map_data import CHANGE, FALL, HEAD, Difference, Field, Scene, bottoms_of
+from .one_page import one_script, policy
+from .page import Page, bare, shown
 
 PARTS = Path(__file__).parents[1] / "map"
 NAME = "map.html"
