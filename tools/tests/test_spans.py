@@ -165,7 +165,6 @@ def test_what_needs_one_deck_refuses_a_listing_of_two(tool, tmp_path):
         ("drawdown", LISTED, LISTED, tmp_path / "fall"),
         ("hds", LISTED, tmp_path / "a.hds"),
         ("observe", LISTED, tmp_path / "points.csv", "--name", VALLEY / "from.nam"),
-        ("check", VALLEY / "from.nam", LISTED, "--to", VALLEY / "to.nam", "--parts", "2"),
     ):
         status, out, err = tool(*words)
         assert status == 2 and ("two decks" in err or "one deck" in err), (words, err)

@@ -81,8 +81,6 @@ def test_zone_flows_are_not_called_checked_without_their_zone_file(zoned, tool, 
     assert "where heads are given" in out.strip().split("\n")[-1]
     status, out, err = tool("check", nam, listing)
     assert status == 0 and "CERTIFIED" in out and "flows between zones weren't checked" in out
-    status, out, err = tool("check", nam, listing, "--parts", 2)
-    assert status == 0 and "CERTIFIED BY PARTS" in out and "flows between zones weren't checked" in out
 
 
 @pytest.mark.program
@@ -125,5 +123,3 @@ def test_a_zone_file_that_is_refused_is_named(zoned, tool, tmp_path):
     zones.write_text("CONSTANT 1000\n")
     status, out, err = tool("check", nam, listing, "--zones", zones)
     assert status == 2 and "REFUSED 15 BadProperty other zones.zon 0 1 1 1" in out, out + err
-    status, out, err = tool("check", nam, listing, "--zones", zones, "--parts", 2)
-    assert status == 2 and "a zone is a whole number from 0 to 999" in err, out + err

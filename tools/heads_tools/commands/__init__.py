@@ -16,7 +16,7 @@ HELP = {
     "drawdown": "what a plan does: the differences of two listings; or of a base deck and a plan, whatever the weather",
     "plans": "one page that compares all listings of a batch with the first of them",
     "certify": "certified bounds from any solver's heads: margins by a sparse solve, then heads check",
-    "check": "certify a listing by heads check, or piece by piece",
+    "check": "certify a listing by heads check",
     "hds": "a head file for FloPy, ModelMuse, Model Viewer",
     "export": "NetCDF, GeoTIFF, GeoPackage, VTK and CSV of a listing, each if its package is here",
     "observe": "heads at points, by a table name,x,y,layer,time,measured or a HOB file: lower, upper, measured",

@@ -26,7 +26,7 @@ def add(sub: argparse.ArgumentParser) -> None:
         help="layers may be convertible (LAYTYP other than 0): bounds for gentle heads, those whose fall from cell to "
         "cell is no more than the saturated thickness of the lower one; tested and not proved",
     )
-    add_wide(sub, "one check with the wide limits and cut floors, and not one by parts, of up to 4,194,304 cells")
+    add_wide(sub, "the check has the wide limits and cuts floors; given by itself for more than 65,536 cells")
     add_force(sub)
 
 

@@ -81,3 +81,8 @@ def whole_numbers(path: Path, line: int) -> list[int]:
             break
         out.append(int(word))
     return out
+
+
+def is_large(shape: tuple[int, int, int], limits: Limits = PLAIN) -> bool:
+    """Whether a grid has more layers, rows, columns or cells than the program takes."""
+    return not limits.has_room(shape)

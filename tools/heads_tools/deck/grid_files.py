@@ -160,7 +160,8 @@ def read_layer_words(reading: Reading, line: str, first: int, by_start: bool) ->
         if name != "CHANI" and (wrong := [x for x in rows[at] if not re.fullmatch(r"[+-]?\d+", x)]):
             refuse_count(reading, name, wrong[0], s.at)
         has_other = any(float(x) for x in rows[at])
-        if at == 0 and has_other and by_start and float(rows[0][0]) < 0 and not any(float(x) for x in rows[0][1:]):
+        is_first_alone = by_start and float(rows[0][0]) < 0 and not any(float(x) for x in rows[0][1:])
+        if at == 0 and is_first_alone and not reading.has_convertible:
             is_thick_as_start = True
             rows[0][0] = "0"
         elif at == 0 and reading.has_convertible and has_other:

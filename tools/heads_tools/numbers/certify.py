@@ -11,7 +11,6 @@ import math
 import os
 import sys
 import tempfile
-import time
 from dataclasses import dataclass
 from pathlib import Path
 
@@ -19,7 +18,7 @@ import numpy as np
 import scipy.sparse
 
 from ..common.kept_files import demand_free
-from ..common.limits import limits_of, wide_words
+from ..common.limits import WIDE, is_large, limits_of, wide_words
 from ..common.text import Problem, decimal_text, sha256
 from ..common.whole_files import whole_file
 from ..deck.model import Model, read_model
@@ -33,8 +32,6 @@ from ..program.explain import explain
 from ..program.program import call
 from ..program.verdict import demand_same, readable
 from .equations import TERMS, Given, Network, Step, given_heads
-from .parts import check_model
-from .pieces import is_large
 from .solvers import solved
 from .whole import Pair, constant_head, pair_of, pair_of_heads
 from .zone_bounds import ZoneFlow, zone_branches, zone_flows
@@ -66,9 +63,13 @@ def certify(
     has_wide: bool = False,
 ) -> Certified:
     """Writes the listing, with the flows between zones of a zone file, and checks it, with wider margins where the
-    check refuses. `has_wide`: the check is one with --wide."""
+    check refuses. `has_wide`: the check is one with --wide; one of a model that is larger than without it is so by
+    itself."""
     demand_free(out)
     model = read_model(nam, any_size=True)
+    has_wide = has_wide or is_large(model.shape)
+    if is_large(model.shape, WIDE):
+        raise Problem(f"{nam.name}: `heads check --wide` takes {'; '.join(WIDE.faults_of(*model.shape))}")
     given = read_heads(heads, model.shape)
     parted = Zones.of(model, digits, zones, nam) if zones else None
     tried = out.with_name(out.name + ".tried")
@@ -76,7 +77,7 @@ def certify(
         listing = Bounds(model, digits, margin, parted).listing(given, tried)
         write_listing(listing, model)
         listing.sha256 = sha256(tried)
-        checked = check(nam, tried, model, digits, zones, has_wide)
+        checked = check(nam, tried, digits, zones, has_wide)
         demand_same(listing)
         if checked.status != 8:
             break
@@ -119,15 +120,8 @@ class Check:
     seconds: float
 
 
-def check(
-    nam: Path, tried: Path, model: Model, digits: int, zones: Path | None = None, has_wide: bool = False
-) -> Check:
-    """The program's check of a listing; of a model that is larger than the program takes, that of its parts."""
-    if is_large(model.shape, limits_of(has_wide)):
-        began = time.monotonic()
-        parts = check_model(model, tried, 1, zones=zones)
-        first = parts.lines[min(1, len(parts.lines) - 1)].strip() if parts.status else "CERTIFIED BY PARTS:"
-        return Check(parts.status, first, parts.lines, time.monotonic() - began)
+def check(nam: Path, tried: Path, digits: int, zones: Path | None = None, has_wide: bool = False) -> Check:
+    """The program's check of a listing."""
     with tempfile.TemporaryDirectory(prefix="heads_") as folder:
         words = ["--zones", str(readable(zones, Path(folder) / "zones"))] if zones else []
         words += wide_words(has_wide)
@@ -147,10 +141,10 @@ class Zones:
     @staticmethod
     def of(model: Model, digits: int, path: Path, nam: Path) -> Zones:
         numbers = read_zones(path, nam, model.shape).ravel()
-        return Zones(numbers, zone_branches(model, digits, numbers))
+        return Zones(numbers, zone_branches(model, digits))
 
     def flows(self, step: Step, low: np.ndarray, high: np.ndarray) -> list[ZoneFlow]:
-        """The step's flows between zones, as `heads run` writes them for these heads."""
+        """The step's flows between zones: they hold those that `heads run` writes for these heads."""
         return zone_flows(self.branches, self.numbers, step.place >= 0, low, high)
 
 

@@ -1,4 +1,4 @@
-"""A model's finite-difference equations in whole numbers: what a check by parts has to know of the whole model.
+"""A model's finite-difference equations in whole numbers.
 
 A conductance is a pair of whole numbers of 10^-digits, between which the exact one of the deck's decimals lies; a head
 is one of 10^-9; a flow is a pair, least and most, of 10^-(digits + 9). Nothing is rounded but outward. Arrays of
@@ -129,8 +129,8 @@ class WholeModel:
         return cells // ncol % nrow, cells % ncol
 
     def branches(self, a: np.ndarray, b: np.ndarray, pair: Pair) -> tuple[np.ndarray, np.ndarray, Pair]:
-        low, high = pair
-        return a, b, (low.astype(np.int64), np.minimum(high, MOST_CONDUCTANCE).astype(np.int64))
+        low, high = (np.minimum(side, MOST_CONDUCTANCE).astype(np.int64) for side in pair)
+        return a, b, (low, high)
 
     def along_rows(self) -> tuple[np.ndarray, np.ndarray, Pair]:
         """2 DELC Ta Tb / (DELR_a Tb + DELR_b Ta), T being HK times thickness."""

@@ -1,4 +1,4 @@
-"""The equations of a time step in whole numbers: balances, groups that are held, and the budget.
+"""The equations of a time step in whole numbers: balances, and the flows of each term.
 
 Numbers are those of whole.py. A flow into a cell falls as the cell's own head rises, so between two heads it is least
 at the upper and most at the lower one. `side` is 0 for the least, 1 for the most."""
@@ -8,20 +8,17 @@ from fractions import Fraction
 from typing import Any, Iterator
 
 import numpy as np
-import scipy.sparse
-import scipy.sparse.csgraph
 
 from ..common.spelling import exact
 from ..common.text import Problem
 from ..deck.deck import Entry
 from ..deck.sources import Array
-from .equations import TERMS, Given
+from .equations import Given
 from .whole import (
     HEAD_PLACES,
     Pair,
     WholeModel,
     constant_head,
-    joined,
     pair_of,
     places_of,
     product,
@@ -161,46 +158,3 @@ class WholeStep:
         for _, at, flow in self.flows(heads, old, side):
             np.add.at(total, at, flow)
         return total
-
-    def loose_cells(self) -> list[int]:
-        """A cell of each group that nothing holds: no link to a constant head, no general head, no storage, and deep
-        flows (wells, recharge, rivers at their bottoms, less all evapotranspiration) whose sum may be 0 or less."""
-        cells = np.flatnonzero(self.is_variable)
-        if not cells.size:
-            return []
-        place = np.full(self.is_variable.size, -1)
-        place[cells] = np.arange(cells.size)
-        ends = [(place[x], place[y]) for x, y, _ in self.links()]
-        a, b = (joined([pair[n] for pair in ends], int) for n in (0, 1))
-        shape = (cells.size, cells.size)
-        graph = scipy.sparse.coo_matrix((np.ones(a.size, np.int8), (a, b)), shape)
-        count, labels = scipy.sparse.csgraph.connected_components(graph, directed=False)
-        is_held = np.zeros(count, bool)
-        for at in (self.storage_at, self.lists["GHB"][0], *(at for at, _, _ in self.holders())):
-            is_held[labels[place[at]]] = True
-        deep = np.zeros(count, int).astype(object)
-        for at, flow in self.deep_flows():
-            np.add.at(deep, labels[place[at]], flow)
-        loose = np.flatnonzero(~is_held & (deep <= 0).astype(bool))
-        return [int(cells[np.argmax(labels == group)]) for group in loose]
-
-    def deep_flows(self) -> Iterator[tuple[np.ndarray, np.ndarray]]:
-        """The least flows into cells far below all their entries."""
-        at, flow = self.lists["WEL"]
-        yield at, flow[0]
-        yield self.recharge[0], self.recharge[1][0]
-        at, c, stage, bottom = self.lists["RIV"]
-        yield at, product(c, stage[0] - bottom[1], 0)
-        at, c, surf, ext = self.evap
-        yield at, -c[1] * (surf[1] - ext[0])
-
-    def budget(self, low: np.ndarray, high: np.ndarray, old: Pair) -> dict[str, list[int]]:
-        """What each term comes to where each cell's head goes from `high` to `low`: least and most in, least and most
-        out."""
-        sums = {name: [0, 0, 0, 0] for name in TERMS}
-        pairs = zip(self.flows(high, old[0], 0), self.flows(low, old[1], 1))
-        for (name, _, least), (_, _, most) in pairs:
-            for at, values in enumerate((least, most, -most, -least)):
-                sums[name][at] += int(np.maximum(values, 0).sum()) if len(values) else 0
-        names = list(TERMS)[: 8 if "EVT" in self.model.deck.areal else 7]
-        return {name: sums[name] for name in names}

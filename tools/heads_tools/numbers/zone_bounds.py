@@ -7,25 +7,20 @@ from collections.abc import Iterable, Iterator
 import numpy as np
 
 from ..deck.model import Model
-from ..listing.listing import Step
-from .rounded import Conductances
-from .whole import Pair, product, whole
+from .whole import Pair, WholeModel, product
 
 Branches = Iterable[tuple[np.ndarray, np.ndarray, Pair]]
 ZoneFlow = tuple[int, int, int, int]
 ZONES = 1000
+SLACK, ROUNDINGS = 10**15, 2
 
 
-def zone_branches(model: Model, digits: int, zones: np.ndarray) -> list[tuple[np.ndarray, np.ndarray, Pair]]:
-    """The branches between cells of different zones, with the bounds of their conductances that the program takes."""
-    network, out = Conductances(model, digits), []
-    for axis in range(3):
-        cells = np.moveaxis(np.arange(zones.size).reshape(model.shape), axis, 0)
-        a, b = cells[:-1].ravel(), cells[1:].ravel()
-        some = parts_zones(zones, a, b) & (model.ibound.ravel()[a] != 0) & (model.ibound.ravel()[b] != 0)
-        pairs = [network.between(x, y) for x, y in zip(a[some].tolist(), b[some].tolist())]
-        least, most = (whole([pair[side] for pair in pairs]) for side in (0, 1))
-        out.append((a[some], b[some], (least, most)))
+def zone_branches(model: Model, digits: int) -> list[tuple[np.ndarray, np.ndarray, Pair]]:
+    """The branches between cells with flow, by direction, with conductances that hold the bounds which the program
+    takes: it rounds each of some ten operations outward to 18 digits, so a part of 10^15 more is enough."""
+    out = []
+    for a, b, (low, high) in WholeModel(model, digits).links:
+        out.append((a, b, (np.maximum(low - low // SLACK - ROUNDINGS, 0), high + high // SLACK + ROUNDINGS)))
     return out
 
 
@@ -56,16 +51,3 @@ def turned(
         x, y = (np.where(zones[a] < zones[b], *ends) for ends in ((a, b), (b, a)))
         numbers = zones[x] * ZONES + zones[y]
         yield numbers, product(pair, low[x] - high[y], 0), product(pair, high[x] - low[y], 1)
-
-
-def zone_faults(flows: list[ZoneFlow], listed: Step) -> list[str]:
-    """Which lines ZONE of a step aren't those due, or hold not all flows between the listed heads."""
-    due, found = [flow[:2] for flow in flows], [flow[:2] for flow in listed.zones]
-    if due != found:
-        name = lambda pairs: ", ".join(f"{a} {b}" for a, b in pairs) or "none"
-        return [f"the flows between zones are those of {name(found)}, where those of {name(due)} are due"]
-    return [
-        f"the flow between the zones {a} and {b} doesn't hold those between the listed heads"
-        for (a, b, low, high), (*_, lower, upper) in zip(flows, listed.zones)
-        if lower > low or upper < high
-    ]

@@ -15,12 +15,11 @@ from pathlib import Path
 import numpy as np
 
 from ..common.kept_files import demand_free
-from ..common.limits import PLAIN
+from ..common.limits import PLAIN, is_large
 from ..common.text import counted
 from ..listing.headfile import read_heads
 from ..listing.listing import Listing, Step
 from ..numbers.certify import Certified, write_listing
-from ..numbers.pieces import is_large
 from ..numbers.whole import Pair, pair_of_heads
 from ..program.explain import explain
 from .convertible import Convertible, read_convertible

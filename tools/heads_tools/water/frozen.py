@@ -16,8 +16,8 @@ from ..deck.deck import Areal, Deck, Entry, Period
 from ..deck.model import model_of
 from ..deck.sources import Array
 from ..deck.writing import write_deck
+from ..listing.wide_listing import write_wide_listing
 from ..numbers.equations import TERMS
-from ..numbers.pieces import write_wide_listing
 from ..numbers.whole import HEAD_PLACES, MOST_HEAD, Pair, WholeModel, floor_of, whole
 from ..numbers.whole_step import WholeStep
 from ..program.program import call
