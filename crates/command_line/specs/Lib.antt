@@ -6,6 +6,6 @@ unfoldable pub use Rattle.command_line.specs.Commands.{batch_app, check_app, hea
 unfoldable pub use Rattle.command_line.specs.Commands.{with_last_word, with_option, with_word, words_app, write_app}
 pub use Rattle.command_line.specs.Ranges.{AreSettlersNumbers, AreTurns, IsMakeable}
 pub use Rattle.command_line.specs.Wants.{AskedBatch, AskedCheck, AskedText, Batch, Check, CheckText, ListingOrder, Make, Run, Wanted, Words, Write, asked_of}
-pub use Rattle.command_line.specs.Wants.{batch_in, batch_of, check_in, check_of, command_in, digits_in, flag_in, is_number, limits_in, listing_check_in}
-pub use Rattle.command_line.specs.Wants.{make_in, number_in, number_or, omitted, order_of_words, quick_if_unwatched, rounds_in, run_in, text_check_in, text_if}
-pub use Rattle.command_line.specs.Wants.{turns_of, wanted_by, wanted_if, watch_in, workers_in, write_in}
+pub use Rattle.command_line.specs.Wants.{asked_text, batch_in, batch_of, check_in, check_of, command_in, digits_in, flag_in, is_number, limits_in}
+pub use Rattle.command_line.specs.Wants.{listing_check_in, make_in, number_in, number_or, omitted, order_of_words, quick_if_unwatched, rounds_in, run_in}
+pub use Rattle.command_line.specs.Wants.{text_check_in, text_if, turns_of, wanted_by, wanted_if, watch_in, workers_in, write_in}

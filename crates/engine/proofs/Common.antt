@@ -6,42 +6,46 @@ pub use Rattle.std.proofs.lemmas.List.{append-nil, append_assoc, length-map, map
 pub use Rattle.std.proofs.lemmas.List.Elements.{All-append, All-cons, All-head, All-nil, All-push, All-tail, All-weaker}
 pub use Rattle.std.proofs.lemmas.Result.{IfOk-at_ok, IfOk-weaker, err_from_is_err_and}
 pub use Rattle.std.specs.Io.KnownBytes.{Appends}
-pub use Rattle.std.specs.List.{AllZip, concat, filter}
-pub use Rattle.std.specs.Prelude.{All, IfErr, false, is_some, option_to_list, slice_get}
+pub use Rattle.std.specs.List.{AllZip, concat, filter, onto_first}
+pub use Rattle.std.specs.Prelude.{All, IfErr, false, is_some, option_to_list, slice_get, unwrap_or, ◌-◌, ◌==◌}
 pub use Rattle.std.specs.declared.alloc.Global.{Global}
 pub use Rattle.std.specs.declared.vec.Vec.{Vec}
 pub use Rattle.check_run.proofs.FlowPairs.{flows_have_pairs, run_encloses}
-pub use Rattle.check_run.specs.{IsReadable, IsVerdict, ListingEncloses, RunIsCertified, RunIsReadAgain, VerdictIsOne, as_listed, checked_task}
+pub use Rattle.check_run.specs.{IsReadable, IsVerdict, ListingEncloses, RunIsCertified, RunIsReadAgain, VerdictIsOne, as_listed, checked_task, steps_of}
 pub use Rattle.check_run.specs.declared.verdict.ListingVerdict.{ListingVerdict}
 pub use Rattle.check_run.specs.declared.verdict.ListingVerdict.TheVariants.{Certified, Fails}
-pub use Rattle.command_line.specs.{AskedBatch, AskedCheck, Batch, Check, CheckText, ListingOrder, Make, Run, Wanted, Words, Write, asked_of, batch_of, check_of}
-pub use Rattle.command_line.specs.{order_of_words, text_if, usage_line, wanted_by}
+pub use Rattle.command_line.specs.{AskedBatch, AskedCheck, AskedText, Batch, Check, CheckText, ListingOrder, Make, Run, Wanted, Words, Write, asked_of}
+pub use Rattle.command_line.specs.{asked_text, batch_of, check_of, order_of_words, text_if, usage_line, wanted_by}
 pub use Rattle.command_line.specs.declared.order.Order.{Order}
 pub use Rattle.command_line.specs.declared.order.WordsFault.{WordsFault}
 pub use Rattle.deck_problems.proofs.OneProblem.{one_valid}
 pub use Rattle.deck_problems.specs.{AreDecks, IsSecond, one_deck}
 pub use Rattle.deck_problems.specs.declared.decks.Decks.{Decks}
-pub use Rattle.deck_span.specs.{AreAlike, DifferenceIsOne, SolvesBetweenFrom}
+pub use Rattle.deck_span.specs.{AreAlike, DifferenceIsOne, IsFirstDifference, SolvesBetweenFrom}
 pub use Rattle.deck_span.specs.declared.difference.Difference.{Difference}
-pub use Rattle.engine.specs.{After, Answers, AnswersBeside, AreDecksAs, AreDecksOf, AreItsSteps, ArePairOf, ArePutInTurn, AreTasks, AreViews, AreWatched, Case}
-pub use Rattle.engine.specs.{Checking, ChecksWritten, Comparing, CutOf, DeckAndListingAreStated, DeckHasSameListing, DecksAndListingAreStated, Defines, Due}
-pub use Rattle.engine.specs.{EndIsDefined, EndsOk, GoesThrough, GoesWell, HasEnded, HasNoList, HeadlineOf, IsCheck, IsDeck, IsDecksRefusal, IsDue, IsFirstPut}
-pub use Rattle.engine.specs.{IsJobEnd, IsJobListing, IsListed, IsListingOf, IsMade, IsNamedFault, IsNoSecond, IsOrder, IsPlain, IsPlainJob, IsReadingEnd}
-pub use Rattle.engine.specs.{IsRunOf, IsRunResult, IsRunText, IsSaid, IsStopNumber, IsStopped, IsUnlikeFault, IsValid, IsValidJob, IsView, IsWatched}
-pub use Rattle.engine.specs.{JobDefines, Jobs, Listing, ListsPairs, Making, MayRead, NoWords, OneDeck, OneDeckListing, OneDeckSpan, OneOf, OneRun, OneRunSpan}
-pub use Rattle.engine.specs.{OneSpan, OneSummary, OneVerdict, ReadsFolder, ReadsNothing, Refuses, RunHeadline, RunSpanHeadline, Said, SameDeckHasSameModel}
-pub use Rattle.engine.specs.{SameModelHasSameListing, Saying, Second, Shows, SidePuts, SpanStated, SpanVerdict, StorageHolds, ViewPutsOf, Writing}
-pub use Rattle.engine.specs.{WrittenIsCertified, after_text, broken_off, but_batch, case_decks, case_listed, case_named, case_of, case_read, certified_line}
-pub use Rattle.engine.specs.{decks_task, decks_text, defined, files_if, files_of, job_of, job_task, jobs_read, lines_of, listing_read, made_fault, made_model}
-pub use Rattle.engine.specs.{made_task, model_line, names_read, not_alike, of_both, of_first, of_second, read_by_name, second_by, span_task_of, steps_read}
-pub use Rattle.engine.specs.{summed_text, task_of, unread, verdict_line, verdict_status, views_in, words_text, zones_read}
+pub use Rattle.engine.specs.{After, Answers, AnswersBeside, AreDecksAs, AreDecksOf, AreItsSteps, ArePairOf, ArePutInTurn, AreTasks, AreText, AreViews}
+pub use Rattle.engine.specs.{AreWatched, Case, Checking, ChecksWritten, Comparing, CutOf, DeckAndListingAreStated, DeckHasSameListing, DecksAndListingAreStated}
+pub use Rattle.engine.specs.{Defines, Due, EndIsDefined, EndsOk, GoesThrough, GoesWell, HasEnded, HasNoList, HeadlineOf, IsCheck, IsDeck, IsDecksRefusal, IsDue}
+pub use Rattle.engine.specs.{IsFirstPut, IsJobEnd, IsJobListing, IsListed, IsListingOf, IsMade, IsNamedFault, IsNoSecond, IsOrder, IsPlain, IsPlainJob}
+pub use Rattle.engine.specs.{IsReadingEnd, IsRunOf, IsRunResult, IsRunText, IsSaid, IsStopNumber, IsStopped, IsUnlikeFault, IsValid, IsValidJob, IsView}
+pub use Rattle.engine.specs.{IsWatched, JobDefines, Jobs, Listing, ListsPairs, Making, MayRead, NoWords, OneDeck, OneDeckListing, OneDeckSpan, OneOf, OneRun}
+pub use Rattle.engine.specs.{OneRunSpan, OneSpan, OneSummary, OneTextVerdict, OneVerdict, ReadsFolder, ReadsNothing, Refuses, RunHeadline, RunSpanHeadline}
+pub use Rattle.engine.specs.{Said, SameDeckHasSameModel, SameModelHasSameListing, Saying, Second, Shows, SidePuts, SpanStated, SpanVerdict, StorageHolds}
+pub use Rattle.engine.specs.{ViewPutsOf, Writing, WrittenIsCertified, after_text, broken_off, but_batch, case_decks, case_listed, case_named, case_of}
+pub use Rattle.engine.specs.{case_parts, case_read, case_rest, certified_line, decks_task, decks_text, defined, files_if, files_of, job_of, job_task, jobs_read}
+pub use Rattle.engine.specs.{lines_of, listing_read, made_fault, made_model, made_task, model_line, names_read, not_alike, of_both, of_first, of_second}
+pub use Rattle.engine.specs.{read_by_name, second_by, span_task_of, steps_read, summed_text, task_of, unread, verdict_line, verdict_status, views_in}
+pub use Rattle.engine.specs.{words_text, zones_read}
 unfoldable pub use Rattle.engine.specs.{second_in}
 pub use Rattle.engine.specs.Batched.{Batched}
 pub use Rattle.engine.specs.OneListing.{OneListing}
+pub use Rattle.engine.specs.Stated.{Stated}
 pub use Rattle.engine.specs.declared.job.Job.{Job}
 pub use Rattle.engine.specs.declared.zoned.ZonedListing.{ZonedListing}
 pub use Rattle.exact_histories.proofs.WholeRuns.{have_one, history_exists, history_is_one}
-pub use Rattle.listing_io.specs.{AreListed, all_lines, listing_at, listing_in, or_bad_listing, refused_line, view_text}
+pub use Rattle.exact_histories.specs.{HaveOneHistory}
+pub use Rattle.listing_io.specs.{AreListed, IsListedAt, all_lines, ended_line, first_line, listing_at, listing_in, or_bad_listing, refused_line, step_lines}
+pub use Rattle.listing_io.specs.{text_of, view_text}
 pub use Rattle.listing_io.specs.declared.listing.ListedStep.{ListedStep}
 pub use Rattle.listing_run.proofs.Lines.{ends_by}
 pub use Rattle.listing_run.proofs.Pieces.{alone, beside, beside_by, line_not_ok, put_not_ok, wanting_not_ok}
@@ -65,9 +69,11 @@ pub use Rattle.model_types.specs.declared.limits.Limits.TheVariants.{Plain, Wide
 pub use Rattle.model_types.specs.declared.model.FlowModel.{FlowModel}
 pub use Rattle.model_types.specs.declared.time_steps.TimeStep.{TimeStep}
 pub use Rattle.outside.specs.{File, FileSet, FolderState, InputCounts, IsGoodName, IsReading, Put, PutsMake, ReadsOn, Rose, Seen, WordsMay, failed_put, file_at}
-pub use Rattle.outside.specs.{file_refusal, folder_name, input_fault, is_good_name, whole_put, with_limit}
+pub use Rattle.outside.specs.{file_refusal, folder_name, input_fault, is_good_name, refusal, whole_put, with_limit}
+pub use Rattle.outside.specs.declared.codes.Code.TheVariants.{BadListing, BadName}
 pub use Rattle.outside.specs.declared.inputs.InputFault.{InputFault}
 pub use Rattle.outside.specs.declared.inputs.Refusal.{Refusal}
+pub use Rattle.outside.specs.declared.inputs.TextFault.{TextFault}
 pub use Rattle.outside.specs.declared.traits.SinkError.{SinkError}
 pub use Rattle.record_lines.specs.{Has, Stops, StopsText, ◌>>=◌}
 pub use Rattle.run_puts.proofs.Batches.{batch_run, batch_settles, batches_agree, ends_of_jobs}
@@ -78,6 +84,9 @@ pub use Rattle.run_puts.specs.{cut, early, end_line, failed, first_not_ok, memor
 pub use Rattle.run_puts.specs.declared.job_end.JobEnd.{JobEnd}
 pub use Rattle.run_puts.specs.declared.puts.Status.{Status}
 pub use Rattle.settle_driver.specs.{AddsPhases, EnclosesPair}
+pub use Rattle.stated_text.specs.{IsRefused, StandsIn, is_current, later_by, parts_text, steps_after, unlike}
+pub use Rattle.stated_text.specs.declared.part.Part.{Part}
+pub use Rattle.stated_text.specs.declared.part.Parts.{Parts}
 pub use Rattle.step_chain.specs.{LeavesRange, edges_by, two}
 pub use Rattle.step_problem.specs.{Edges, lower_at, upper_at}
 pub use Rattle.step_problem.specs.Entries.{Entries}

@@ -75,7 +75,7 @@ run_map f g end puts (early meant before after tail b t) = early meant before af
 pub run_within : (failed beside : Type 0) (a : FlowModel) (last : Option Second) (case : Case) → IfSome last (λ b. AreAlike a b.model) → (end : Status) (puts : List Put) → IsRunOf failed beside case end puts → IsRunOf failed beside (within a last case) end puts
 run_within failed beside a last case alike = run_map (due_within failed beside a last case alike) (within_cut a last case alike)
 
-within_ends : {n m : ℕ} {end : Status} {puts : List Put} (a : FlowModel) (last : Option Second) (case : Case) → IfSome last (λ b. AreAlike a b.model) → Answers case n m end puts → Answers (within a last case) n m end puts
+pub within_ends : {n m : ℕ} {end : Status} {puts : List Put} (a : FlowModel) (last : Option Second) (case : Case) → IfSome last (λ b. AreAlike a b.model) → Answers case n m end puts → Answers (within a last case) n m end puts
 within_ends {n} {m} {end} {puts} a last case alike x = record {
   run = run_within (Rose n m) ⊥ a last case alike end puts x.run;
   valid = elim (x.valid) [ inl stops ↦ inl stops | inr h ↦ inr (within_valid a last case h) ];

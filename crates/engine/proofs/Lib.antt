@@ -12,6 +12,8 @@ pub mod Outcomes
 pub mod StoredSteps
 pub mod Written
 pub mod Stating
+pub mod Texts
+pub mod TextEnds
 pub mod Numbers
 pub mod Beside
 pub mod Viewed

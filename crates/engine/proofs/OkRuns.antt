@@ -4,19 +4,25 @@ use Rattle.engine.proofs.Common.{Seen, PutsMake, whole_put, Refusal, FlowModel, 
 use Rattle.engine.proofs.Common.{one_deck, AreDecks, one_valid, ListingEnd, AllSteps, listing, IsWhole, is_whole, whole_listing, history_exists, history_is_one}
 use Rattle.engine.proofs.Common.{VerdictIsOne, ListingOrder, Case, Run, Make, Check, Write, Listing, Making, Checking, case_of, listing_read, made_model}
 use Rattle.engine.proofs.Common.{read_by_name, task_of, zones_read, OneDeck, Defines, made_task, summed_text, OneSummary, IfOk, IsStopped, IsValid, Plain}
-use Rattle.engine.proofs.Common.{Limits, ListingIsOne, ListingExcludesRefusal, RefusalIsOne, Comparing, two, true, Second, not_alike, most_bytes, with_limit}
-use Rattle.engine.proofs.Common.{case_decks, span_task_of, IsDeck, deck_text, deck_reads, summary_of, summary_text, HeadlineOf, OneOf, Wanted, AskedBatch}
-use Rattle.engine.proofs.Common.{Batch, second_in, reads, Decks, Batched, case_read, OneListing, false, DifferenceIsOne, Appends, Bool, CheckText, IsSaid}
-use Rattle.engine.proofs.Common.{OneDeckListing, OneDeckSpan, OneRun, OneRunSpan, OneSpan, RunHeadline, RunSpanHeadline, Said, Task, Words, after_text}
-use Rattle.engine.proofs.Common.{case_listed, concat, decks_text, words_text, zoned_text, ◌++◌}
-use Rattle.engine.proofs.Certifying.{certified_and_one}
+use Rattle.engine.proofs.Common.{Limits, ListingIsOne, ListingExcludesRefusal, RefusalIsOne, Comparing, two, true, Second, most_bytes, with_limit, case_decks}
+use Rattle.engine.proofs.Common.{span_task_of, IsDeck, deck_text, deck_reads, summary_of, summary_text, HeadlineOf, OneOf, Wanted, AskedBatch, Batch, second_in}
+use Rattle.engine.proofs.Common.{reads, Decks, Batched, case_read, OneListing, false, DifferenceIsOne, Appends, Bool, CheckText, IsSaid, OneDeckListing}
+use Rattle.engine.proofs.Common.{OneDeckSpan, OneRun, OneRunSpan, OneSpan, RunHeadline, RunSpanHeadline, Said, Task, Words, after_text, case_listed, concat}
+use Rattle.engine.proofs.Common.{decks_text, words_text, zoned_text, ◌++◌, AreText, AskedText, ListingVerdict, OneTextVerdict, IsVerdict, case_parts, case_rest}
+use Rattle.engine.proofs.Common.{certified_line, file_at, is_some, option_map, pairs_in, sym, verdict_line, unwrap_or, StandsIn, parts_text, steps_after}
+use Rattle.engine.proofs.Common.{unlike, Part, text_of}
+use Rattle.engine.proofs.Certifying.{certified_and_one, is_certified}
 use Rattle.engine.proofs.Dues.{Delivers}
 use Rattle.engine.proofs.Labels.{listing_pairs, listing_times}
 use Rattle.engine.proofs.Readings.{named_read}
 use Rattle.engine.proofs.Spans.{span_checked, span_listed}
 use Rattle.engine.proofs.DeckEnds.{to_check, to_list, to_write}
 use Rattle.engine.proofs.Afters.{valid_after}
+use Rattle.engine.proofs.Texts.{ended, ended_after, said, steps_stated}
+use Rattle.stated_text.proofs.Stands.{stands}
 use Rattle.engine.proofs.Stating.{first_part, grown, last_part, span_stated, stated}
+unfoldable use Rattle.stated_text.specs.{parts_in}
+unfoldable use Rattle.listing_io.specs.{listing as rows_of}
 use Rattle.run_puts.specs.declared.puts.Status.TheVariants as status
 use Rattle.listing_run.specs.declared.text.ListingEnd.TheVariants as ends
 
@@ -32,6 +38,14 @@ pub record Laws : Type 0 where
   pub refusal : RefusalIsOne
   pub verdict : VerdictIsOne
   pub difference : DifferenceIsOne
+
+-- the text of decks, as the one that stands in a text
+text_is : (d : Decks) (zones : Option (List ℕ)) → parts_text d.first d.second zones ≡ decks_text d zones
+text_is d zones = by_second d.second
+  where
+    by_second : (second : Option FlowModel) → parts_text d.first second zones ≡ decks_text (record { first = d.first; second = second }) zones
+    by_second None = refl
+    by_second (Some m) = refl
 
 module _ (laws : Laws) (old new : Seen) (puts : List Put) (pieces : List Text) (written : puts ≡ map whole_put pieces) (makes : PutsMake old puts new) where
   -- of a made model
@@ -184,13 +198,48 @@ module _ (laws : Laws) (old new : Seen) (puts : List Put) (pieces : List Text) (
     of_one (Err refusal) come holds = λ valid d. absurd (let bad : status.Ok ≡ status.Refused refusal = d.0 in cc)
 
     of_alike : {Holds : Type 0} (a : FlowModel) (b : Second) (case : Case) → AfterOk case Holds → AfterOk (Comparing a b case) Holds
-    of_alike a b case holds valid (inl unlike) = absurd (let bad : status.Ok ≡ status.Refused (not_alike b unlike.difference) = unlike.status in cc)
+    of_alike a b case holds valid (inl unlike) = absurd (let bad : status.Ok ≡ status.Refused (b.unlike unlike.difference) = unlike.status in cc)
     of_alike a b case holds (inl never) (inr (alike, d)) = absurd (never alike)
     of_alike a b case holds (inr valid) (inr (alike, d)) = holds valid d
 
     of_two : {Holds : Type 0} (r : Result FlowModel Refusal) (s : Result Second Refusal) (come : Decks → Case) → ((a : FlowModel) (b : Second) → r ≡ Ok a → s ≡ Ok b → AfterOk (come (two a b.model)) Holds) → AfterOk (case_decks r (Some s) come) Holds
     of_two (Ok a) s come holds = of_read s (λ b. Comparing a b (come (two a b.model))) (λ b is. of_alike a b (come (two a b.model)) (holds a b refl is))
     of_two (Err refusal) s come holds = λ valid d. absurd (let bad : status.Ok ≡ status.Refused refusal = d.0 in cc)
+
+    -- a text: its decks, and the listing after them
+    module _ (asked : AskedText) (bytes : List ℕ) (read : read_by_name asked.text (file_at files) ≡ Ok bytes) where
+      of_rest : (d : Decks) (zones : Option (List ℕ)) (line : ℕ) (rest : List ℕ) → bytes ≡ decks_text d zones ++ rest → AfterOk (case_rest asked d zones line rest) (OneTextVerdict asked files old.written new.written)
+      of_rest d zones line rest is =
+          of_read (steps_after (is_some d.second) d.first asked.digits (pairs_in d.first zones) asked.text line rest) (λ steps. Checking asked.limits d asked.digits (record { zones = zones; steps = steps }))
+          (λ steps listed valid c.
+          let holds = is_certified c.verdict c.status in
+          let L : ListingVerdict → Type 0 = λ v. pieces ≡ verdict_line d.first.grid v ∷ [] in
+          let V : ListingVerdict → Type 0 = λ v. IsVerdict asked.limits d asked.digits zones steps v in
+          let rows = rows_of (is_some d.second) d.first asked.digits steps in
+          let text = decks_text d zones ++ text_of rows in
+          let R : List (List ℕ) → Type 0 = λ ls. AreText rest (text_of ls) in
+          let lines_are = steps_stated (is_some d.second) d.first asked.digits (pairs_in d.first zones) asked.text line rest steps listed in
+          let B : List ℕ → Type 0 = λ b. AreText b text in
+          record {
+            certified = record {
+              bytes = bytes;
+              read = named_read asked.text (file_at files) bytes read;
+              text = text;
+              is = subst B (sym is) (ended_after (decks_text d zones) rest (text_of rows) (subst R lines_are (ended rest)));
+              stated = said asked.digits zones d.first steps d.second text refl valid.0 valid.1.steps (c.encloses holds) (c.history holds);
+              written = appended (certified_line ∷ []) (subst L holds c.are);
+            };
+            decks = d;
+            zones = zones;
+            steps = steps;
+            is = refl;
+            verdict = subst V holds c.is;
+          })
+
+      of_parts : (a : Part) (second : Option Part) → StandsIn bytes a.model (option_map (λ b. b.model) second) a.zones (unwrap_or second a).rest → AfterOk (case_parts asked a second) (OneTextVerdict asked files old.written new.written)
+      of_parts a None is = of_rest (one_deck a.model) a.zones a.line a.rest (is ∙ ap (λ (t : List ℕ). t ++ a.rest) (text_is (one_deck a.model) a.zones))
+      of_parts a (Some b) is = of_alike a.model (record { model = b.model; unlike = unlike asked.text b }) (case_rest asked (two a.model b.model) a.zones b.line b.rest)
+          (of_rest (two a.model b.model) a.zones b.line b.rest (is ∙ ap (λ (t : List ℕ). t ++ b.rest) (text_is (two a.model b.model) a.zones)))
 
     one_by : (order : Option Wanted) (end : Status) → ((b : AskedBatch) → order ≡ Some (Batch b) → Batched b files end old.written new.written) → AfterOk (case_of order files) (OneOf order files end old new)
     one_by None end batched = λ valid d. absurd (let bad : status.Ok ≡ status.Usage = d.0 in cc)
@@ -204,7 +253,7 @@ module _ (laws : Laws) (old new : Seen) (puts : List Put) (pieces : List Text) (
     one_by (Some (Check asked (Some to))) end batched = of_two (read_by_name asked.name (reads asked.limits files)) (read_by_name to (second_in asked.limits files)) (to_check files asked (Some to)) (λ a b first second. of_read (listing_read true files asked a) (Checking asked.limits (two a b.model) asked.digits)
         (λ listing listed valid d. span_checked laws.one files a b old new puts pieces written makes asked to first second listing listed valid.0 d))
     one_by (Some (Batch b)) end batched = λ valid d. batched b refl
-    one_by (Some (CheckText asked)) end batched = λ valid d. absurd (let bad : status.Ok ≡ status.Usage = d.0 in cc)
+    one_by (Some (CheckText asked)) end batched = of_read (read_by_name asked.text (file_at files)) _ (λ bytes read. of_read (parts_in asked.limits asked.text bytes) (λ p. case_parts asked p.first p.second) (λ p parts. of_parts asked bytes read p.first p.second (stands asked.limits asked.text bytes p parts)))
     one_by (Some Words) end batched = λ valid d. of_words d
     one_by (Some (Write limits name)) end batched = of_one (read_by_name name (reads limits files)) to_write (λ m read valid d. of_deck limits name m read valid d)
 
@@ -231,6 +280,6 @@ headline_of (Some (Check asked None)) files end old new o = o.certified
 headline_of (Some (Check asked (Some to))) files end old new o = o.certified
 headline_of (Some (Make seed size)) files end old new o = o.made
 headline_of (Some (Batch b)) files end old new o = o
-headline_of (Some (CheckText asked)) files end old new o = o
+headline_of (Some (CheckText asked)) files end old new o = o.certified
 headline_of (Some Words) files end old new o = o
 headline_of (Some (Write limits name)) files end old new o = o

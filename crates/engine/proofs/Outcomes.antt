@@ -1,7 +1,7 @@
 -- The public clauses, from all that a run comes to.
 use Rattle.engine.proofs.Common.{◌≡◌, List, Option, Ok, subst, sym, ◌∙◌, ap, refl, inl, inr, ◌⊎◌, FileSet, Rose, Put, Seen, PutsMake, Text, Agree, Status}
 use Rattle.engine.proofs.Common.{After, Saying, one_valid, Case, Listing, Making, Checking, Writing, CutOf, Defines, made_task, GoesWell, IsRunOf, IsStopped}
-use Rattle.engine.proofs.Common.{IsValid, Difference, Comparing, not_alike, IsPlain, ReadsFolder, EndsOk, EndIsDefined, Wanted, Jobs, case_of}
+use Rattle.engine.proofs.Common.{IsValid, Difference, Comparing, IsPlain, ReadsFolder, EndsOk, EndIsDefined, Wanted, Jobs, case_of}
 use Rattle.engine.proofs.Certifying.{IsFault, certifies, check_is_no_fault, one_end, stopped_by_fault}
 use Rattle.engine.proofs.ListingEnds.{agree, goes_through, jobs_agree, jobs_end_ok, jobs_no_fault, listing_is_no_fault}
 use Rattle.engine.proofs.OkRuns.{Laws, valid_of}
@@ -25,7 +25,7 @@ decides laws (Listing k) meant end p q plain valid x y = agree laws k valid plai
 decides laws (Making seed size (Ok m)) meant end p q plain valid x y = agree laws (made_task m) (one_valid m valid) refl meant end x.all y.all x.listed y.listed
 decides laws (Checking limits m s steps) meant end p q plain (model, listed) x y = inr (inl (one_end limits m s steps laws.verdict model listed meant end p q x y))
 decides laws (Jobs jobs) meant end p q plain valid x y = jobs_agree laws jobs meant end p q plain valid x y
-decides laws (Comparing a b c) meant end p q plain valid (inl x) (inl y) = inr (inl (y.status ∙ ap (λ (d : Difference). status.Refused (not_alike b d)) (laws.difference a b.model y.difference x.difference y.first x.first) ∙ sym x.status))
+decides laws (Comparing a b c) meant end p q plain valid (inl x) (inl y) = inr (inl (y.status ∙ ap (λ (d : Difference). status.Refused (b.unlike d)) (laws.difference a b.model y.difference x.difference y.first x.first) ∙ sym x.status))
 decides laws (Comparing a b c) meant end p q plain valid (inl x) (inr (alike, y)) = absurd (x.unlike alike)
 decides laws (Comparing a b c) meant end p q plain valid (inr (alike, x)) (inl y) = absurd (y.unlike alike)
 decides laws (Comparing a b c) meant end p q plain (inl never) (inr (alike, x)) (inr (also, y)) = absurd (never alike)

@@ -2,13 +2,11 @@
 use Rattle.engine.proofs.Common.{◌≡◌, ℕ, ◌≤◌, Bool, true, length, List, Option, None, Some, Result, Ok, Err, IfOk, sym, ap, refl, ◌∙◌, codes, if◌then◌else◌}
 use Rattle.engine.proofs.Common.{map, subst, ℤ, unsigned_abs, length-map, FileSet, IsReading, file_refusal, input_fault, IsGoodName, is_good_name, InputFault}
 use Rattle.engine.proofs.Common.{Refusal, Has, Stops, StopsText, FlowModel, IsModel, Text, ListedStep, AreZonesOf, ZonedListing, read_by_name, IsNamedFault}
-use Rattle.engine.proofs.Common.{Limits, ◌>>=◌, model_of, Difference, one_deck, AreDecksAs, IsUnlikeFault, second_by, Second, of_both, of_first, of_second}
-use Rattle.engine.proofs.Common.{InputCounts, cell_count, AreDecks, Decks, AreDecksOf, IsNoSecond, IfErr, second_in, reads, ReadsOn, names_in, AreAlike, IfSome}
-use Rattle.engine.proofs.Common.{option_map, IsSecond, err_from_is_err_and, IsErrAnd}
+use Rattle.engine.proofs.Common.{Limits, not_alike, ◌>>=◌, model_of, Difference, one_deck, AreDecksAs, IsUnlikeFault, second_by, Second, of_both, of_first}
+use Rattle.engine.proofs.Common.{of_second, InputCounts, cell_count, AreDecks, Decks, AreDecksOf, IsNoSecond, IfErr, second_in, reads, ReadsOn, names_in}
+use Rattle.engine.proofs.Common.{AreAlike, IfSome, option_map, IsSecond, err_from_is_err_and, IsErrAnd, BadName, TextFault}
 use Rattle.std.proofs.Common.{false, All}
-use Rattle.outside.specs.declared.codes.Code.TheVariants.{BadName}
 use Rattle.name_file.specs.Pairs.{Pairs}
-use Rattle.outside.specs.declared.inputs.TextFault.{TextFault}
 use Rattle.engine.specs.declared.two_decks.Second.{Second as SecondBy}
 use Rattle.outside.specs.declared.traits.Folder.{Ghosts as FolderOf}
 use Rattle.outside.proofs.NameTests.{is_taken, is_good}
@@ -87,7 +85,7 @@ module _ (limits : Limits) (fs : FileSet) (name : Text) where
     unread_model (input.Refused refusal) h = rw (are, h) refl
     unread_model other h = tt
 
-    pub second_read : (m : FlowModel) → model_of limits fs pairs ≡ Ok m → second_in limits fs name ≡ Ok (record { name = name; files = pairs; model = m })
+    pub second_read : (m : FlowModel) → model_of limits fs pairs ≡ Ok m → second_in limits fs name ≡ Ok (record { model = m; unlike = not_alike name pairs m.grid })
     unfolding second_in
     second_read m h = rw (are, h) refl
 
@@ -100,11 +98,11 @@ module _ (limits : Limits) (files : FileSet) (name : Text) where
   unfolding second_in reads
   reads_by = by_names (names_in files name)
     where
-      by_model : (pairs : Pairs) (r : Result FlowModel Refusal) → r ≡ model_by (r >>= λ m. Ok (record { name = name; files = pairs; model = m }))
+      by_model : (pairs : Pairs) (r : Result FlowModel Refusal) → r ≡ model_by (r >>= λ m. Ok (record { model = m; unlike = not_alike name pairs m.grid }))
       by_model pairs (Ok m) = refl
       by_model pairs (Err refusal) = refl
 
-      by_names : (r : Result Pairs Refusal) → (r >>= model_of limits files) ≡ model_by (r >>= λ pairs. model_of limits files pairs >>= λ m. Ok (record { name = name; files = pairs; model = m }))
+      by_names : (r : Result Pairs Refusal) → (r >>= model_of limits files) ≡ model_by (r >>= λ pairs. model_of limits files pairs >>= λ m. Ok (record { model = m; unlike = not_alike name pairs m.grid }))
       by_names (Ok pairs) = by_model pairs (model_of limits files pairs)
       by_names (Err refusal) = refl
 

@@ -4,9 +4,9 @@ use Rattle.engine.proofs.Common.{concat, FileSet, Refusal, FlowModel, Limits, De
 use Rattle.engine.proofs.Common.{deck_reads, deck_text, most_bytes, reads, times, two, with_limit, zones_read, start_head, Appends, File, deck_name, deck_files}
 use Rattle.engine.proofs.Common.{SolvesBetweenFrom, checked_task, BoundAll, BoundBetween, Bounds, deck_task, DeckAndListingAreStated, DecksAndListingAreStated}
 use Rattle.engine.proofs.Common.{SameModelHasSameListing, DeckHasSameListing, SameDeckHasSameModel, ListingOrder, option_map, refl, zoned_text, SpanStated}
+use Rattle.engine.proofs.Common.{Stated}
 use Rattle.engine.specs.Headline.{Headline}
 use Rattle.engine.specs.SpanHeadline.{SpanHeadline}
-use Rattle.engine.specs.Stated.{Stated}
 use Rattle.decimal_input.specs.{Fraction}
 use Rattle.flow_equations.specs.{heads_of}
 use Rattle.engine.proofs.Written.{some_ok}

@@ -6,7 +6,7 @@ use Rattle.record_lines.specs.{◌>>=◌}
 use Rattle.model_types.specs.{most_bytes}
 use Rattle.outside.specs.declared.codes.Code.TheVariants.{BadName}
 use Rattle.outside.specs.declared.inputs.Refusal.{Refusal}
-use Rattle.command_line.specs.{ListingOrder, AskedBatch, AskedCheck, Batch, Check, CheckText, Make, Run, Wanted, Words, Write, wanted_by}
+use Rattle.command_line.specs.{ListingOrder, AskedBatch, AskedCheck, AskedText, Batch, Check, CheckText, Make, Run, Wanted, Words, Write, wanted_by}
 use Rattle.command_line.specs.declared.order.Order.{Order}
 use Rattle.command_line.specs.declared.order.WordsFault.{WordsFault}
 use Rattle.command_line.specs.declared.order.WordsFault.TheVariants as fault
@@ -28,6 +28,9 @@ use Rattle.deck_problems.specs.{one_deck}
 use Rattle.step_chain.specs.{two}
 use Rattle.listing_run.specs.{deck_task, one_task}
 use Rattle.batch_list.specs.{names_in}
+use Rattle.stated_text.specs.{steps_after, unlike}
+unfoldable use Rattle.stated_text.specs.{parts_in}
+use Rattle.stated_text.specs.declared.part.Part.{Part}
 use Rattle.engine.specs.declared.job.Job.{Job}
 use Rattle.engine.specs.declared.zoned.ZonedListing.{ZonedListing}
 use Rattle.engine.specs.TwoDecks.{Second, second_in}
@@ -158,6 +161,18 @@ after_text false text case = case
 abbrev pub case_listed : ListingOrder → Decks → Option (List ℕ) → Case
 case_listed asked d zones = after_text asked.deck (decks_text d zones) (Listing (decks_task asked d zones))
 
+-- The case of the listing at the end of a text, from this line on, after decks with these zones of their cells: it is checked.
+abbrev pub case_rest : AskedText → Decks → Option (List ℕ) → (line : ℕ) → (rest : List ℕ) → Case
+case_rest asked d zones line rest =
+    case_read (steps_after (is_some d.second) d.first asked.digits (pairs_in d.first zones) asked.text line rest)
+    (λ steps. Checking asked.limits d asked.digits (record { zones = zones; steps = steps }))
+
+-- the case of the decks in a text: of one, or of two, which are compared
+abbrev pub case_parts : AskedText → Part → Option Part → Case
+case_parts asked a None = case_rest asked (one_deck a.model) a.zones a.line a.rest
+case_parts asked a (Some b) =
+    Comparing a.model (record { model = b.model; unlike = unlike asked.text b }) (case_rest asked (two a.model b.model) a.zones b.line b.rest)
+
 -- The case of this order and these files. It does not depend on the number of workers, nor on views.
 abbrev pub case_of : Option Wanted → FileSet → Case
 case_of None files = NoWords
@@ -168,7 +183,8 @@ case_of (Some (Check asked to)) files =
     case_named files asked.limits asked.name to (λ d. case_read (listing_read (is_some to) files asked d.first) (Checking asked.limits d asked.digits))
 case_of (Some (Batch b)) files = case_read (jobs_read files b) Jobs
 case_of (Some (Write limits name)) files = case_named files limits name None (λ d. Writing d.first)
-case_of (Some (CheckText asked)) files = NoWords
+case_of (Some (CheckText asked)) files =
+    case_read (read_by_name asked.text (file_at files)) (λ bytes. case_read (parts_in asked.limits asked.text bytes) (λ p. case_parts asked p.first p.second))
 case_of (Some Words) files = Saying words_text
 
 -- The case of a run is the same by any number of workers, watched or not, and so is that of a batch.

@@ -1,6 +1,7 @@
 pub mod Headline
 pub mod SpanHeadline
 pub mod Words
+pub mod TextCertified
 pub mod DeckListing
 pub mod TwoDecks
 pub mod Certified
@@ -23,9 +24,9 @@ pub mod BatchReads
 pub use Rattle.engine.specs.BatchReads.{AreTasks, HasNames, IsBatchRead, NeverRefused}
 pub use Rattle.engine.specs.Batched.{HasEnded, HasNoList, IsJobListing}
 pub use Rattle.engine.specs.Cases.{After, Case, Checking, Comparing, IsListingOf, IsOrder, Jobs, Listing, Making, NoWords, ReadsNothing, Refuses, Saying}
-pub use Rattle.engine.specs.Cases.{WorkersChangeNoCase, Writing, after_text, but_batch, case_decks, case_listed, case_named, case_of, case_read, decks_task}
-pub use Rattle.engine.specs.Cases.{decks_text, job_of, job_task, jobs_read, listing_read, made_model, names_read, read_by_name, second_text, span_task_of}
-pub use Rattle.engine.specs.Cases.{steps_read, task_of, zones_read}
+pub use Rattle.engine.specs.Cases.{WorkersChangeNoCase, Writing, after_text, but_batch, case_decks, case_listed, case_named, case_of, case_parts, case_read}
+pub use Rattle.engine.specs.Cases.{case_rest, decks_task, decks_text, job_of, job_task, jobs_read, listing_read, made_model, names_read, read_by_name}
+pub use Rattle.engine.specs.Cases.{second_text, span_task_of, steps_read, task_of, zones_read}
 pub use Rattle.engine.specs.Checked.{IsCheck, certified_line, verdict_line, verdict_status}
 pub use Rattle.engine.specs.Commands.{MayRead}
 pub use Rattle.engine.specs.DeckListing.{OneDeckListing, OneDeckSpan}
@@ -43,6 +44,7 @@ pub use Rattle.engine.specs.SpanHeadline.{ArePairOf, OneSpan, SpanVerdict}
 pub use Rattle.engine.specs.Stated.{DeckAndListingAreStated, DeckHasSameListing, DecksAndListingAreStated, SameDeckHasSameModel, SameModelHasSameListing}
 pub use Rattle.engine.specs.Stated.{SpanStated}
 pub use Rattle.engine.specs.Storage.{StorageHolds}
+pub use Rattle.engine.specs.TextCertified.{AreText, OneTextVerdict}
 pub use Rattle.engine.specs.TwoDecks.{IsDecksRefusal, Second, not_alike, of_both, of_first, of_second}
 unfoldable pub use Rattle.engine.specs.TwoDecks.{second_in}
 pub use Rattle.engine.specs.Watched.{ArePutInTurn, AreViews, AreWatched, IsView, IsWatched, Shows, SidePuts, ViewPutsOf, lines_of, views_in}

@@ -48,7 +48,7 @@ AreDecksAs limits name to files answer = AreDecksRead (read_by_name name (reads 
 
 -- the refusal of a second deck at this difference, or lack of memory for it
 abbrev pub IsUnlikeFault : Second → Difference → InputFault → Type 0
-IsUnlikeFault b d (input.Refused refusal) = refusal ≡ not_alike b d
+IsUnlikeFault b d (input.Refused refusal) = refusal ≡ b.unlike d
 IsUnlikeFault b d input.ReadFault = ⊥
 IsUnlikeFault b d input.Memory = Unit {0}
 
@@ -62,7 +62,7 @@ IsNoSecond a b fault = (d : Difference) × IsFirstDifference a b.model d × (Are
 
 -- a second deck, in the form of the code
 abbrev pub second_by : SecondBy → Second
-second_by b = record { name = b.name.now; files = b.files; model = b.model }
+second_by b = record { model = b.model; unlike = not_alike b.name.now b.files b.model.grid }
 
 -- a listing that was read of a model, and its zones
 pub record IsListed (m : FlowModel) (listing : ZonedListing) : Type 0 where

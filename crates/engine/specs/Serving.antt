@@ -12,6 +12,7 @@ use Rattle.engine.specs.Headline.{Headline}
 use Rattle.engine.specs.Made.{Made}
 use Rattle.engine.specs.OneListing.{OneListing, OneSummary, OneVerdict}
 use Rattle.engine.specs.SpanHeadline.{OneSpan, SpanCertified, SpanHeadline, SpanVerdict}
+use Rattle.engine.specs.TextCertified.{OneTextVerdict, TextCertified}
 use Rattle.engine.specs.Parts.{IsStopped}
 use Rattle.engine.specs.Runs.{EndsOk, EndIsDefined, Puts}
 use Rattle.engine.specs.Watched.{SidePuts, Watched, views_in}
@@ -25,7 +26,7 @@ use Rattle.model_types.specs.declared.limits.Limits.TheVariants.{Plain}
 
 -- The files that the words name, and how many bytes of one are read.
 -- the name file of a run, the second one if there is one, and its zone file if there is one; the same of a check, and its
--- listing; the list of a batch; the name file of a deck; none to make a model, and to say the words
+-- listing; the list of a batch; the name file of a deck; the text that is checked; none to make a model, and to say the words
 abbrev pub files_of : Wanted → List Text
 files_of (Run asked to) = asked.name ∷ (option_to_list to ++ option_to_list asked.zones)
 files_of (Check asked to) = asked.name ∷ (option_to_list to ++ (option_to_list asked.zones ++ asked.listing ∷ []))
@@ -69,7 +70,7 @@ abbrev pub RunSpanHeadline : (deck : Bool) → ListingOrder → Text → FileSet
 RunSpanHeadline false asked to files old new = SpanHeadline asked to files old.written new.written
 RunSpanHeadline true asked to files old new = DeckSpanHeadline asked to files old.written new.written
 
--- The headline of an order: of a listing, or of one of two decks; of a check, or of one of two decks; of a made model, whose listing is
+-- The headline of an order: of a listing, or of one of two decks; of a check, or of one of two decks, or of a text; of a made model, whose listing is
 -- summed up; of each listing of a batch; of a deck; or of the words.
 abbrev pub HeadlineOf : Option Wanted → FileSet → Status → Seen → Seen → Type 0
 HeadlineOf None files end old new = ⊥
@@ -80,7 +81,7 @@ HeadlineOf (Some (Check asked (Some to))) files end old new = SpanCertified aske
 HeadlineOf (Some (Make seed size)) files end old new = Made seed size old.written new.written
 HeadlineOf (Some (Batch asked)) files end old new = Batched asked files end old.written new.written
 HeadlineOf (Some (Write limits name)) files end old new = OneDeck limits name files old.written new.written
-HeadlineOf (Some (CheckText asked)) files end old new = ⊥
+HeadlineOf (Some (CheckText asked)) files end old new = TextCertified asked files old.written new.written
 HeadlineOf (Some Words) files end old new = Said old new
 
 -- The one listing of a run, and of two decks, after their text with --deck.
@@ -103,7 +104,7 @@ OneOf (Some (Check asked (Some to))) files end old new = SpanVerdict asked to fi
 OneOf (Some (Make seed size)) files end old new = OneSummary seed size old.written new.written
 OneOf (Some (Batch asked)) files end old new = Batched asked files end old.written new.written
 OneOf (Some (Write limits name)) files end old new = OneDeck limits name files old.written new.written
-OneOf (Some (CheckText asked)) files end old new = ⊥
+OneOf (Some (CheckText asked)) files end old new = OneTextVerdict asked files old.written new.written
 OneOf (Some Words) files end old new = Said old new
 
 -- What a run of this order has come to. `agrees` are the files that agree with all results of its folder, which counted `before` and then

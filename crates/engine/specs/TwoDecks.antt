@@ -8,7 +8,7 @@ use Rattle.outside.specs.declared.inputs.InputFault.TheVariants as input
 use Rattle.record_lines.specs.{◌>>=◌}
 use Rattle.name_file.specs.Pairs.{Pairs}
 use Rattle.name_file.specs.{file_of}
-use Rattle.name_file.specs.declared.package.Package.{Package}
+use Rattle.model_types.specs.declared.grid.Grid.{Grid}
 use Rattle.model_types.specs.declared.limits.Limits.{Limits}
 use Rattle.model_types.specs.declared.model.FlowModel.{FlowModel}
 use Rattle.model_types.specs.{place}
@@ -21,35 +21,31 @@ use Rattle.run_puts.specs.{Text}
 use Rattle.run_puts.specs.declared.puts.Status.{Status}
 use Rattle.run_puts.specs.declared.puts.Status.TheVariants as status
 
--- A second deck: its name file, the files of its packages, and its model.
+-- A second deck: its model, and its refusal at a difference from the first one.
 pub record Second : Type 0 where
-  pub name : Text
-  pub files : Pairs
   pub model : FlowModel
+  pub unlike : Difference → Refusal
+
+-- the refusal of a second deck, with this name file and these files of packages, that isn't alike the first one: its file of the package of
+-- the first difference (its name file where it has no such package), line 0, and the cell where there is one
+abbrev pub not_alike : Text → Pairs → Grid → Difference → Refusal
+not_alike name files g d =
+    record { code = NotAlike; file = unwrap_or (file_of d.package files) name; line = 0; at = option_map (λ c. place g c.0) d.cell }
 
 -- the second deck that a name file describes, or the first refusal
 unfoldable pub second_in : Limits → FileSet → Text → Result Second Refusal
 second_in limits files name = do
   pairs ← names_in files name
   model ← model_of limits files pairs
-  Ok (record { name = name; files = pairs; model = model })
-
--- its file of a package; its name file where it has no such package
-abbrev pub file_named : Second → Package → Text
-file_named b kind = unwrap_or (file_of kind b.files) b.name
-
--- the refusal of a second deck that isn't alike the first one: its file of the package of the first difference, line 0, and
--- the cell where there is one
-abbrev pub not_alike : Second → Difference → Refusal
-not_alike b d = record { code = NotAlike; file = file_named b d.package; line = 0; at = option_map (λ c. place b.model.grid c.0) d.cell }
+  Ok (record { model = model; unlike = not_alike name pairs model.grid })
 
 -- A run of two decks that aren't alike ends so: with the refusal of their first difference.
 pub record IsUnlike (a : FlowModel) (b : Second) (end : Status) (pieces : List Text) : Type 0 where
   pub difference : Difference
   pub first : IsFirstDifference a b.model difference
   pub unlike : AreAlike a b.model → ⊥
-  pub status : end ≡ status.Refused (not_alike b difference)
-  pub are : pieces ≡ refused_line (not_alike b difference) ∷ []
+  pub status : end ≡ status.Refused (b.unlike difference)
+  pub are : pieces ≡ refused_line (b.unlike difference) ∷ []
 
 -- the decks of these readings: the first one was read, and a second one if there is one, and the two are alike
 pub record AreRead (first : Result FlowModel Refusal) (second : Option (Result Second Refusal)) (d : Decks) : Type 0 where
@@ -64,7 +60,7 @@ pub data IsDecksRefusal (first : Result FlowModel Refusal) (second : Option (Res
   of_first : first ≡ Err r → IsDecksRefusal first second r
   of_second : (a : FlowModel) → first ≡ Ok a → second ≡ Some (Err r) → IsDecksRefusal first second r
   of_both : (a : FlowModel) (b : Second) (d : Difference) → first ≡ Ok a → second ≡ Some (Ok b) → IsFirstDifference a b.model d →
-      (AreAlike a b.model → ⊥) → r ≡ not_alike b d → IsDecksRefusal first second r
+      (AreAlike a b.model → ⊥) → r ≡ b.unlike d → IsDecksRefusal first second r
 
 -- a reading of decks gave them, or this fault; a read fault and lack of memory say nothing of the files
 abbrev pub AreDecksRead : Result FlowModel Refusal → Option (Result Second Refusal) → Result Decks InputFault → Type 0

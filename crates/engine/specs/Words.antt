@@ -19,6 +19,9 @@ words_text =
     ++ (codes "  --wide: wide limits, as the run had them\n"
     ++ (codes "  --to NAME2: LISTING is of every model between that of NAME and that of NAME2\n"
     ++ (codes "  --zones Z: LISTING has the flows between the zones of the file Z\n"
+    ++ (codes "check --deck TEXT: says whether the listing in TEXT is certified for the deck or the two decks in TEXT, or else where it fails first\n"
+    ++ (codes "  --digits S: the digits of the run\n"
+    ++ (codes "  --wide: wide limits, as the run had them\n"
     ++ (codes "make SEED SIZE: makes a model of SIZE rows and columns from a seed, and puts a summary of its listing\n"
     ++ (codes "batch LIST: lists the models whose name files stand in the file LIST, one on a line\n"
     ++ (codes "  --digits S: as with run\n"
@@ -28,4 +31,4 @@ words_text =
     ++ (codes "  --wide: as with run\n"
     ++ (codes "write NAME: puts the deck of the model of NAME in one spelling, one file after another\n"
     ++ (codes "  --wide: wide limits\n"
-    ++ (codes "words: puts these lines\n"))))))))))))))))))))))))
+    ++ (codes "words: puts these lines\n")))))))))))))))))))))))))))

@@ -14,6 +14,7 @@ use crate::ending::end_reading;
 use crate::listing::{TURNS, put_listing};
 use crate::making::put_made;
 use crate::reading::read_zones_of;
+use crate::text_check::check_text;
 use crate::two_decks::read_decks;
 use crate::words::put_words;
 use crate::writing::{put_decks_text, write};
@@ -38,7 +39,8 @@ const USAGE: &[u8] =
 /// folder, and puts the summary of its listing. `check NAME LISTING` reads the model and a listing of it, whoever wrote
 /// it, and puts whether it is certified, or else the first place that fails. With `--to NAME2` both read a second deck too,
 /// compare it with the first, and list or check bounds for all models between the two. With `--deck` a run puts the text of its
-/// decks first, as one piece. `write NAME` reads the model and puts its deck in one spelling. `words` puts what each word does. With `--wide` the limits of the model are wide ones. Workers in threads settle each step, and pass
+/// decks first, as one piece. `write NAME` reads the model and puts its deck in one spelling. `check --deck TEXT` reads a text of
+/// decks, zones and a listing, and puts whether the listing is certified. `words` puts what each word does. With `--wide` the limits of the model are wide ones. Workers in threads settle each step, and pass
 /// the gate before each turn; a check has none. With `--watch N` one more seat makes N views of the heads in each phase, and
 /// each is put to `side` as one piece, up to the first put that fails; the run then ends, with WriteFault if a write
 /// failed. For a batch, which only `run` does, it puts the usage line.
@@ -104,7 +106,7 @@ pub(crate) fn run_order<
             Order::Make(asked) => put_made(rt, alloc, asked, out, gate),
             Order::Write { limits, name } => write(alloc, limits, name, folder, out),
             Order::Words => put_words(out),
-            Order::CheckText(_) => put_last(out, USAGE, Status::Usage),
+            Order::CheckText(asked) => check_text(alloc, asked, folder, out),
             Order::Batch(_) => put_last(out, USAGE, Status::Usage),
         },
         Err(WordsFault::Usage) => put_last(out, USAGE, Status::Usage),

@@ -8,4 +8,4 @@ pub use Rattle.stated_text.specs.Faults.{Gives, IsLaterFault, IsMovedFault, IsRe
 pub use Rattle.stated_text.specs.Parts.{at_lines, begins_part, has_zones, in_text, is_current, last_of, later_by, line_of, or_bad, part_of, second_at}
 pub use Rattle.stated_text.specs.Parts.{steps_after, unlike, zoned_model, zones_in}
 unfoldable pub use Rattle.stated_text.specs.Parts.{part_at, parts_in}
-pub use Rattle.stated_text.specs.Stated.{IsStated, StandsIn}
+pub use Rattle.stated_text.specs.Stated.{IsStated, StandsIn, parts_text}

@@ -1,6 +1,6 @@
 use Rattle.engine.proofs.Common.{◌≡◌, ℕ, List, Option, subst, sym, pairs_in, AreListed, NeverCut, lacks_at_first, IsVerdict, ListingEncloses, IsCheck, lone}
 use Rattle.engine.proofs.Common.{refl, Limits, Decks, ZonedListing, ListingVerdict, Status, Put, IsEnd, IsRun, verdict_line, verdict_status, listing, Certified}
-use Rattle.exact_histories.specs.{HaveOneHistory}
+use Rattle.engine.proofs.Common.{HaveOneHistory}
 use Rattle.engine.proofs.Ends.{puts_more}
 use Rattle.engine.proofs.checking.put_check.Goals as goal
 

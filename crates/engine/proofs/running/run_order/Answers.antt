@@ -11,7 +11,7 @@ returns-in-Err-Usage-clause-answers g c = λ one is.
 
 pub returns-in-Batch-clause-answers : goal.returns-in-Batch-clause-answers
 returns-in-Batch-clause-answers g c = λ one is.
-    puts_more g.K.Sink.leads c.put_last-in-Batch.ensures (λ more m files agree. without_views files one None
+    puts_more g.K.Sink.leads c.put_last.ensures (λ more m files agree. without_views files one None
     (((g.met.W.Sink g.world.𝓛 g.world.𝓜 g.world.𝓡 ((λ s x. x), (λ x. x), (λ x. x), λ x. x))).rests c.args.side.now) (order_read one c.args.read _ _ is.0 c.in-Ok.is c.in-Batch.is) refl (ends_usage m))
 
 pub returns-in-Err-Memory-clause-answers : goal.returns-in-Err-Memory-clause-answers
@@ -64,5 +64,11 @@ returns-in-Words-clause-answers g c = λ one is.
 
 pub returns-in-CheckText-clause-answers : goal.returns-in-CheckText-clause-answers
 returns-in-CheckText-clause-answers g c = λ one is.
-    puts_more g.K.Sink.leads c.put_last.ensures (λ more m files agree. without_views files one _
-    (((g.met.W.Sink g.world.𝓛 g.world.𝓜 g.world.𝓡 ((λ s x. x), (λ x. x), (λ x. x), λ x. x))).rests c.args.side.now) (order_read one c.args.read _ _ is.0 c.in-Ok.is c.in-CheckText.is) refl (ends_usage m))
+    puts_more g.K.Sink.leads c.check_text.ensures.answers (λ more m files agree. without_views files one _
+    (((g.met.W.Sink g.world.𝓛 g.world.𝓜 g.world.𝓡 ((λ s x. x), (λ x. x), (λ x. x), λ x. x))).rests c.args.side.now) (order_read one c.args.read _ _ is.0 c.in-Ok.is c.in-CheckText.is) refl (m files agree))
+
+pub returns-in-CheckText-clause-unasked : goal.returns-in-CheckText-clause-unasked
+returns-in-CheckText-clause-unasked g c = λ one is nothing. absurd (subst ReadsNothing (order_read one c.args.read _ _ is.0 c.in-Ok.is c.in-CheckText.is) nothing)
+
+pub check_text-requires : goal.check_text-requires
+check_text-requires g c = record { may = may_do (g.F.Folder.may c.args.folder.now) c.args.read _ _ c.requires.may c.in-Ok.is c.in-CheckText.is }
