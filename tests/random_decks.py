@@ -32,6 +32,12 @@ def without(words, names):
     return kept
 
 
+def option(words, name):
+    """The option of this name and its value, or nothing."""
+    apart = [part for word in words for part in (word.split("=", 1) if word.startswith(f"{name}=") else [word])]
+    return next((apart[at:at + 2] for at, word in enumerate(apart) if word == name), [])
+
+
 def runs(generator, seed, folder):
     """Writes the deck of a seed, and returns the words of its runs, without numbers of workers, rounds and views."""
     found = commands(generator, seed, folder)
