@@ -23,7 +23,8 @@ Bytes = tuple[int, ...]
 # The functions and relations that cases call, by the names that they have here.
 CALLED = {
     "order_of_words": ("command_line", "Wants"), "case_of": ("engine", "Cases"), "code_row": ("outside", "Codes"),
-    "deck_text": ("model_text", "Written"), "times": ("model_types", "Times"), "start_head": ("model_types", "Heads"),
+    "deck_text": ("model_text", "Written"), "zoned_text": ("model_text", "Written"),
+    "times": ("model_types", "Times"), "start_head": ("model_types", "Heads"),
     "constant_head": ("model_types", "Heads"), "is_constant": ("model_types", "Heads"),
     "exact_step": ("flow_equations", "ExactStep"), "balance": ("cell_balance", "Balance"),
     "exact_term": ("budget_bounds", "Exact"), "exact_faces": ("zone_flows", "Faces"),

@@ -12,7 +12,7 @@ from .bench import NOTHING_PUT, OK, Bench, file_set, put
 from .listed import Values, listed, moved_number, other_label, with_other_digit, without_pair
 from .random_deck import ZONES, Files
 from .solved import TERM_NAMES, History, Model, Solved, active_cells, model_of, moved, solution, zones_of
-from .values import Made, as_fraction, fraction_of, option, some
+from .values import as_fraction, fraction_of, Made, option, record, some
 
 NAME, LISTING, WRITTEN = "a.nam", "l.txt", "p.nam"
 PLACES = 10**9
@@ -169,6 +169,10 @@ class OneDeck:
         end = bench.definitions.get("run_puts", "Runs", "end_line")()
         bytes_of = lambda listed: b"".join(map(bytes, text_of(task, listed, end)))  # noqa: E731
         bench.agree(f"texts of listings: {self.label}", bytes_of(values), self.answer[1])
+        zoned, deck_order = bytes(bench.zoned_text(model, zones)), bench.order(self.words("run", "--deck"))
+        if not self.is_quick:
+            with_deck = bench.run(self.folder, self.words("run", "--deck"))
+            bench.agree(f"texts of decks and listings: {self.label}", (0, zoned + self.answer[1]), with_deck)
         thrice = tuple((lambda x: lambda cell: 3 * x(cell))(x) for x in history.vectors)
         for name in ("Headline", "Stated", "Certified"):
             bench.definitions.samples.update({
@@ -187,8 +191,11 @@ class OneDeck:
             bench.take(Headline__values=each, Stated__values=each)
             holds = bench.HeadlineOf(self.order, self.set, OK, NOTHING_PUT, put(content))
             bench.holds(f"Headline{what}: {self.label}", holds, not field, f"Headline.{field}" if field else "")
-            stated = bench.Stated(zones, some(()), some(tuple(self.written + content)))
+            stated = bench.Stated(some(()), some(tuple(zoned + content)))
             bench.holds(f"Stated{what}: {self.label}", stated, not field, f"Stated.{field}" if field else "")
+            bench.take(DeckHeadline__mid=some(tuple(zoned)), DeckHeadline__listing=record(model=model, zones=zones))
+            with_deck = bench.HeadlineOf(deck_order, self.set, OK, NOTHING_PUT, put(zoned + content))
+            bench.holds(f"DeckHeadline{what}: {self.label}", with_deck, not field)
             if field == "encloses":
                 self.compare_wrong_check(what, content)
         case, answer = self.compare_check(self.answer[1])

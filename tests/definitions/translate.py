@@ -121,8 +121,6 @@ class Translator:
         return self.python(body, scope)
 
     def of_tup(self, made: Expression, scope: Scope) -> str:
-        if len(made[1]) != 2:
-            raise Unknown("a tuple of more than two")
         return f"pair({', '.join(self.all_of(made[1], scope))})"
 
     def of_rec(self, made: Expression, scope: Scope) -> str:

@@ -124,7 +124,7 @@ class TwoDecks:
         bench, zones = self.bench, option(tuple(self.zones) or None)
         text_of = bench.definitions.get("listing_run", "Listing", "listing")
         end = bench.definitions.get("run_puts", "Runs", "end_line")()
-        written = b"".join(bytes(bench.deck_text(model)) for model in (self.first, self.second))
+        written = b"".join(bytes(bench.zoned_text(model, zones)) for model in (self.first, self.second))
         kind, wrong = moved_number(values, history, self.digits, self.zones, self.draw)
         listings = [("", "", values), (f" of a moved {kind}", "encloses", wrong)]
         listings.append((" of another label", "at", other_label(values, self.draw)))
@@ -135,7 +135,7 @@ class TwoDecks:
             bench.take(SpanHeadline__values=each, SpanStated__values=each)
             holds = bench.HeadlineOf(order, self.set, OK, NOTHING_PUT, put(content))
             bench.holds(f"SpanHeadline{what}: {self.label}", holds, not field, f"SpanHeadline.{field}" if field else "")
-            stated = bench.SpanStated(zones, some(()), some(tuple(written + content)))
+            stated = bench.SpanStated(some(()), some(tuple(written + content)))
             bench.holds(f"SpanStated{what}: {self.label}", stated, not field, f"SpanStated.{field}" if field else "")
 
     def compare_check(self, values: Values, content: bytes) -> None:

@@ -63,11 +63,9 @@ def record(**fields: Any) -> Any:
     return record_class(fields)(**{python_name(name): value for name, value in fields.items()})
 
 
-PAIR = record_class(("0", "1"))
-
-
-def pair(first: Any, second: Any) -> Any:
-    return PAIR(v_0=first, v_1=second)
+def pair(*items: Any) -> Any:
+    """A tuple of two items or more."""
+    return record(**{str(place): item for place, item in enumerate(items)})
 
 
 def with_fields(old: Any, new: dict[str, Any]) -> Any:
