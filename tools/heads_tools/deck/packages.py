@@ -34,7 +34,10 @@ def read_deck(
                 read_package(reading, kind)
             except Problem as error:
                 reading.refuse_text(kind, str(error))
-            except (IndexError, ValueError) as error:
+            except IndexError:
+                due = f": {reading.at.due}" if reading.at and reading.at.due else ""
+                reading.refuse_text(kind, f"the line has too few words for what is due{due}")
+            except ValueError as error:
                 reading.refuse_text(kind, f"can't be read: {error}")
             if kind == "DIS" and not reading.deck.periods:
                 break
