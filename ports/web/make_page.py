@@ -18,7 +18,7 @@ WORKER_SCRIPTS = ("host.mjs", "worker.mjs")
 
 def one_page() -> ModuleType:
     """heads-tools' module of this name, by itself: the package would need numpy."""
-    spec = importlib.util.spec_from_file_location("one_page", TOOLS / "one_page.py")
+    spec = importlib.util.spec_from_file_location("one_page", TOOLS / "pages" / "one_page.py")
     assert spec and spec.loader
     module = importlib.util.module_from_spec(spec)
     spec.loader.exec_module(module)
