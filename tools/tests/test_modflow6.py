@@ -5,6 +5,9 @@ from fractions import Fraction
 import pytest
 
 from conftest import TOP, heads
+from heads_tools.deck.dates import start_of
+from heads_tools.deck.packages import read_deck
+from heads_tools.deck.places import named_place
 from modflow6_base import BASE, LAYERS, OPTION, RECHARGE, put
 from modflow6_models import Draw
 from modflow6_solved import solution
@@ -76,6 +79,21 @@ def notes_of(tmp_path, tool, changes):
     status, _, error = tool("plain", put(tmp_path / "m", changes), tmp_path / "deck")
     assert (status, error) == (0, "")
     return (tmp_path / "deck" / "plain.txt").read_text().splitlines()
+
+
+@pytest.mark.program
+def test_the_place_and_the_date_become_a_comment_that_export_takes(tmp_path, tool):
+    options = "XORIGIN 155000.\n YORIGIN 463000.\n ANGROT 12.\n CRS EPSG:28992"
+    changes = {
+        "m.dis": ("BEGIN DIM", OPTION.format(options) + "BEGIN DIM"),
+        "m.tdis": ("BEGIN DIM", OPTION.format("START_DATE_TIME 2024-01-02T00:00") + "BEGIN DIM"),
+    }
+    notes = notes_of(tmp_path, tool, changes)
+    assert any("XORIGIN written as a comment of the deck's name file" in note for note in notes)
+    nam = tmp_path / "deck" / "p.nam"
+    place, _ = named_place(read_deck(nam)[0])
+    assert (place.x, place.y, place.angle, place.epsg) == (155000, 463000, 12, 28992)
+    assert start_of(None, nam).isoformat() == "2024-01-02"
 
 
 @pytest.mark.program

@@ -80,11 +80,13 @@ class Block:
 
 @dataclass
 class Folder:
-    """The folder of the simulation, from which all names of files count; what was read, and what there is to say."""
+    """The folder of the simulation, from which all names of files count; what was read, and what there is to say;
+    `place`: the options that say where the grid lies and when the model starts."""
 
     path: Path
     report: Report
     read: list[Path] = field(default_factory=list)
+    place: dict[str, str] = field(default_factory=dict)
 
     def lines(self, name: str, at: Line | None = None) -> list[Line]:
         """The lines of a file that stands `at` a line."""

@@ -12,12 +12,19 @@ PRINTS = {
     "AUXILIARY", "AUTO_FLOW_REDUCE_CSV",
 }  # fmt: skip
 CONVERTIBLE = "dropped: it acts in convertible cells alone, and every cell is confined"
-NO_PLACE = "dropped: a deck has no place on the map and no date (`heads-tools export` takes both by --at and --start)"
+PLACES = {
+    "XORIGIN": "xll",
+    "YORIGIN": "yll",
+    "ANGROT": "rotation",
+    "CRS": "crs",
+    "START_DATE_TIME": "start_datetime",
+}
+PLACED = "written as a comment of the deck's name file, which `heads-tools export` and `observe` take"
 # They act in convertible cells alone, or in no equation.
 DROPPED = {
     name: CONVERTIBLE
     for name in ("VARIABLECV", "PERCHED", "REWET", "AUTO_FLOW_REDUCE", "THICKSTRT", "SS_CONFINED_ONLY")
-} | {name: NO_PLACE for name in ("XORIGIN", "YORIGIN", "ANGROT", "CRS", "START_DATE_TIME")} | {
+} | {name: PLACED for name in PLACES} | {
     "OBS6": "OBS6 dropped: it says what is observed alone",
     "NEWTON": "NEWTON dropped: the same equations where every cell is confined",
     "FIXED_CELL": "FIXED_CELL dropped: no cell goes dry where every cell is confined",
@@ -49,6 +56,8 @@ def options_of(file: File, used: tuple[str, ...] = ()) -> dict[str, Line]:
             continue
         if name in DROPPED:
             text = DROPPED[name]
+            if name in PLACES:
+                file.folder.place[PLACES[name]] = " ".join(line.words[1:])
             file.folder.note(line, text if text.startswith(name) else f"{name} {text}")
         else:
             file.folder.add(line.fault(f"the option {name} {REFUSED.get(name, 'is not known here, so it is refused')}"))

@@ -56,7 +56,8 @@ def fill(deck: Deck, simulation: Simulation, grid: Grid) -> None:
     for kind, columns in areal.items():
         if columns is not None:
             fill_areal(deck, grid, kind, columns)
-    deck.name_lines = [f"# {TRANSLATED}."] + [f"{kind} {UNITS[kind]} {name}" for kind, name in deck.files.items()]
+    place = "; ".join(f"{name}:{text}" for name, text in folder.place.items())
+    deck.name_lines = [f"# {TRANSLATED}.", *([f"#{place}"] if place else [])] + [f"{kind} {UNITS[kind]} {name}" for kind, name in deck.files.items()]
     deck.units = {UNITS[kind]: name for kind, name in deck.files.items()}
 
 
