@@ -1,12 +1,16 @@
 """What a deck says of its cells' thickness and conductivity otherwise than LPF with confined layers does."""
 from __future__ import annotations
 
+import re
+
 import numpy as np
 
 from ..common.text import Problem, counted
 from .parameters import decimals
 from .reading import Reading
 from .sources import Array
+
+ZERO = re.compile(r"[+-]?[0.]+([EeDd][+-]?\d+|[+-]\d+)?")
 
 
 def active_cells(reading: Reading) -> np.ndarray:
@@ -72,7 +76,10 @@ def demand_even_thickness(reading: Reading) -> None:
 
 def take_dry_cells_out(reading: Reading) -> None:
     """Cells of HK 0 without a vertical conductance: MODFLOW-2005 makes them inactive, so IBOUND is 0 there."""
-    deck, active = reading.deck, active_cells(reading)
+    deck = reading.deck
+    if not any(has_zero(layer["HK"]) for layer in deck.properties):
+        return
+    active = active_cells(reading)
     for k, layer in enumerate(deck.properties):
         none = dry = (layer["HK"].floats() == 0) & active[k]
         if deck.nlay > 1:
@@ -88,6 +95,11 @@ def take_dry_cells_out(reading: Reading) -> None:
                 f"the cell {cell} (layer row column): HK isn't above 0, and VKA isn't 0: MODFLOW-2005 may keep such a"
                 " cell for its vertical flow, and `heads` has none such",
             )
+
+
+def has_zero(array: Array) -> bool:
+    """Whether a number of an array is 0. It is asked of each deck, so no number is made of a word."""
+    return any(ZERO.fullmatch(word) for word in set(array.words))
 
 
 def take_out(reading: Reading, k: int, cells: np.ndarray, why: str) -> None:
