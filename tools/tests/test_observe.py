@@ -293,7 +293,8 @@ def test_a_time_outside_the_listing_leaves_the_other_points(pumped, tool, tmp_pa
 @pytest.mark.program
 def test_files_for_pest_name_each_observation_where_its_number_stands(pumped, tool, tmp_path):
     """The instructions, followed by hand, find the middle of each pair; names are of 20 letters, once each."""
-    points = "Well 7 (deep filter of 1970),1,2,1,3.5,2\nWell 7 (deep filter of 1970),1,3,1,3.25,\nno head,1,4,1,,\n"
+    name = "Well 7 (deep filter of 1970)"
+    points = f"{name},13,14,1,3.5,2\n{name},13,16,1,3.25,\nno head,1,4,1,,\n"
     status, rows, err = observed(tool, pumped, PUMPED.format("time", points), tmp_path, "--pest", tmp_path / "pest")
     assert status == 0 and "2 observations in observed.out" in err, err
     out = (tmp_path / "pest" / "observed.out").read_text().splitlines()
@@ -306,6 +307,7 @@ def test_files_for_pest_name_each_observation_where_its_number_stands(pumped, to
     assert list(found) == ["well_7__deep_filter_", "well_7__deep_filte_2"]
     middles = [(Fraction(r["lower"]) + Fraction(r["upper"])) / 2 for r in rows[:2]]
     assert all(abs(a - b) < Fraction(1, 10**10) for a, b in zip(found.values(), middles))
+    assert all(Fraction(r["upper"]) - Fraction(r["lower"]) > Fraction(1, 10**8) for r in rows[:2])
     control = (tmp_path / "pest" / "observed.pst").read_text()
     assert re.search(r"^well_7__deep_filter_ +3.5\d*e\+00 2 heads$", control, re.M)
     assert observed(tool, pumped, PUMPED.format("time", points), tmp_path, "--pest", tmp_path / "pest")[0] == 0  # anew

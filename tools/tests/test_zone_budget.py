@@ -59,16 +59,17 @@ def flows_of(model, time, zones, now, old):
     return out
 
 
-@pytest.mark.parametrize(
-    "name", ["three_aquifers", "drained_field", "river_valley", "tide", "pumping_plans", "pumping_test"]
-)
-def test_flows_of_any_heads_within_the_pairs_lie_within_the_budget(name, example, monkeypatch):
+MODELS = ["three_aquifers", "drained_field", "river_valley", "tide", "pumping_plans", "pumping_test"]
+
+
+@pytest.mark.parametrize("name, seed", [*((name, 1) for name in MODELS), *(("three_cells", n) for n in range(8))])
+def test_flows_of_any_heads_within_the_pairs_lie_within_the_budget(name, seed, example, monkeypatch):
     nam = example(name)
     listing, model = heads_tools.run(nam, quiet=True).listing, read_model(nam)
     listing = dataclasses.replace(listing, steps=listing.steps[:4])
     monkeypatch.chdir(nam.parent)
     deck = recheck.Model(nam.name)
-    wide, zones, heads = drawn(model, listing, len(name))
+    wide, zones, heads = drawn(model, listing, seed)
     unit = Fraction(1, 10**listing.flow_places)
     budgets = {(b.period, b.step, b.zone): b for b in zone_budgets(model, wide, zones)}
     checked = 0
@@ -85,7 +86,7 @@ def test_flows_of_any_heads_within_the_pairs_lie_within_the_budget(name, example
             checked += 1
         constant = recheck.Step(deck, time).constant
         old = [constant.get(cell, head) for cell, head in enumerate(now)]
-    assert checked > 10
+    assert checked > 10 or name == "three_cells"
 
 
 def test_one_zone_has_the_budget_of_the_whole_model(example, tool, tmp_path):
