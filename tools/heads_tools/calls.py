@@ -84,17 +84,16 @@ def look(
     given: PathLike | None = None,
     minus: Listed | None = None,
     zones: PathLike | None = None,
-    page: bool = False,
     wide: bool = False,
+    page: bool = False,
     every: bool = False,
     svg: bool = False,
     force: bool = False,
-    **more: Any,
 ) -> Answer:
-    """Draws a listing: maps, sections, hydrographs, budget, a page. `name`: the model, whose check is called first;
-    `page`: the interactive map alone; `more`: what else `heads-tools look` knows."""
+    """Draws a listing: maps, sections, hydrographs, budget, a page; with page=True the interactive map alone. `name`:
+    the model, whose check is called first."""
     options = dict(name=name, to=to, cell=cells_of(cell), given=given, minus=minus, zones=zones, wide=wide)
-    options |= dict(page=page, every=every, svg=svg, force=force) | more
+    options |= dict(page=page, every=every, svg=svg, force=force)
     return call("look", {"listing": listing, "folder": folder}, options)
 
 

@@ -5,9 +5,9 @@ import argparse
 from pathlib import Path
 from typing import IO
 
-from ..common.whole_files import whole_folder
 from ..deck.model import read_model
 from ..listing.zones import read_zones
+from ..common.whole_files import whole_folder
 from ..pages.look import look, look_at_map
 from ..pages.map_page import NAME
 from ..program.verdict import status_of
