@@ -16,7 +16,7 @@ MAY_FAIL = ("NOT CERTIFIED", "NOT INSIDE")
 # Lines of output that the page shows for a model of the reader's own.
 OTHERS = ("REFUSED", "CAREFUL")
 # The sections that one reader goes through in one shell, and those that need a model of another kind.
-ONE_SHELL, WATER, MODFLOW6 = range(1, 15), 15, 16
+ONE_SHELL, WATER, MODFLOW6, CALIBRATION = range(1, 15), 15, 16, 17
 MARK = "status of line"
 pytestmark = pytest.mark.program
 
@@ -144,3 +144,14 @@ def test_its_commands_for_modflow_6_do_what_it_says(tmp_path, tool):
     (folder / "tools").symlink_to(TOP / "tools")
     chosen = chosen_of(MODFLOW6)
     assert len(chosen) == 5 and not list(faults(chosen, run(chosen, folder)))
+
+
+def test_its_commands_for_calibration_do_what_it_says(tmp_path, tool):
+    valley = shutil.copytree(TOP / "examples" / "river_valley", tmp_path / "valley")
+    assert tool("run", valley / "m.nam")[0] == 0
+    (valley / "points.csv").write_text("name;x;y;layer;time;measured\nwest;150,5;450;1;1;10,2\n")
+    (valley / "dist").symlink_to(TOP / "dist")
+    (valley / "tools").symlink_to(TOP / "tools")
+    chosen = chosen_of(CALIBRATION)
+    assert len(chosen) == 3 and not list(faults(chosen, run(chosen, valley)))
+    assert {"seen.png", "observed.ins"} <= {path.name for path in valley.rglob("*")}
