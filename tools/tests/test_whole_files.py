@@ -152,6 +152,11 @@ def test_after_ctrl_c_nothing_is_left_half(words, valley):
         assert contents(valley) == before, (seconds, err)
 
 
+def keys_are_heard():
+    """Where the tests run in the background of a script, the shell has them ignore SIGINT."""
+    signal.signal(signal.SIGINT, signal.SIG_DFL)
+
+
 def test_ctrl_c_while_the_modules_are_loaded_says_nothing(tmp_path):
     """The first library that is loaded presses the keys."""
     for package in ("numpy", "scipy", "matplotlib"):
@@ -159,7 +164,9 @@ def test_ctrl_c_while_the_modules_are_loaded_says_nothing(tmp_path):
         code = "import os, signal, time\nos.kill(os.getpid(), signal.SIGINT)\ntime.sleep(5)\n"
         (tmp_path / package / "__init__.py").write_text(code)
     env = os.environ | {"PYTHON": sys.executable, "PYTHONPATH": str(tmp_path)}
-    ended = subprocess.run([TOOLS / "heads-tools", "version"], env=env, capture_output=True, text=True)
+    ended = subprocess.run(
+        [TOOLS / "heads-tools", "version"], env=env, capture_output=True, text=True, preexec_fn=keys_are_heard
+    )
     assert (ended.returncode, ended.stdout, ended.stderr) == (-signal.SIGINT, "", "")
 
 
