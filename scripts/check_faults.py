@@ -21,9 +21,21 @@ def is_unread(path, text):
     return path.startswith(("src/", "specs/")) and (not text.startswith("`") or UNREAD.search(text) is not None)
 
 
+def whole_lines(lines):
+    """The lines of a check, each with the indented lines after it, which go on with its text."""
+    whole = []
+    for line in lines:
+        if line.startswith("  ") and whole:
+            whole[-1] += " " + line.strip()
+        else:
+            whole.append(line)
+    return whole
+
+
 def errors_of(lines):
     """The errors of a check: of which file, the text, and the line. Where the edited text is not read, none counts."""
-    errors = [(found[1], found[2], line) for line in lines if (found := ERROR.match(line)) and "error" in line]
+    errors = [(found[1], found[2], line) for line in whole_lines(lines)
+              if (found := ERROR.match(line)) and "error" in line]
     unread = [line for line in lines if TYPES.search(line)]
     unread += [line for path, text, line in errors if is_unread(path, text)]
     if unread:
