@@ -223,6 +223,15 @@ def test_hob_files_are_read(tide, tool, tmp_path):
     )
 
 
+def test_a_python_without_setuptools_is_named(tmp_path):
+    lacking = tmp_path / "python"
+    lacking.write_text("#!/bin/sh\nexit 1\n")
+    lacking.chmod(0o755)
+    env = {"PATH": "/usr/bin:/bin", "PYTHON": str(lacking)}
+    done = subprocess.run([sys.executable, TOOLS / "wheel", tmp_path], capture_output=True, text=True, env=env)
+    assert done.returncode == 2 and f"{lacking} lacks setuptools or wheel" in done.stderr
+
+
 def test_the_wheels_carry_the_program(tmp_path):
     if (
         subprocess.run([sys.executable, "-c", "import setuptools, wheel"], capture_output=True).returncode
