@@ -17,6 +17,8 @@
 //! `@await HEAD WORDS` runs with a gate at which the watching seat waits for two turns of a worker, and prints on which side
 //! of HEAD the heads of its first view lie. `@lack N WORDS` runs with a side whose put of number N lacks memory.
 //!
+//! `@plan NAME WELLS` prints the file of wells of a model with those of a plan's file, or the refusal of that file.
+//!
 //! `@write NAME` writes the model of a name file, and prints its files, which are the deck's from now on. `@steps NAME
 //! DIGITS` prints the steps of a model one after the other, each from the heads of the one before it: the problem, entry
 //! for entry, and the heads that settle it.
@@ -47,7 +49,7 @@ fn answer<R: Threads + Wait + Sync>(
     bench.deck.end_file(page.alloc())?;
     let (question, rest) = first_word(line);
     let (first, more) = first_word(rest);
-    if question == "@write" || question == "@steps" {
+    if question == "@write" || question == "@steps" || question == "@plan" {
         return push_model_answer(page, &mut bench.deck.folder, question, first, more);
     }
     let is_plain = question == "@run" || question == "@meet";
@@ -85,6 +87,7 @@ fn step<R: Threads + Wait + Sync>(
         | "@shake_hands"
         | "@passes"
         | "@write"
+        | "@plan"
         | "@steps" => answer(rt, page, bench, line),
         _ => take_line(page, &mut bench.deck, line),
     }

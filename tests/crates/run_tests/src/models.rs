@@ -4,7 +4,8 @@ use deck_problems::Decks;
 use model_reader::read_named_model;
 use model_types::{FlowModel, Limits};
 use model_writer::write_deck;
-use outside::{Folder, Found, InputFault, MemFolder, good_name};
+use outside::{Folder, Found, InputFault, MemFolder, TextFault, good_name};
+use plan_wells::{read_plan, with_plan};
 use std::alloc::{AllocError, Global};
 use test_lines::{Answered, Deck, Page, count_of};
 
@@ -14,8 +15,8 @@ const WRITTEN: [&str; 11] = [
     "p.evt",
 ];
 
-fn push_files(page: &mut Page, folder: &mut MemFolder) {
-    for name in WRITTEN {
+fn push_files(page: &mut Page, folder: &mut MemFolder, names: &[&str]) {
+    for name in names {
         page.line(format_args!("@file {name}"));
         match folder.read_file(page.alloc(), name) {
             Ok(Found::Bytes(bytes)) => page.file(bytes.as_slice()),
@@ -44,7 +45,7 @@ fn push_written(page: &mut Page, folder: &mut MemFolder, model: &FlowModel) -> A
     let mut deck = files_of(page, text.as_slice())?;
     deck.end_file(page.alloc())?;
     *folder = deck.folder;
-    push_files(page, folder);
+    push_files(page, folder, &WRITTEN);
     Ok(())
 }
 
@@ -52,6 +53,46 @@ fn read_model(alloc: Global, folder: &mut MemFolder, name: &str) -> Result<FlowM
     match good_name(name.as_bytes()) {
         Some(name) => read_named_model(alloc, Limits::Plain, name, folder),
         None => Err(InputFault::Memory),
+    }
+}
+
+// The model with the wells of a plan's file.
+fn planned(
+    alloc: Global,
+    model: FlowModel,
+    file: &str,
+    bytes: &[u8],
+) -> Result<FlowModel, TextFault> {
+    let (plan, model) = read_plan(alloc, Limits::Plain, file, bytes, model)?;
+    with_plan(alloc, model, &plan, file)
+}
+
+// Puts the file of wells of the model with those of a plan, or why there is none.
+fn push_planned(page: &mut Page, folder: &mut MemFolder, model: FlowModel, file: &str) -> Answered {
+    let Ok(Found::Bytes(bytes)) = folder.read_file(page.alloc(), file) else {
+        drop(model);
+        return Ok(page.line("no file"));
+    };
+    match planned(page.alloc(), model, file, bytes.as_slice()) {
+        Ok(model) => {
+            let text = write_deck(page.alloc(), &model)?;
+            drop(model);
+            let mut deck = files_of(page, text.as_slice())?;
+            deck.end_file(page.alloc())?;
+            push_files(page, &mut deck.folder, &["p.wel"]);
+            Ok(())
+        }
+        Err(TextFault::Refused(refusal)) => {
+            page.line(format_args!(
+                "REFUSED {} {} {}",
+                refusal.code.word(),
+                refusal.file.as_str(),
+                refusal.line
+            ));
+            drop(refusal);
+            Ok(())
+        }
+        Err(TextFault::Memory) => Ok(page.line("MEMORY")),
     }
 }
 
@@ -70,6 +111,9 @@ pub fn push_model_answer(
         let answer = push_written(page, folder, &first);
         drop(first);
         return answer;
+    }
+    if question == "@plan" {
+        return push_planned(page, folder, first, digits);
     }
     let second = None;
     let decks = Decks { first, second };
