@@ -33,7 +33,8 @@ value_word {X = X} read file s after x line e = by_source (source s.0 s.1) e
     by_source (Err fault) e = cc
 
 -- a repeat has the same value
-pub value_again : {X : Type 0} (read : List ℕ → Result X NumFault) (file : List ℕ) (t after : Taking) (left : Left) (x : X) → next_value t left ≡ Ok ((t.word, t.number), (after, left)) → read t.word ≡ Ok x
+pub value_again : {X : Type 0} (read : List ℕ → Result X NumFault) (file : List ℕ) (t after : Taking) (left : Left) (x : X) → next_value t left ≡
+    Ok ((t.word, t.number), (after, left)) → read t.word ≡ Ok x
     → value_alone read file (t, left) ≡ Ok (x, (after, left))
 unfolding value_at value_alone
 value_again read file t after left x e h = rw (e, h) refl

@@ -61,7 +61,8 @@ module _ {X : Type 0} (read : List ℕ → Result X NumFault) (P : X → Type 0)
   unfolding control_at
   control_is ws = goes_on (word_at (refusal BadControl file line) ws) _ (λ word e. by_keyword (keyword word.0) word.1)
 
-module _ {X : Type 0} (kind : Kind X) (P : X → Type 0) (form : (w : List ℕ) → GivesOnly P (kind.reading w)) (scaled : (by : X) (w : List ℕ) → GivesOnly P (multiplied_value kind by w)) (files : FileSet) (file : List ℕ) where
+module _ {X : Type 0} (kind : Kind X) (P : X → Type 0) (form : (w : List ℕ) → GivesOnly P (kind.reading w)) (scaled : (by : X) (w : List ℕ) →
+    GivesOnly P (multiplied_value kind by w)) (files : FileSet) (file : List ℕ) where
   values_are : (rows cols : ℕ) (left : Left) (c : Control X) → Stands P c → GivesOnly (λ x. (length x.0 ≡ rows * cols) × All P x.0) (values_of kind files file rows cols left c)
   values_are rows cols left (constant value) stands = done (length-replicate (rows * cols) value, All-replicate P (rows * cols) value stands)
   values_are rows cols left (internal by) stands = rows_are (multiplied_value kind by) P (scaled by) file rows cols left

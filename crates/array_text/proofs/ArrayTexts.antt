@@ -17,7 +17,8 @@ row_reads : {X : Type 0} (read : List ℕ → Result X NumFault) (word : X → L
     → Reads (free_list read file cols) (row_line word xs ∷ []) xs
 row_reads read word file cols xs e some h = let few : 1 ≤ length xs = omega arith in rw e at (free_list_reads read word file xs few h)
 
-rows_read : {X : Type 0} (read : List ℕ → Result X NumFault) (word : X → List ℕ) (file : List ℕ) (rows cols : ℕ) (xs : List X) → 1 ≤ cols → length xs ≡ rows * cols → All (λ x. IsWrittenAs read word x) xs
+rows_read : {X : Type 0} (read : List ℕ → Result X NumFault) (word : X → List ℕ) (file : List ℕ) (rows cols : ℕ) (xs : List X) → 1 ≤ cols → length xs ≡
+    rows * cols → All (λ x. IsWrittenAs read word x) xs
     → Reads (appended_readings rows (free_list read file cols)) (row_lines word rows cols xs) xs
 unfolding appended_readings row_lines
 rows_read read word file zero cols xs some e h = let none : xs ≡ [] = nil_from_length xs (omega arith) in rw none takes_none
@@ -45,7 +46,8 @@ array_reads kind word by files file rows cols xs one some e h n others =
     rw (next_line file n control_record (row_lines word rows cols xs ++ others), line_words control_record control_is_line.words, control_reads kind.reading file n by one, rows_are) refl
 
 -- an array, and what is made of it whatever the line of its control record
-pub array_takes : {X Z : Type 0} {out : Left → Z} (f : (List X × ℕ) × Left → Result Z Refusal) (kind : Kind X) (word : X → List ℕ) (by : X) (files : FileSet) (file : List ℕ) (rows cols : ℕ) (xs : List X)
+pub array_takes : {X Z : Type 0} {out : Left → Z} (f : (List X × ℕ) × Left → Result Z Refusal) (kind : Kind X) (word : X → List ℕ) (by : X) (files : FileSet)
+    (file : List ℕ) (rows cols : ℕ) (xs : List X)
     → kind.reading (codes "1") ≡ Ok by → 1 ≤ cols → length xs ≡ rows * cols → All (λ x. IsWrittenAs (multiplied_value kind by) word x) xs → ((n : ℕ) (left : Left) → f ((xs, n), left) ≡ Ok (out left))
     → Takes (λ left. array_at kind files file rows cols left >>= f) (array_lines word rows cols xs) out
 array_takes f kind word by files file rows cols xs one some e h ends = record {

@@ -47,7 +47,8 @@ abbrev pub last_word : {X : Type 0} → (X → List ℕ) → List ℕ → List X
 last_word word last [] = last
 last_word word last (x ∷ xs) = last_word word (word x) xs
 
-pub values_read : {X : Type 0} (read : List ℕ → Result X NumFault) (word : X → List ℕ) (file : List ℕ) (n : ℕ) (last : List ℕ) (xs : List X) (more : Line) (left : Left) → All (λ x. IsWrittenAs read word x) xs
+pub values_read : {X : Type 0} (read : List ℕ → Result X NumFault) (word : X → List ℕ) (file : List ℕ) (n : ℕ) (last : List ℕ) (xs : List X) (more : Line)
+    (left : Left) → All (λ x. IsWrittenAs read word x) xs
     → repeated_reading (length xs) (value_alone read file) (on_line n last (map word xs ++ more), left) ≡ Ok (xs, (on_line n (last_word word last xs) more, left))
 unfolding repeated_reading
 values_read read word file n last [] more left h = refl
@@ -64,7 +65,8 @@ unfolding left_of_lines numbered_lines number_after
 line_follows n line others = goes_on 0 [] (left_of_lines n (line ∷ others)) (left_of_lines (next_number n) others) (record { number = n; bytes = line_text line }) refl refl
 
 -- a list begins on the next line
-pub line_begins : (n : ℕ) (line : Line) (others : List Line) → All (λ x. IsWord x) line → next_value beginning (left_of_lines n (line ∷ others)) ≡ next_value (on_line n [] line) (left_of_lines (next_number n) others)
+pub line_begins : (n : ℕ) (line : Line) (others : List Line) → All (λ x. IsWord x) line → next_value beginning (left_of_lines n (line ∷ others)) ≡
+    next_value (on_line n [] line) (left_of_lines (next_number n) others)
 unfolding next_value
 line_begins n line others h = rw (line_follows n line others, line_words line h) refl
 
@@ -91,8 +93,10 @@ row_is_line read word xs some h = record { some = as_long; words = row_is_words 
     as_long : 1 ≤ length (row_line word xs)
     as_long = omega (arith, row_length word xs)
 
-values_at_start : {X : Type 0} (read : List ℕ → Result X NumFault) (word : X → List ℕ) (file : List ℕ) (n : ℕ) (xs : List X) (others : List Line) → 1 ≤ length xs → All (λ x. IsWrittenAs read word x) xs
-    → repeated_reading (length xs) (value_alone read file) (beginning, left_of_lines n (row_line word xs ∷ others)) ≡ Ok (xs, (on_line n (last_word word [] xs) [], left_of_lines (next_number n) others))
+values_at_start : {X : Type 0} (read : List ℕ → Result X NumFault) (word : X → List ℕ) (file : List ℕ) (n : ℕ) (xs : List X) (others : List Line) →
+    1 ≤ length xs → All (λ x. IsWrittenAs read word x) xs
+    → repeated_reading (length xs) (value_alone read file) (beginning, left_of_lines n (row_line word xs ∷ others)) ≡
+    Ok (xs, (on_line n (last_word word [] xs) [], left_of_lines (next_number n) others))
 unfolding row_line
 values_at_start read word file n [] others some h = absurd (omega arith)
 values_at_start read word file n (x ∷ xs) others some h =

@@ -76,7 +76,8 @@ pub lines_read : LinesReadAsWritten
 lines_read = record { words = λ line h. line_words line h.words; texts = text_left }
 
 -- the next line of a text is read
-pub next_line : (file : List ℕ) (n : ℕ) (line : Line) (others : List Line) → line_at file (left_of_lines n (line ∷ others)) ≡ Ok (record { number = n; bytes = line_text line }, left_of_lines (next_number n) others)
+pub next_line : (file : List ℕ) (n : ℕ) (line : Line) (others : List Line) → line_at file (left_of_lines n (line ∷ others)) ≡
+    Ok (record { number = n; bytes = line_text line }, left_of_lines (next_number n) others)
 unfolding line_at left_of_lines numbered_lines number_after
 next_line file n line others = refl
 

@@ -81,10 +81,15 @@ module _ (p : List Entries) (ok : IsProblem p) (q : ℕ) (R S : ℕ → ℕ → 
     whole_path c s path = let (t, sums, cut) = sums_whole path.level c s path.sums in (t, record { level = path.level; is_level = level_whole c path.level path.is_level; sums = sums }, cut)
 
 -- and so for the anchors of a side, whose drops stand in a list
-pub whole_anchor_path : (side : Side) (p : List Entries) → IsProblem p → (q : ℕ) (own : List (Option ℕ)) → AreAnchorDrops side p (capped_flow q) own → (c s : ℕ) → IsPath p (capped_flow q) (ListRoot own) c s → (t : ℕ) × IsPath p q (AnchorRoot side p q) c t × (min s path_limit ≡ min t path_limit)
+pub whole_anchor_path : (side : Side) (p : List Entries) → IsProblem p → (q : ℕ) (own : List (Option ℕ)) → AreAnchorDrops side p (capped_flow q) own →
+    (c s : ℕ) → IsPath p (capped_flow q) (ListRoot own) c s → (t : ℕ) × IsPath p q (AnchorRoot side p q) c t × (min s path_limit ≡ min t path_limit)
 whole_anchor_path side p ok q own drops = whole_path p ok q (ListRoot own) (AnchorRoot side p q)
     (λ c d e.
     let h : c < length p = rw drops.whole at (marked_within own c d e) in
-    let (some, is) = drop_is (capped_flow q) (anchor_on side (entries_at p c)) d (sym (drops.each c h) ∙ e) in
-    (ceil_over q (anchor_on side (entries_at p c)), (h, some, refl), ap (λ (n : ℕ). min n path_limit) is ∙ cut_drop q (anchor_on side (entries_at p c)) some (anchor_small (entries_at p c) (ok.cells c h) side)))
+    let (some, is) = drop_is (capped_flow q) (anchor_on side (entries_at p c)) d (sym (drops.each c h) ∙ e) in (
+      ceil_over q (anchor_on side (entries_at p c)),
+      (h, some, refl),
+      ap (λ (n : ℕ). min n path_limit) is ∙ cut_drop q (anchor_on side (entries_at p c)) some
+          (anchor_small (entries_at p c) (ok.cells c h) side),
+    ))
     (λ c d (h, some, is). (ceil_over (capped_flow q) (anchor_on side (entries_at p c)), drops.each c h ∙ drop_of (capped_flow q) (anchor_on side (entries_at p c)) some))

@@ -4,7 +4,8 @@ use Rattle.barrier_vector.proofs.Common.{entries_at, IsProblem, no_entries, Link
 
 -- a cell with an entry is a cell of the problem
 pub has_links : (p : List Entries) (c : ℕ) (x : Link) → Contains (entries_at p c).links x → c < length p
-has_links p c x has = elim (cases_lt c (length p)) [ inl h ↦ h | inr past ↦ let none = subst (λ (e : Entries). Contains e.links x) (get_or_past p c no_entries past) has in absurd (omega (arith, none.1)) ]
+has_links p c x has = elim (cases_lt c (length p))
+    [ inl h ↦ h | inr past ↦ let none = subst (λ (e : Entries). Contains e.links x) (get_or_past p c no_entries past) has in absurd (omega (arith, none.1)) ]
 
 module _ (p : List Entries) (ok : IsProblem p) where
   pub leads_within : (c : ℕ) (x : Link) → Contains (entries_at p c).links x → x.cell < length p
@@ -14,7 +15,8 @@ module _ (p : List Entries) (ok : IsProblem p) where
   conducts c x has = (All-contains LinkFits (entries_at p c).links x ((ok.cells c (has_links p c x has)).links) has).conducts
 
   pub back : (c : ℕ) (x : Link) → Contains (entries_at p c).links x → Contains (entries_at p x.cell).links (record { cell = c; lo = x.lo; hi = x.hi })
-  back c x has = All-contains (λ (z : Link). Contains (entries_at p z.cell).links (record { cell = c; lo = z.lo; hi = z.hi })) (entries_at p c).links x ((ok.links c (has_links p c x has)).mutual_ends) has
+  back c x has = All-contains (λ (z : Link). Contains (entries_at p z.cell).links (record { cell = c; lo = z.lo; hi = z.hi })) (entries_at p c).links x
+      ((ok.links c (has_links p c x has)).mutual_ends) has
 
   pub reaches_within : (j a b : ℕ) → a < length p → LeadsTo p j a b → b < length p
   reaches_within zero a b h e = subst (λ (z : ℕ). z < length p) e h

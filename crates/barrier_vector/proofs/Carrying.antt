@@ -16,7 +16,8 @@ use Rattle.barrier_vector.proofs.Components.{longest as longest_path, one_sum}
 
 module _ (p : List Entries) (ok : IsProblem p) where
   -- every cell leads to the least cell of its component
-  pub inner_paths_of : (labels own levels : List (Option ℕ)) (paths : List ℕ) → AreLabels p labels (length p) → AreSelfDrops labels (length labels) own → IsSearched p (capped_flow (lack p)) own levels paths → (c : ℕ) → c < length p → (s : ℕ) × IsInnerPath p c s × (slice_index paths c ≡ min s path_limit)
+  pub inner_paths_of : (labels own levels : List (Option ℕ)) (paths : List ℕ) → AreLabels p labels (length p) → AreSelfDrops labels (length labels) own →
+      IsSearched p (capped_flow (lack p)) own levels paths → (c : ℕ) → c < length p → (s : ℕ) × IsInnerPath p c s × (slice_index paths c ≡ min s path_limit)
   inner_paths_of labels own levels paths l drops found c h =
       elim (marked_or_not (mark_at levels c)) [
         | inl none ↦
@@ -82,17 +83,38 @@ module _ (p : List Entries) (ok : IsProblem p) (labels : List (Option ℕ)) (inn
       let le = top.longest j l r way r_path in
       (t, top, omega (arith, y.tops m, at_least, s_cut, same, is, r_cut, le))
 
-  pub floor_carried : (base : ℤ) → base ≡ base_on Low p → (c m : ℕ) (v : ℤ) → c < length p → IsUnanchored Low p c → mark_at labels c ≡ Some m → pos 0 <ℤ sum_at totals m → v ≡ cut_on Low (base -ℤ pos (slice_index inner c + longest_at totals m)) → IsBoundOrNone Low p c (Some v)
+  pub floor_carried : (base : ℤ) → base ≡ base_on Low p → (c m : ℕ) (v : ℤ) → c < length p → IsUnanchored Low p c → mark_at labels c ≡ Some m →
+      pos 0 <ℤ sum_at totals m → v ≡ cut_on Low (base -ℤ pos (slice_index inner c + longest_at totals m)) → IsBoundOrNone Low p c (Some v)
   floor_carried base base_is c m v h none e carries is =
       let (s, path, cut) = y.inner_paths c h in
-      let (t, top, top_cut) = longest_is c m h e in
-      (base_on Low p -ℤ pos (s + t), inr (none, record { inside = has_label labels m; component = component_of c m e; carries = subst (λ (z : ℤ). pos 0 <ℤ z) (y.component_sums m) carries }, s, path, t, top, refl), is ∙ ap (λ (z : ℤ). cut_on Low (z -ℤ pos (slice_index inner c + longest_at totals m))) base_is ∙ capped_sum (base_on Low p) (slice_index inner c) (longest_at totals m) s t (base_head Low p ok) cut top_cut)
+      let (t, top, top_cut) = longest_is c m h e in (
+        base_on Low p -ℤ pos (s + t),
+        inr (
+          none,
+          record { inside = has_label labels m; component = component_of c m e; carries = subst (λ (z : ℤ). pos 0 <ℤ z) (y.component_sums m) carries },
+          s,
+          path,
+          t,
+          top,
+          refl,
+        ),
+        is ∙ ap (λ (z : ℤ). cut_on Low (z -ℤ pos (slice_index inner c + longest_at totals m))) base_is ∙ capped_sum (base_on Low p)
+            (slice_index inner c) (longest_at totals m) s t (base_head Low p ok) cut top_cut,
+      )
 
   pub floor_none : (c m : ℕ) → c < length p → IsUnanchored Low p c → mark_at labels c ≡ Some m → sum_at totals m ≤ℤ pos 0 → IsBoundOrNone Low p c None
-  floor_none c m h none e empty = (none, λ carried. let same = one_sum p ok c carried.inside (has_label labels m) carried.component (component_of c m e) ∙ sym (y.component_sums m) in let k = carried.carries in omega (arith, ints, same, k, empty))
+  floor_none c m h none e empty = (
+    none,
+    λ carried.
+        let same = one_sum p ok c carried.inside (has_label labels m) carried.component (component_of c m e) ∙ sym (y.component_sums m) in
+        let k = carried.carries in omega (arith, ints, same, k, empty),
+  )
 
 -- the components, from what the code made
-pub components_made : (p : List Entries) → IsProblem p → (labels least levels : List (Option ℕ)) (inner : List ℕ) (totals : List Total) → AreLabels p labels (length p) → AreSelfDrops labels (length labels) least → IsSearched p (capped_flow (lack p)) least levels inner → length totals ≡ length p → ((m : ℕ) → sum_at totals m ≡ sum_inside (length p) (has_label labels m) (λ k. deep_low (entries_at p k))) → ((m : ℕ) → longest_at totals m ≡ greatest_inside (length p) (has_label labels m) (slice_index inner)) → AreComponents p labels inner totals
+pub components_made : (p : List Entries) → IsProblem p → (labels least levels : List (Option ℕ)) (inner : List ℕ) (totals : List Total) →
+    AreLabels p labels (length p) → AreSelfDrops labels (length labels) least → IsSearched p (capped_flow (lack p)) least levels inner → length totals ≡
+    length p → ((m : ℕ) → sum_at totals m ≡ sum_inside (length p) (has_label labels m) (λ k. deep_low (entries_at p k))) →
+    ((m : ℕ) → longest_at totals m ≡ greatest_inside (length p) (has_label labels m) (slice_index inner)) → AreComponents p labels inner totals
 components_made p ok labels least levels inner totals l drops found whole sums tops = record {
   labelling = l;
   inner_paths = inner_paths_of p ok labels least levels inner l drops found;

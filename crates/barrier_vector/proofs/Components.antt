@@ -25,7 +25,8 @@ module _ (p : List Entries) (ok : IsProblem p) where
   pub one_sum : (c : ℕ) (f g : ℕ → Bool) → IsComponent p c f → IsComponent p c g → sum_inside (length p) f deep ≡ sum_inside (length p) g deep
   one_sum c f g is other =
       sum-same (length p) (λ k. cond (f k) (deep k) (pos 0)) (λ k. cond (g k) (deep k) (pos 0))
-      (λ k h. ap (λ (b : Bool). cond b (deep k) (pos 0)) (same_tests (f k) (g k) (λ t. let (j, way) = is.reached k t in other.whole j k way) (λ t. let (j, way) = other.reached k t in is.whole j k way)))
+      (λ k h. ap (λ (b : Bool). cond b (deep k) (pos 0)) (same_tests (f k) (g k) (λ t. let (j, way) = is.reached k t in other.whole j k way) (λ t.
+      let (j, way) = other.reached k t in is.whole j k way)))
 
   pub carried_decided : (c : ℕ) → Decided (IsCarried p c)
   carried_decided c =

@@ -75,7 +75,15 @@ least_of P number (x ∷ xs) decide =
       | inl (y, l) ↦ elim (decide x (first_entry x xs)) [
         | inl here ↦ elim (cases_lt (number y) (number x)) [
           | inl less ↦ inl (y, record { has = later_entry x y xs l.has; is = l.is; least = of_all (λ z. P z → number y ≤ number z) x xs (λ h. omega (arith, less)) l.least })
-          | inr more ↦ inl (x, record { has = first_entry x xs; is = here; least = of_all (λ z. P z → number x ≤ number z) x xs (λ h. omega arith) (λ z has is. let le = l.least z has is in omega (arith, le, more)) })
+          | inr more ↦ inl (
+            x,
+            record {
+              has = first_entry x xs;
+              is = here;
+              least =
+                  of_all (λ z. P z → number x ≤ number z) x xs (λ h. omega arith) (λ z has is. let le = l.least z has is in omega (arith, le, more));
+            },
+          )
         ]
         | inr fails ↦ inl (y, record { has = later_entry x y xs l.has; is = l.is; least = of_all (λ z. P z → number y ≤ number z) x xs (λ h. absurd (fails h)) l.least })
       ]
@@ -116,7 +124,8 @@ module _ (p : List Entries) (q : ℕ) (Root : ℕ → ℕ → Type 0) (root_or_n
   sum : (k c : ℕ) → IsLevel p q Root c k → (s : ℕ) × SumsTo p q Root k c s
   sum zero c at = (at.leads.drop, subst (λ (z : ℕ). Root z at.leads.drop) (sym at.leads.reaches) at.leads.is_root)
   sum (suc k) c at =
-      elim (least_of (λ (x : Link). IsLevel p q Root x.cell k) (λ x. x.cell) (entries_at p c).links (λ x has. elim (leads_decided k x.cell) [ inl l ↦ inl (nearer k c at x has l) | inr fails ↦ inr (λ level. fails level.leads) ])) [
+      elim (least_of (λ (x : Link). IsLevel p q Root x.cell k) (λ x. x.cell) (entries_at p c).links (λ x has.
+      elim (leads_decided k x.cell) [ inl l ↦ inl (nearer k c at x has l) | inr fails ↦ inr (λ level. fails level.leads) ])) [
         | inl (x, is) ↦ let (rest, sums) = sum k x.cell is.is in (ceil_over q x.lo + rest, (x, record { has = is.has; level = is.is; least = is.least }, rest, sums, refl))
         | inr none ↦
             let (x, has, way) = at.leads.reaches in

@@ -33,8 +33,10 @@ module _ (p : List Entries) (ok : IsProblem p) (n q : ℕ) (Y : ℕ → ℤ) (to
     pub falls_to_root : (k c s e : ℕ) → c < length p → SumsTo p q Root k c s → (t -ℤ pos (e * n)) ≤ℤ Y c → (r : ℕ) × (d : ℕ) × (j : ℕ) × Root r d × LeadsTo p j c r × ((t -ℤ pos ((e + s) * n)) ≤ℤ Y r)
     falls_to_root zero c s e i root h = (c, s, 0, root, refl, omega (arith, ints, h))
     falls_to_root (suc k) c s e i (x, parent, rest, sums, is) h =
-        let next = falls_over (t -ℤ pos (e * n)) (under (e * n)) (ceil_over q x.lo) x.cell (leads_within p ok c x parent.has) (record { cell = c; lo = x.lo; hi = x.hi }) (back p ok c x parent.has) (ceil_enough q x.lo (conducts p ok c x parent.has)) h in
-        let (r, d, j, root, way, deep) = falls_to_root k x.cell rest (e + ceil_over q x.lo) (leads_within p ok c x parent.has) sums (joined_low t (Y x.cell) n (ceil_over q x.lo) e (e + ceil_over q x.lo) (omega arith) next) in
+        let next = falls_over (t -ℤ pos (e * n)) (under (e * n)) (ceil_over q x.lo) x.cell (leads_within p ok c x parent.has)
+        (record { cell = c; lo = x.lo; hi = x.hi }) (back p ok c x parent.has) (ceil_enough q x.lo (conducts p ok c x parent.has)) h in
+        let (r, d, j, root, way, deep) = falls_to_root k x.cell rest (e + ceil_over q x.lo) (leads_within p ok c x parent.has) sums
+        (joined_low t (Y x.cell) n (ceil_over q x.lo) e (e + ceil_over q x.lo) (omega arith) next) in
         (r, d, suc j, root, (x, parent.has, way), omega (arith, ints, deep, ap (λ (k : ℕ). k * n) is))
 
 module _ (m n : ℕ) (some_m : 0 < m) (some_n : 0 < n) (p : List Entries) (w : List WholeCell) (Y : ℕ → ℤ)
@@ -46,11 +48,15 @@ module _ (m n : ℕ) (some_m : 0 < m) (some_n : 0 < n) (p : List Entries) (w : L
       solved : (c : ℕ) → c < length w → total (whole_link (λ k. inward side (Y k)) (inward side (Y c))) (whole_at w c).links +ℤ inward side (rest_of (whole_at w c) (Y c)) ≡ pos 0
       solved c i = inward_balance side (whole_at w c) (Y c) Y (solves c i)
 
-      gives_here : (c : ℕ) → c < length p → inward side (Y c) <ℤ inward side (b *ℤ pos n) → (pos (anchor_on side (entries_at p c) * m) *ℤ (inward side (b *ℤ pos n) -ℤ inward side (Y c))) ≤ℤ (inward side (rest_of (whole_at w c) (Y c)) +ℤ pos (need_on side (entries_at p c)) *ℤ pos (m * n))
+      gives_here : (c : ℕ) → c < length p → inward side (Y c) <ℤ inward side (b *ℤ pos n) →
+          (pos (anchor_on side (entries_at p c) * m) *ℤ (inward side (b *ℤ pos n) -ℤ inward side (Y c))) ≤ℤ
+          (inward side (rest_of (whole_at w c) (Y c)) +ℤ pos (need_on side (entries_at p c)) *ℤ pos (m * n))
       gives_here c i = gives m n (length p) b (entries_at p c) (whole_at w c) (cell_within m n p w within c i) (Y c) side (λ v mark. base v (c, i, mark))
 
-      over : (t : ℤ) → t ≤ℤ inward side (b *ℤ pos n) → (drop c : ℕ) → c < length p → (x : Link) → Contains (entries_at p c).links x → need side p ≤ drop * x.lo → t ≤ℤ inward side (Y x.cell) → (t -ℤ pos (drop * n)) ≤ℤ inward side (Y c)
-      over = falls_over m n some_m p w within both (λ k. inward side (Y k)) (λ k. inward side (rest_of (whole_at w k) (Y k))) (need_on side) (anchor_on side) (inward side (b *ℤ pos n)) solved gives_here
+      over : (t : ℤ) → t ≤ℤ inward side (b *ℤ pos n) → (drop c : ℕ) → c < length p → (x : Link) → Contains (entries_at p c).links x →
+          need side p ≤ drop * x.lo → t ≤ℤ inward side (Y x.cell) → (t -ℤ pos (drop * n)) ≤ℤ inward side (Y c)
+      over = falls_over m n some_m p w within both (λ k. inward side (Y k)) (λ k. inward side (rest_of (whole_at w k) (Y k))) (need_on side) (anchor_on side)
+          (inward side (b *ℤ pos n)) solved gives_here
 
       -- a cell with a path to an anchor
       anchored_bound : (c s : ℕ) → c < length p → IsAnchorPath side p c s → (inward side (b *ℤ pos n) -ℤ pos (s * n)) ≤ℤ inward side (Y c)
@@ -61,7 +67,8 @@ module _ (m n : ℕ) (some_m : 0 < m) (some_n : 0 < n) (p : List Entries) (w : L
           d r r_in some (rw is (ceil_enough (need side p) (anchor_on side (entries_at p r)) some)))
 
     -- a cell of a carried component: up to a cell at the base, down to the least cell, and on to the cell
-    carried_floor : (b : ℤ) (base : (v : ℤ) → IsMarkBelow Low p (length p) v → b ≤ℤ v) → (c s t : ℕ) → c < length p → IsCarried p c → IsInnerPath p c s → IsLongest p c t → ((b *ℤ pos n) -ℤ pos ((s + t) * n)) ≤ℤ Y c
+    carried_floor : (b : ℤ) (base : (v : ℤ) → IsMarkBelow Low p (length p) v → b ≤ℤ v) → (c s t : ℕ) → c < length p → IsCarried p c → IsInnerPath p c s →
+        IsLongest p c t → ((b *ℤ pos n) -ℤ pos ((s + t) * n)) ≤ℤ Y c
     carried_floor b base c s t i carried path longest =
         let leads = path.is_level.leads in
         let root : LeastRoot p leads.root 0 = (leads.is_root.0, leads.is_root.1, refl) in
@@ -69,7 +76,8 @@ module _ (m n : ℕ) (some_m : 0 < m) (some_n : 0 < n) (p : List Entries) (w : L
         let (j, to_k) = carried.component.reached k inside in
         let (e, path_k) = inner_path p ok k k_in in
         let short = longest.longest j k e to_k path_k in
-        let (r, d, l, is_root, way, deep) = falls_to_root p ok n (need Low p) Y (b *ℤ pos n) (over Low b base) (LeastRoot p) (b *ℤ pos n) (same_z _) path_k.level k e 0 k_in path_k.sums (none (b *ℤ pos n) (Y k) high) in
+        let (r, d, l, is_root, way, deep) = falls_to_root p ok n (need Low p) Y (b *ℤ pos n) (over Low b base) (LeastRoot p) (b *ℤ pos n)
+        (same_z _) path_k.level k e 0 k_in path_k.sums (none (b *ℤ pos n) (Y k) high) in
         let r_is = same_root p ok leads.root root c path.level (j + l) r d leads.reaches (join_ways p ok j l c k r to_k way) is_root in
         let low = deeper (b *ℤ pos n) e t (Y r) short deep in
         omega (
@@ -93,7 +101,10 @@ module _ (m n : ℕ) (some_m : 0 < m) (some_n : 0 < n) (p : List Entries) (w : L
     -- the bound of a cell on a side
     anchored_encloses : (side : Side) (c : ℕ) (f : ℤ) → c < length p → IsAnchoredBound side p c f → Bounds side (f *ℤ pos n) (Y c)
     anchored_encloses Low c f i (s, path, is) = let h = anchored_bound Low (base_on Low p) (base_outside Low p) c s i path in rw (is, sub_mul (base_on Low p) (pos s) (pos n)) (omega (arith, ints, h))
-    anchored_encloses High c f i (s, path, is) = let h = anchored_bound High (base_on High p) (base_outside High p) c s i path in rw (is, add_mul (base_on High p) (pos s) (pos n)) (omega (arith, ints, h))
+    anchored_encloses High c f i (s, path, is) = let h = anchored_bound High (base_on High p) (base_outside High p) c s i path in rw (
+      is,
+      add_mul (base_on High p) (pos s) (pos n),
+    ) (omega (arith, ints, h))
 
     pub bound_encloses : (side : Side) (c : ℕ) (f : ℤ) → c < length p → IsBoundOn side p c f → Bounds side (f *ℤ pos n) (Y c)
     bound_encloses Low c f i (inl anchored) = anchored_encloses Low c f i anchored
@@ -102,7 +113,8 @@ module _ (m n : ℕ) (some_m : 0 < m) (some_n : 0 < n) (p : List Entries) (w : L
     bound_encloses High c f i anchored = anchored_encloses High c f i anchored
 
 -- No solution lies outside a bound.
-pub bounds_enclose : (side : Side) (p : List Entries) (s : ℕ) (e : List ExactCell) (d : ℕ) (X : ℕ → ℤ) → IsSolution p s e d X → (c : ℕ) (f : ℤ) → c < length p → IsBoundOn side p c f → Bounds side (f *ℤ pos d) (X c *ℤ pos (10 ^ 9))
+pub bounds_enclose : (side : Side) (p : List Entries) (s : ℕ) (e : List ExactCell) (d : ℕ) (X : ℕ → ℤ) → IsSolution p s e d X → (c : ℕ) (f : ℤ) → c < length p →
+    IsBoundOn side p c f → Bounds side (f *ℤ pos d) (X c *ℤ pos (10 ^ 9))
 bounds_enclose side p s e d X given c f i bound =
     let (n, w, whole) = whole_solution p s e d X given.problem given.encloses given.some given.solves in
     back side n whole.some (bound_encloses n (n * d) whole.some whole.some_heads p w (whole_head n X) whole.within whole.both whole.solves given.problem side c f i bound)
@@ -126,7 +138,9 @@ pub floors_hold : FloorsHold
 floors_hold p floors c i = let (f, floor) = floors c i in held_cell p c f floor
 
 -- What a barrier's floors and ceilings give to its caller.
-pub encloses_all : (p : List Entries) (low high : ℕ → ℤ) → IsProblem p → ((c : ℕ) → c < length p → IsCellFloor p c (low c)) → ((c : ℕ) → c < length p → IsCellCeiling p c (high c)) → (s : ℕ) (e : List ExactCell) (d : ℕ) (X : ℕ → ℤ) → EnclosesStep s p e → 0 < d → SolvesStep e d X → LiesBetween (length p) d X low high
+pub encloses_all : (p : List Entries) (low high : ℕ → ℤ) → IsProblem p → ((c : ℕ) → c < length p → IsCellFloor p c (low c)) →
+    ((c : ℕ) → c < length p → IsCellCeiling p c (high c)) → (s : ℕ) (e : List ExactCell) (d : ℕ) (X : ℕ → ℤ) → EnclosesStep s p e → 0 < d → SolvesStep e d X →
+    LiesBetween (length p) d X low high
 encloses_all p low high ok floors ceilings s e d X encloses some solves =
     let given : IsSolution p s e d X = record { problem = ok; encloses = encloses; some = some; solves = solves } in
     record { low = λ c i. floors_enclose p s e d X given c (low c) i (floors c i); high = λ c i. ceilings_enclose p s e d X given c (high c) i (ceilings c i) }

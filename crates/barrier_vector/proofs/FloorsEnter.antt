@@ -40,13 +40,15 @@ module _ (w : List WholeCell) (both : IsMutual w) (Y rest need : ℕ → ℤ) (t
     pub enters : (c : ℕ) → c < length w → Y c <ℤ t → (over_cut c +ℤ (rest c +ℤ need c)) ≤ℤ sum_inside (length w) (lies_below Y t) need
     enters c i h =
         let n = length w in
-        let parts = sum-same n _ _ (λ k j. split (over_cut k) (rest k) (need k) (lies_below Y t k)) ∙ sum-add n (λ k. cond (lies_below Y t k) (over_cut k +ℤ rest k) (pos 0)) (λ k. cond (lies_below Y t k) (need k) (pos 0)) in
+        let parts = sum-same n _ _ (λ k j. split (over_cut k) (rest k) (need k) (lies_below Y t k)) ∙ sum-add n (λ k.
+        cond (lies_below Y t k) (over_cut k +ℤ rest k) (pos 0)) (λ k. cond (lies_below Y t k) (need k) (pos 0)) in
         let none = sum_inside-zero n (lies_below Y t) (λ k. total (whole_link Y (Y k)) (whole_at w k).links +ℤ rest k) solved in
         let one = term-le-sum n (λ k. cond (lies_below Y t k) (over_cut k +ℤ (rest k +ℤ need k)) (pos 0)) (λ k j. some k j (lies_below Y t k) refl) c i in
         omega (arith, ints, cut_links w (lies_below Y t) Y rest both, (rw (test_true (Y c) t h) at one))
 
 -- Sums over the cells of a problem, whose terms are each limited, and terms of sums.
-pub limited_sum : (g : Entries → ℕ) (p : List Entries) (F : ℕ → ℤ) (k : ℕ) → ((c : ℕ) → c < length p → F c ≤ℤ (pos (g (entries_at p c)) *ℤ pos k)) → (n : ℕ) → n ≤ length p → sum_below n F ≤ℤ (pos (sum_by g (take n p)) *ℤ pos k)
+pub limited_sum : (g : Entries → ℕ) (p : List Entries) (F : ℕ → ℤ) (k : ℕ) → ((c : ℕ) → c < length p → F c ≤ℤ (pos (g (entries_at p c)) *ℤ pos k)) → (n : ℕ) →
+    n ≤ length p → sum_below n F ≤ℤ (pos (sum_by g (take n p)) *ℤ pos k)
 limited_sum g p F k each zero h = mul_nonneg (pos (sum_by g (take zero p))) (pos k) (omega (arith, ints)) (omega (arith, ints))
 limited_sum g p F k each (suc n) h =
     let i : n < length p = omega arith in

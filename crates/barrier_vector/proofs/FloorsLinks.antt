@@ -73,12 +73,14 @@ module _ (m n : ℕ) (some_m : 0 < m) (p : List Entries) (w : List WholeCell) (w
         by_lt_z (Y c) t
         (λ h.
         let j : c < length w = omega (arith, same_length, i) in
-        let (z, has_z, exact) = AllZip-has (LinkWithin m n (length p)) (entries_at p c).links (whole_at w c).links x no_whole_link (AllZip-at (CellWithin m n (length p)) p w c no_entries no_whole within i).links has in
+        let (z, has_z, exact) = AllZip-has (LinkWithin m n (length p)) (entries_at p c).links (whole_at w c).links x no_whole_link
+        (AllZip-at (CellWithin m n (length p)) p w c no_entries no_whole within i).links has in
         let one = term-le-total (λ y. Unit {0}) (cut_link (lies_below Y t) Y (Y c)) (whole_at w c).links (λ y u. cut_enters Y t (Y c) h y) (λ k d l. tt) z has_z in
         let limit = at_most _ _ _ _ _ one (enters w both Y rest needed t solved (gets t low) c j h) (gets t low c j h) (needs (lies_below Y t)) in
         let above : t ≤ℤ Y z.cell = subst (λ (k : ℕ). t ≤ℤ Y k) exact.same far in
         let carry = rw (test_false (Y z.cell) t above) at limit in
-        fallen t (drop * n) (Y c) (step_bound x.lo m n z.c drop (sum_by need p) (t -ℤ Y c) (Y z.cell -ℤ Y c) exact.conducts some_m exact.c.lower (difference_not_negative _ _ h) (omega (arith, ints, above)) carry enough))
+        fallen t (drop * n) (Y c) (step_bound x.lo m n z.c drop (sum_by need p) (t -ℤ Y c) (Y z.cell -ℤ Y c) exact.conducts some_m exact.c.lower
+        (difference_not_negative _ _ h) (omega (arith, ints, above)) carry enough))
         (λ h. omega (arith, ints, h))
       where
         at_most : (a s r f q : ℤ) → a ≤ℤ s → (s +ℤ r) ≤ℤ f → pos 0 ≤ℤ r → f ≤ℤ q → a ≤ℤ q
@@ -91,8 +93,10 @@ module _ (m n : ℕ) (some_m : 0 < m) (p : List Entries) (w : List WholeCell) (w
         (λ h.
         let j : c < length w = omega (arith, same_length, i) in
         let same : base ≤ℤ base = omega (arith, ints) in
-        let carry = at_most _ _ _ _ _ (gives c i h) (enters w both Y rest needed base solved (gets base same) c j h) (links_give w both Y rest needed base solved (gets base same) c h) (needs (lies_below Y base)) in
-        fallen base (drop * n) (Y c) (step_bound (anchor (entries_at p c)) m n (anchor (entries_at p c) * m) drop (sum_by need p) (base -ℤ Y c) (base -ℤ Y c) some some_m (omega arith) (difference_not_negative _ _ h) (omega (arith, ints)) carry enough))
+        let carry = at_most _ _ _ _ _ (gives c i h) (enters w both Y rest needed base solved (gets base same) c j h)
+        (links_give w both Y rest needed base solved (gets base same) c h) (needs (lies_below Y base)) in
+        fallen base (drop * n) (Y c) (step_bound (anchor (entries_at p c)) m n (anchor (entries_at p c) * m) drop (sum_by need p) (base -ℤ Y c)
+        (base -ℤ Y c) some some_m (omega arith) (difference_not_negative _ _ h) (omega (arith, ints)) carry enough))
         (λ h. omega (arith, ints, h))
       where
         at_most : (a s r f q : ℤ) → a ≤ℤ r → (s +ℤ r) ≤ℤ f → pos 0 ≤ℤ s → f ≤ℤ q → a ≤ℤ q
@@ -115,7 +119,8 @@ all_or_some (suc n) inside Y t =
           | inr past ↦ let at : k ≡ n = omega arith in subst (λ (z : ℕ). Y z ≤ℤ t) (sym at) h
         ]
 
-    last : ((k : ℕ) → k < n → inside k ≡ true → Y k ≤ℤ t) → t ≤ℤ Y n → (b : Bool) → inside n ≡ b → ((k : ℕ) → k < suc n → inside k ≡ true → Y k ≤ℤ t) ⊎ ((k : ℕ) × (k < suc n) × (inside k ≡ true) × (t ≤ℤ Y k))
+    last : ((k : ℕ) → k < n → inside k ≡ true → Y k ≤ℤ t) → t ≤ℤ Y n → (b : Bool) → inside n ≡ b → ((k : ℕ) → k < suc n → inside k ≡ true → Y k ≤ℤ t) ⊎
+        ((k : ℕ) × (k < suc n) × (inside k ≡ true) × (t ≤ℤ Y k))
     last all h true is = inr (n, omega arith, is, h)
     last all h false is = inl (λ k i e. elim (cases_lt k n) [ inl less ↦ all k less e | inr past ↦ let at : k ≡ n = omega arith in absurd (false≢true (sym is ∙ ap inside (sym at) ∙ e)) ])
 
@@ -128,5 +133,6 @@ module _ (m n : ℕ) (some_m : 0 < m) (some_n : 0 < n) (p : List Entries) (w : L
     somewhere_above c carried =
         elim (all_or_some (length p) carried.inside Y (b *ℤ pos n)) [
           | inr found ↦ found
-          | inl all ↦ absurd (carried_not_dry m n some_m some_n p w Y within both solves c carried (λ k. b *ℤ pos n) (λ k j e. (all k j e, cell_dry m n (length p) b (entries_at p k) (whole_at w k) (cell_within m n p w within k j) (λ v mark. base v (k, j, mark)))))
+          | inl all ↦ absurd (carried_not_dry m n some_m some_n p w Y within both solves c carried (λ k. b *ℤ pos n) (λ k j e.
+              (all k j e, cell_dry m n (length p) b (entries_at p k) (whole_at w k) (cell_within m n p w within k j) (λ v mark. base v (k, j, mark)))))
         ]

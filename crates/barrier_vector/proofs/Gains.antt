@@ -18,7 +18,8 @@ inward High v = neg_ℤ v
 abbrev pub rest_of : WholeCell → ℤ → ℤ
 rest_of w v = total (λ q. q) w.flows +ℤ total (whole_fixed v) w.fixed +ℤ total (whole_river v) w.rivers +ℤ total (whole_drain v) w.drains +ℤ total (whole_evap v) w.evaps
 
-pub inward_balance : (side : Side) (w : WholeCell) (v : ℤ) (Y : ℕ → ℤ) → whole_balance w v Y ≡ pos 0 → total (whole_link (λ k. inward side (Y k)) (inward side v)) w.links +ℤ inward side (rest_of w v) ≡ pos 0
+pub inward_balance : (side : Side) (w : WholeCell) (v : ℤ) (Y : ℕ → ℤ) → whole_balance w v Y ≡ pos 0 →
+    total (whole_link (λ k. inward side (Y k)) (inward side v)) w.links +ℤ inward side (rest_of w v) ≡ pos 0
 inward_balance Low w v Y e = omega (arith, ints, e)
 inward_balance High w v Y e = omega (arith, ints, total-same (λ x. Unit {0}) _ _ w.links (λ x u. turned x) (λ k d i. tt) ∙ total_neg (whole_link Y v) w.links)
   where
@@ -44,7 +45,8 @@ module _ (m : ℕ) (d : ℤ) (some : pos 0 ≤ℤ d) where
       nonneg a u h = le_trans_z _ _ _ (mul_nonneg (pos (a * m)) d (omega (arith, ints)) some) h
 
   -- entries that each gain give together what the greatest does
-  all_gain : {X W : Type 0} (R : X → W → Type 0) (P : X → Type 0) (lo : X → ℕ) (g : W → ℤ) → ((x : X) (z : W) → R x z → P x → (pos (lo x * m) *ℤ d) ≤ℤ g z) → (xs : List X) (zs : List W) → AllZip R xs zs → All P xs → (pos (greatest lo xs * m) *ℤ d) ≤ℤ total g zs
+  all_gain : {X W : Type 0} (R : X → W → Type 0) (P : X → Type 0) (lo : X → ℕ) (g : W → ℤ) → ((x : X) (z : W) → R x z → P x → (pos (lo x * m) *ℤ d) ≤ℤ g z) →
+      (xs : List X) (zs : List W) → AllZip R xs zs → All P xs → (pos (greatest lo xs * m) *ℤ d) ≤ℤ total g zs
   all_gain R P lo g each [] [] h a = nothing (0 * m) (omega arith)
     where
       nothing : (k : ℕ) → k ≡ 0 → (pos k *ℤ d) ≤ℤ pos 0
@@ -85,13 +87,20 @@ module _ (m n cells : ℕ) (b : ℤ) (p : Entries) (w : WholeCell) (e : CellWith
       let d = y -ℤ b *ℤ pos n in
       let far : pos 0 ≤ℤ d = omega (arith, ints, high) in
       let fixed = all_gain m d far (FixedWithin m n) (λ x. 0 < x.hi → x.head_hi ≤ℤ b) (λ x. x.lo) (λ z. neg_ℤ (whole_fixed y z))
-      (λ x z r h. out z.c _ (gain x.lo m z.c _ _ r.c.lower far (near z.c z.top (neg_ℤ (z.top -ℤ y)) (inside_base High x.hi z.c x.head_hi z.top h r.c.upper r.top.upper) (λ k. omega (arith, ints, k))))) p.fixed w.fixed e.fixed
+      (λ x z r h. out z.c _ (gain x.lo m z.c _ _ r.c.lower far
+      (near z.c z.top (neg_ℤ (z.top -ℤ y)) (inside_base High x.hi z.c x.head_hi z.top h r.c.upper r.top.upper) (λ k. omega (arith, ints, k))))) p.fixed
+      w.fixed e.fixed
       (λ k d i some. marks _ (inl (get_or p.fixed k d, Contains-get_or p.fixed k d i, some_at _ _ some))) in
       let rivers = all_gain m d far (RiverWithin m n) (λ x. 0 < x.hi → int_max x.stage_hi x.bottom_hi ≤ℤ b) (λ x. x.lo) (λ z. neg_ℤ (whole_river y z))
-      (λ x z r h. out z.c _ (gain x.lo m z.c _ _ r.c.lower far (near z.c z.top (neg_ℤ (z.top -ℤ int_max y z.foot)) (inside_base High x.hi z.c x.stage_hi z.top (λ some. (omega (arith, ints, clamps, h some))) r.c.upper r.top.upper) (λ k. omega (arith, ints, clamps, k))))) p.rivers w.rivers e.rivers
+      (λ x z r h. out z.c _ (gain x.lo m z.c _ _ r.c.lower far
+      (near z.c z.top (neg_ℤ (z.top -ℤ int_max y z.foot))
+      (inside_base High x.hi z.c x.stage_hi z.top (λ some. (omega (arith, ints, clamps, h some))) r.c.upper r.top.upper) (λ k.
+      omega (arith, ints, clamps, k))))) p.rivers w.rivers e.rivers
       (λ k d i some. marks _ (inr (inl (get_or p.rivers k d, Contains-get_or p.rivers k d i, some_at _ _ some)))) in
       let drains = all_gain m d far (DrainWithin m n) (λ x. 0 < x.hi → x.elev_hi ≤ℤ b) (λ x. x.lo) (λ z. neg_ℤ (whole_drain y z))
-      (λ x z r h. twice (gain x.lo m z.c _ _ r.c.lower far (near z.c z.foot (int_max (y -ℤ z.foot) (pos 0)) (inside_base High x.hi z.c x.elev_hi z.foot h r.c.upper r.foot.upper) (λ k. omega (arith, ints, clamps, k))))) p.drains w.drains e.drains
+      (λ x z r h. twice (gain x.lo m z.c _ _ r.c.lower far
+      (near z.c z.foot (int_max (y -ℤ z.foot) (pos 0)) (inside_base High x.hi z.c x.elev_hi z.foot h r.c.upper r.foot.upper) (λ k.
+      omega (arith, ints, clamps, k))))) p.drains w.drains e.drains
       (λ k d i some. marks _ (inr (inr (get_or p.drains k d, Contains-get_or p.drains k d i, some_at _ _ some)))) in
       let evaps = total_nonneg (λ z. Unit {0}) (λ z. neg_ℤ (whole_evap y z)) w.evaps (λ z u. takes z) (λ k d i. tt) in
       let flows = exceeding (high_flow p) _ (m * n) (total_bounds High (FlowWithin m n) (λ x. x.hi) (pos (m * n)) (λ z. z) (λ x z r. r.flow.upper) p.flows w.flows e.flows) in
@@ -111,6 +120,8 @@ module _ (m n cells : ℕ) (b : ℤ) (p : Entries) (w : WholeCell) (e : CellWith
       takes : (x : WholeEntry) → pos 0 ≤ℤ neg_ℤ (whole_evap y x)
       takes x = twice (mul_nonneg (pos x.c) (int_max (int_min y x.top -ℤ x.foot) (pos 0)) (omega (arith, ints)) (omega (arith, ints, clamps)))
 
-  pub gives : (side : Side) → ((v : ℤ) → IsCellMark side p v → Bounds side b v) → inward side y <ℤ inward side (b *ℤ pos n) → (pos (anchor_on side p * m) *ℤ (inward side (b *ℤ pos n) -ℤ inward side y)) ≤ℤ (inward side (rest_of w y) +ℤ pos (need_on side p) *ℤ pos (m * n))
+  pub gives : (side : Side) → ((v : ℤ) → IsCellMark side p v → Bounds side b v) → inward side y <ℤ inward side (b *ℤ pos n) →
+      (pos (anchor_on side p * m) *ℤ (inward side (b *ℤ pos n) -ℤ inward side y)) ≤ℤ (inward side (rest_of w y) +ℤ pos (need_on side p) *ℤ pos (m * n))
   gives Low marks low = gives_low marks low
-  gives High marks high = subst (λ (z : ℤ). (pos (anchor_on High p * m) *ℤ z) ≤ℤ (neg_ℤ (rest_of w y) +ℤ pos (need_on High p) *ℤ pos (m * n))) (omega (arith, ints)) (gives_high marks (omega (arith, ints, high)))
+  gives High marks high = subst (λ (z : ℤ). (pos (anchor_on High p * m) *ℤ z) ≤ℤ (neg_ℤ (rest_of w y) +ℤ pos (need_on High p) *ℤ pos (m * n)))
+      (omega (arith, ints)) (gives_high marks (omega (arith, ints, high)))

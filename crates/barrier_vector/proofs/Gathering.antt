@@ -26,7 +26,8 @@ greatest_reached : (n : ℕ) (t : ℕ → Bool) (f : ℕ → ℕ) → (greatest_
 greatest_reached zero t f = inl refl
 greatest_reached (suc n) t f = last (greatest_inside n t f) (t n) refl (greatest_reached n t f)
   where
-    last : (g : ℕ) (b : Bool) → t n ≡ b → (g ≡ 0) ⊎ ((k : ℕ) × (k < n) × (t k ≡ true) × (f k ≡ g)) → (max g (cond b (f n) 0) ≡ 0) ⊎ ((k : ℕ) × (k < suc n) × (t k ≡ true) × (f k ≡ max g (cond b (f n) 0)))
+    last : (g : ℕ) (b : Bool) → t n ≡ b → (g ≡ 0) ⊎ ((k : ℕ) × (k < n) × (t k ≡ true) × (f k ≡ g)) → (max g (cond b (f n) 0) ≡ 0) ⊎
+        ((k : ℕ) × (k < suc n) × (t k ≡ true) × (f k ≡ max g (cond b (f n) 0)))
     last g false off (inl none) = inl (omega (arith, none))
     last g false off (inr (k, h, on, is)) = inr (k, omega (arith, h), on, omega (arith, is))
     last g true on (inl none) = inr (n, omega arith, on, omega (arith, none))
@@ -41,13 +42,16 @@ greatest_within n t f b each = elim (greatest_reached n t f) [ inl none ↦ omeg
 
 -- one cell more, over what the code holds before and after
 module _ (labels : List (Option ℕ)) (old s0 s1 new : List Total) (i m : ℕ) (e0 : s0 ≡ old) (ef : new ≡ s1) where
-  pub sum_more : (f : ℕ → ℤ) (q : ℤ) → q ≡ f i → sum_at old m ≡ sum_inside i (has_label labels m) f → sum_at s1 m ≡ sum_at s0 m +ℤ cond (is_label (mark_at labels i) m) q (pos 0) → sum_at new m ≡ sum_inside (i + 1) (has_label labels m) f
+  pub sum_more : (f : ℕ → ℤ) (q : ℤ) → q ≡ f i → sum_at old m ≡ sum_inside i (has_label labels m) f → sum_at s1 m ≡
+      sum_at s0 m +ℤ cond (is_label (mark_at labels i) m) q (pos 0) → sum_at new m ≡ sum_inside (i + 1) (has_label labels m) f
   sum_more f q is h t = let t' = rw (e0, is) at t in rw (ef, add-one i) (t' ∙ ap (λ (z : ℤ). z +ℤ cond (is_label (mark_at labels i) m) (f i) (pos 0)) h)
 
-  pub longest_more : (f : ℕ → ℕ) → longest_at old m ≡ greatest_inside i (has_label labels m) f → longest_at s1 m ≡ max (longest_at s0 m) (cond (is_label (mark_at labels i) m) (f i) 0) → longest_at new m ≡ greatest_inside (i + 1) (has_label labels m) f
+  pub longest_more : (f : ℕ → ℕ) → longest_at old m ≡ greatest_inside i (has_label labels m) f → longest_at s1 m ≡
+      max (longest_at s0 m) (cond (is_label (mark_at labels i) m) (f i) 0) → longest_at new m ≡ greatest_inside (i + 1) (has_label labels m) f
   longest_more f h t = let t' = rw e0 at t in rw (ef, add-one i) (t' ∙ ap (λ (n : ℕ). max n (cond (is_label (mark_at labels i) m) (f i) 0)) h)
 
-  pub within_more : (b : Bool) (q : ℤ) → IsMagnitudeAtMost q (2 ^ 125) → IsMagnitudeAtMost (sum_at old m) (i * 2 ^ 125) → sum_at s1 m ≡ sum_at s0 m +ℤ cond b q (pos 0) → IsMagnitudeAtMost (sum_at new m) ((i + 1) * 2 ^ 125)
+  pub within_more : (b : Bool) (q : ℤ) → IsMagnitudeAtMost q (2 ^ 125) → IsMagnitudeAtMost (sum_at old m) (i * 2 ^ 125) → sum_at s1 m ≡
+      sum_at s0 m +ℤ cond b q (pos 0) → IsMagnitudeAtMost (sum_at new m) ((i + 1) * 2 ^ 125)
   within_more b q w v t = let t' = rw e0 at t in rw (ef, t') (add b (sum_at old m) v)
     where
       add : (b : Bool) (z : ℤ) → IsMagnitudeAtMost z (i * 2 ^ 125) → IsMagnitudeAtMost (z +ℤ cond b q (pos 0)) ((i + 1) * 2 ^ 125)
@@ -70,7 +74,8 @@ rest_whole (pos a) n = refl
 rest_whole (negsuc a) n = refl
 
 -- a flow more: what passes 2 ^ 64 goes to the higher word
-pub two_words : (s : Total) (flow rest q r : ℤ) → rest ≡ pos s.low +ℤ flow → q ≡ int_div_euclid rest (pos (2 ^ 64)) → r ≡ int_rem_euclid rest (pos (2 ^ 64)) → (s.high +ℤ q) *ℤ pos (2 ^ 64) +ℤ pos (unsigned_abs r) ≡ flow_sum s +ℤ flow
+pub two_words : (s : Total) (flow rest q r : ℤ) → rest ≡ pos s.low +ℤ flow → q ≡ int_div_euclid rest (pos (2 ^ 64)) → r ≡ int_rem_euclid rest (pos (2 ^ 64)) →
+    (s.high +ℤ q) *ℤ pos (2 ^ 64) +ℤ pos (unsigned_abs r) ≡ flow_sum s +ℤ flow
 two_words s flow rest q r is eq er = rw (eq, er) (omega (arith, ints, euclid rest (2 ^ 64) (omega arith), rest_whole rest (2 ^ 64), is))
 
 pub not_positive : (b : Bool) (z : ℤ) → (pos 0 <ℤ z → b ≡ true) → b ≡ false → z ≤ℤ pos 0
@@ -92,15 +97,25 @@ module _ (p : List Entries) (q : ℕ) (levels : List (Option ℕ)) (level : ℕ)
     -- no path that a cell goes on along has changed
     from_start : (paths : List ℕ) (i c s : ℕ) → i < length front → Extended p q levels level front start paths i → ContinuesTo p q levels level paths c s → ContinuesTo p q levels level start c s
     from_start paths i c s i_in so_far (inr none) = inr none
-    from_start paths i c s i_in so_far (inl (x, near, is)) = inl (x, near, is ∙ ap (λ (r : ℕ). min (ceil_over q x.lo + r) path_limit) (so_far.others x.cell (λ j h e. past j 0 (omega arith) (subst (λ (z : ℕ). mark_at levels z ≡ Some level) (sym e) near.level_is))))
+    from_start paths i c s i_in so_far (inl (x, near, is)) =
+        inl (
+          x,
+          near,
+          is ∙ ap (λ (r : ℕ). min (ceil_over q x.lo + r) path_limit)
+              (so_far.others x.cell (λ j h e. past j 0 (omega arith) (subst (λ (z : ℕ). mark_at levels z ≡ Some level) (sym e) near.level_is))),
+        )
 
-    pub extended_more : (paths : List ℕ) (i s : ℕ) → i < length front → slice_index front i < length paths → Extended p q levels level front start paths i → ContinuesTo p q levels level paths (slice_index front i) s → Extended p q levels level front start (set paths (slice_index front i) s) (i + 1)
+    pub extended_more : (paths : List ℕ) (i s : ℕ) → i < length front → slice_index front i < length paths → Extended p q levels level front start paths i →
+        ContinuesTo p q levels level paths (slice_index front i) s → Extended p q levels level front start (set paths (slice_index front i) s) (i + 1)
     extended_more paths i s i_in c_in so_far goes = record {
       others = λ k none. get_or-set_other paths (slice_index front i) k s 0 (λ e. none i (omega arith) (sym e)) ∙ so_far.others k (λ j h e. none j (omega arith) e);
       done = λ j h.
           elim (cases_eq (slice_index front j) (slice_index front i)) [
-            | inl e ↦ subst (λ (z : ℕ). ContinuesTo p q levels level start z (slice_index (set paths (slice_index front i) s) z)) (sym e) (subst (λ (v : ℕ). ContinuesTo p q levels level start (slice_index front i) v) (sym (get_or-set_same paths (slice_index front i) s 0 c_in)) (from_start paths i (slice_index front i) s i_in so_far goes))
-            | inr n ↦ subst (λ (v : ℕ). ContinuesTo p q levels level start (slice_index front j) v) (sym (get_or-set_other paths (slice_index front i) (slice_index front j) s 0 n)) (so_far.done j (before j h n))
+            | inl e ↦ subst (λ (z : ℕ). ContinuesTo p q levels level start z (slice_index (set paths (slice_index front i) s) z)) (sym e)
+                (subst (λ (v : ℕ). ContinuesTo p q levels level start (slice_index front i) v) (sym (get_or-set_same paths (slice_index front i) s 0 c_in))
+                (from_start paths i (slice_index front i) s i_in so_far goes))
+            | inr n ↦ subst (λ (v : ℕ). ContinuesTo p q levels level start (slice_index front j) v)
+                (sym (get_or-set_other paths (slice_index front i) (slice_index front j) s 0 n)) (so_far.done j (before j h n))
           ];
     }
       where

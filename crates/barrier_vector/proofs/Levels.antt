@@ -66,12 +66,22 @@ module _ (p : List Entries) (ok : IsProblem p) (q : ℕ) (own : List (Option ℕ
   targeted : (c : ℕ) (x : Link) → Contains (entries_at p c).links x → LinkLeads (entries_at p x.cell).links (length (entries_at p x.cell).links) c
   targeted c x has = let (j, h, e) = link_place (entries_at p x.cell).links _ (back p ok c x has) in (j, h, ap (λ (z : Link). z.cell) e)
 
-  pub up_to_start : (old levels : List (Option ℕ)) (paths front : List ℕ) → length own ≡ length p → length old ≡ length p → ((c : ℕ) → mark_at old c ≡ None) → count_unmarked old ≡ length p → AreBegun own (length own) old levels paths front → IsUpTo p q own 0 levels paths front
+  pub up_to_start : (old levels : List (Option ℕ)) (paths front : List ℕ) → length own ≡ length p → length old ≡ length p → ((c : ℕ) → mark_at old c ≡ None) →
+      count_unmarked old ≡ length p → AreBegun own (length own) old levels paths front → IsUpTo p q own 0 levels paths front
   up_to_start old levels paths front whole old_whole none all s = record {
     levels_whole = s.marks.same ∙ old_whole;
     paths_whole = s.whole ∙ whole;
-    exact = λ c j e. let (d, is, zero_is, has) = rooted c j e in (record { leads = record { root = c; drop = d; is_root = is; reaches = subst (λ (n : ℕ). LeadsTo p n c c) (sym zero_is) refl }; least = λ i l. omega (arith, zero_is) }, omega (arith, zero_is));
-    found = λ c j h l. let nought : j ≡ 0 = omega arith in s.marks.covers c (let is = subst (λ (z : ℕ). mark_at own z ≡ Some l.drop) (sym (subst (λ (n : ℕ). LeadsTo p n c l.root) nought l.reaches)) l.is_root in (marked_within own c l.drop is, l.drop, is));
+    exact = λ c j e. let (d, is, zero_is, has) = rooted c j e in (
+      record {
+        leads = record { root = c; drop = d; is_root = is; reaches = subst (λ (n : ℕ). LeadsTo p n c c) (sym zero_is) refl };
+        least = λ i l.
+            omega (arith, zero_is);
+      },
+      omega (arith, zero_is),
+    );
+    found = λ c j h l. let nought : j ≡ 0 = omega arith in s.marks.covers c
+        (let is = subst (λ (z : ℕ). mark_at own z ≡ Some l.drop) (sym (subst (λ (n : ℕ). LeadsTo p n c l.root) nought l.reaches)) l.is_root in
+        (marked_within own c l.drop is, l.drop, is));
     front_of = λ c has. elim (s.marks.listed c has) [ inl wrong ↦ absurd (no_member c wrong) | inr both ↦ both.1 ];
     in_front = λ c e. (rooted c 0 e).3;
     room = λ h. let n = s.marks.count in omega (arith, n, all, h);
@@ -223,11 +233,19 @@ module _ (p : List Entries) (ok : IsProblem p) (q : ℕ) (own : List (Option ℕ
     searched_at_end (inr empty) = searched (λ c h e j l. let (m, is) = all_found empty j c l in no_both _ m e is)
 
 -- the next step leads to the next level
-pub up_to_next : (p : List Entries) → IsProblem p → (q : ℕ) (own : List (Option ℕ)) (k k' : ℕ) (levels levels' : List (Option ℕ)) (paths paths' front next : List ℕ) → k' ≡ suc k → IsUpTo p q own k levels paths front → Spreads (FrontLeads p front (length front)) k' levels levels' [] next → length paths' ≡ length paths → ((c : ℕ) → (Contains next c → ⊥) → slice_index paths' c ≡ slice_index paths c) → ((c : ℕ) → Contains next c → ContinuesTo p q levels' k paths c (slice_index paths' c)) → IsUpTo p q own k' levels' paths' next
-up_to_next p ok q own k k' levels levels' paths paths' front next e u s same others goes = subst (λ (n : ℕ). Spreads (FrontLeads p front (length front)) n levels levels' [] next → IsUpTo p q own n levels' paths' next) (sym e) (λ (t : Spreads (FrontLeads p front (length front)) (suc k) levels levels' [] next). up_to_more p ok q own k levels levels' paths paths' front next u t same others goes) s
+pub up_to_next : (p : List Entries) → IsProblem p →
+    (q : ℕ) (own : List (Option ℕ)) (k k' : ℕ) (levels levels' : List (Option ℕ)) (paths paths' front next : List ℕ) → k' ≡ suc k →
+    IsUpTo p q own k levels paths front → Spreads (FrontLeads p front (length front)) k' levels levels' [] next → length paths' ≡ length paths →
+    ((c : ℕ) → (Contains next c → ⊥) → slice_index paths' c ≡ slice_index paths c) →
+    ((c : ℕ) → Contains next c → ContinuesTo p q levels' k paths c (slice_index paths' c)) → IsUpTo p q own k' levels' paths' next
+up_to_next p ok q own k k' levels levels' paths paths' front next e u s same others goes =
+    subst (λ (n : ℕ). Spreads (FrontLeads p front (length front)) n levels levels' [] next → IsUpTo p q own n levels' paths' next) (sym e)
+    (λ (t : Spreads (FrontLeads p front (length front)) (suc k) levels levels' [] next).
+    up_to_more p ok q own k levels levels' paths paths' front next u t same others goes) s
 
 pub front_within : (p : List Entries) (q : ℕ) (own : List (Option ℕ)) (k : ℕ) (levels : List (Option ℕ)) (paths front : List ℕ) → IsUpTo p q own k levels paths front → All (λ c. c < length p) front
-front_within p q own k levels paths front u = λ j d h. let w = marked_within levels (get_or front j d) k (u.front_of (get_or front j d) (Contains-get_or front j d h)) in omega (arith, w, u.levels_whole)
+front_within p q own k levels paths front u = λ j d h.
+    let w = marked_within levels (get_or front j d) k (u.front_of (get_or front j d) (Contains-get_or front j d h)) in omega (arith, w, u.levels_whole)
 
 pub next_within : (T : ℕ → Type 0) (n v : ℕ) (old new : List (Option ℕ)) (next : List ℕ) → length old ≡ n → Spreads T v old new [] next → All (λ c. c < n) next
 next_within T n v old new next whole s = λ j d h.
@@ -244,7 +262,11 @@ next_past T v k old new next apart s = λ j d h e.
     ]
 
 -- the same over what the code holds before and after
-pub up_to_step : (p : List Entries) → IsProblem p → (q : ℕ) (own : List (Option ℕ)) (k : ℕ) (levels l0 l1 l2 lf : List (Option ℕ)) (paths p0 p1 pf front f0 next n0 : List ℕ) → l0 ≡ levels → l2 ≡ lf → lf ≡ l1 → p0 ≡ paths → pf ≡ p1 → f0 ≡ front → n0 ≡ next → IsUpTo p q own k levels paths front → Spreads (FrontLeads p f0 (length f0)) (k + 1) l0 l1 [] next → length p1 ≡ length p0 → ((c : ℕ) → (Contains n0 c → ⊥) → slice_index p1 c ≡ slice_index p0 c) → ((c : ℕ) → Contains n0 c → ContinuesTo p q l2 k p0 c (slice_index p1 c)) → IsUpTo p q own (k + 1) lf pf next
+pub up_to_step : (p : List Entries) → IsProblem p →
+    (q : ℕ) (own : List (Option ℕ)) (k : ℕ) (levels l0 l1 l2 lf : List (Option ℕ)) (paths p0 p1 pf front f0 next n0 : List ℕ) → l0 ≡ levels → l2 ≡ lf → lf ≡
+    l1 → p0 ≡ paths → pf ≡ p1 → f0 ≡ front → n0 ≡ next → IsUpTo p q own k levels paths front → Spreads (FrontLeads p f0 (length f0)) (k + 1) l0 l1 [] next →
+    length p1 ≡ length p0 → ((c : ℕ) → (Contains n0 c → ⊥) → slice_index p1 c ≡ slice_index p0 c) →
+    ((c : ℕ) → Contains n0 c → ContinuesTo p q l2 k p0 c (slice_index p1 c)) → IsUpTo p q own (k + 1) lf pf next
 up_to_step p ok q own k levels l0 l1 l2 lf paths p0 p1 pf front f0 next n0 e0 e2 ef g0 gf h0 h1 u s same others goes =
     let s' = rw (e0, h0) at s in
     let others' = rw (h1, g0) at others in

@@ -24,7 +24,9 @@ outer_joins Low (Some a) (Some b) (Some c) = let e : int_min (int_min a b) c ≡
 outer_joins High (Some a) (Some b) (Some c) = let e : int_max (int_max a b) c ≡ int_max a (int_max b c) = omega (arith, ints, clamps) in ap Some e
 
 -- one element more
-pub marks_more : {X : Type 0} (side : Side) (mark : X → Option ℤ) (xs : List X) (i : ℕ) (d x : X) (best o new : Option ℤ) → i < length xs → x ≡ get_or xs i d → o ≡ mark x → new ≡ outer_of side best o → outer_of side best (outermost side mark (drop i xs)) ≡ outermost side mark xs → outer_of side new (outermost side mark (drop (i + 1) xs)) ≡ outermost side mark xs
+pub marks_more : {X : Type 0} (side : Side) (mark : X → Option ℤ) (xs : List X) (i : ℕ) (d x : X) (best o new : Option ℤ) → i < length xs → x ≡ get_or xs i d →
+    o ≡ mark x → new ≡ outer_of side best o → outer_of side best (outermost side mark (drop i xs)) ≡ outermost side mark xs →
+    outer_of side new (outermost side mark (drop (i + 1) xs)) ≡ outermost side mark xs
 marks_more side mark xs i d x best o new h is from joined so_far =
     ap (λ z. outer_of side z (outermost side mark (drop (i + 1) xs))) (joined ∙ ap (outer_of side best) (from ∙ ap mark is))
     ∙ outer_joins side best (mark (get_or xs i d)) (outermost side mark (drop (i + 1) xs)) ∙ sym (ap (outer_of side best) (at_drop_more (outermost side mark) xs i d h)) ∙ so_far
@@ -45,7 +47,8 @@ outer_outside High (Some a) (Some b) v (inr h) = omega (arith, ints, clamps, h)
 outer_outside side None b v (inl h) = absurd h
 outer_outside side (Some a) None v (inr h) = absurd h
 
-list_outside : {X : Type 0} (side : Side) (mark : X → Option ℤ) (xs : List X) (v : ℤ) (k : ℕ) (d : X) → k < length xs → LiesOutside side (mark (get_or xs k d)) v → LiesOutside side (outermost side mark xs) v
+list_outside : {X : Type 0} (side : Side) (mark : X → Option ℤ) (xs : List X) (v : ℤ) (k : ℕ) (d : X) → k < length xs →
+    LiesOutside side (mark (get_or xs k d)) v → LiesOutside side (outermost side mark xs) v
 list_outside side mark [] v k d h at = absurd (omega arith)
 list_outside side mark (x ∷ xs) v zero d h at = outer_outside side (mark x) (outermost side mark xs) v (inl at)
 list_outside side mark (x ∷ xs) v (suc k) d h at = outer_outside side (mark x) (outermost side mark xs) v (inr (list_outside side mark xs v k d (omega arith) at))
@@ -119,10 +122,13 @@ module _ (m n cells : ℕ) (b : ℤ) where
 
   pub cell_dry : (p : Entries) (w : WholeCell) → CellWithin m n cells p w → ((v : ℤ) → IsCellMark Low p v → b ≤ℤ v) → IsDry (b *ℤ pos n) w
   cell_dry p w e marks = record {
-    fixed = All-zip (FixedWithin m n) (λ x. 0 < x.hi → b ≤ℤ x.head_lo) (λ z. (z.c ≡ 0) ⊎ ((b *ℤ pos n) ≤ℤ z.top)) (λ x z r h. dry_head x.hi z.c x.head_lo z.top h r.c.upper r.top.lower) p.fixed w.fixed e.fixed
+    fixed = All-zip (FixedWithin m n) (λ x. 0 < x.hi → b ≤ℤ x.head_lo) (λ z. (z.c ≡ 0) ⊎ ((b *ℤ pos n) ≤ℤ z.top)) (λ x z r h.
+        dry_head x.hi z.c x.head_lo z.top h r.c.upper r.top.lower) p.fixed w.fixed e.fixed
         (λ k d i some. marks _ (inl (get_or p.fixed k d, Contains-get_or p.fixed k d i, some_at _ _ some)));
-    rivers = All-zip (RiverWithin m n) (λ x. 0 < x.hi → b ≤ℤ x.bottom_lo) (λ z. (z.c ≡ 0) ⊎ ((b *ℤ pos n) ≤ℤ z.foot)) (λ x z r h. dry_head x.hi z.c x.bottom_lo z.foot h r.c.upper r.foot.lower) p.rivers w.rivers e.rivers
+    rivers = All-zip (RiverWithin m n) (λ x. 0 < x.hi → b ≤ℤ x.bottom_lo) (λ z. (z.c ≡ 0) ⊎ ((b *ℤ pos n) ≤ℤ z.foot)) (λ x z r h.
+        dry_head x.hi z.c x.bottom_lo z.foot h r.c.upper r.foot.lower) p.rivers w.rivers e.rivers
         (λ k d i some. marks _ (inr (inl (get_or p.rivers k d, Contains-get_or p.rivers k d i, some_at _ _ some))));
-    drains = All-zip (DrainWithin m n) (λ x. 0 < x.hi → b ≤ℤ x.elev_lo) (λ z. (z.c ≡ 0) ⊎ ((b *ℤ pos n) ≤ℤ z.foot)) (λ x z r h. dry_head x.hi z.c x.elev_lo z.foot h r.c.upper r.foot.lower) p.drains w.drains e.drains
+    drains = All-zip (DrainWithin m n) (λ x. 0 < x.hi → b ≤ℤ x.elev_lo) (λ z. (z.c ≡ 0) ⊎ ((b *ℤ pos n) ≤ℤ z.foot)) (λ x z r h.
+        dry_head x.hi z.c x.elev_lo z.foot h r.c.upper r.foot.lower) p.drains w.drains e.drains
         (λ k d i some. marks _ (inr (inr (get_or p.drains k d, Contains-get_or p.drains k d i, some_at _ _ some))));
   }

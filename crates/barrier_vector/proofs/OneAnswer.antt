@@ -14,7 +14,8 @@ same_heads (x ∷ xs) (y ∷ ys) whole same =
     ap (λ b. b ∷ xs) (same 0 (omega arith)) ∙ ap (λ bs. y ∷ bs) rest
 
 -- a side with a bound in range for each cell isn't refused
-side_stands : (side : Side) (p : List Entries) (h : ℕ → ℤ) (n : NoBound) → IsProblem p → ((c : ℕ) → c < length p → IsBoundOn side p c (h c)) → ((c : ℕ) → c < length p → IsHead (h c)) → IsRefusedOn side p n → ⊥
+side_stands : (side : Side) (p : List Entries) (h : ℕ → ℤ) (n : NoBound) → IsProblem p → ((c : ℕ) → c < length p → IsBoundOn side p c (h c)) →
+    ((c : ℕ) → c < length p → IsHead (h c)) → IsRefusedOn side p n → ⊥
 side_stands side p h n ok bounds heads (c, inl (names, least)) = has_a_bound side p c (h c) (bounds c least.within) least.has
 side_stands side p h n ok bounds heads (c, inr (names, nowhere, least)) =
     let (f, is, out) = least.has in

@@ -13,7 +13,9 @@ use Rattle.barrier_vector.proofs.Rooting.{each_more}
 use Rattle.barrier_vector.proofs.Marking.{marks_more, outer_none}
 
 -- one cell more
-pub outline_more : (side : Side) (p : List Entries) (i : ℕ) (e : Entries) (mark o mark' : Option ℤ) (need n need' : ℕ) (anchors anchors' : List ℕ) (a : ℕ) → i < length p → e ≡ entries_at p i → mark' ≡ outer_of side mark o → o ≡ cell_mark side e → need' ≡ capped_flow (need + n) → n ≡ need_on side e → anchors' ≡ anchors ++ a ∷ [] → a ≡ anchor_on side e → IsOutline side p i mark need anchors → IsOutline side p (i + 1) mark' need' anchors'
+pub outline_more : (side : Side) (p : List Entries) (i : ℕ) (e : Entries) (mark o mark' : Option ℤ) (need n need' : ℕ) (anchors anchors' : List ℕ) (a : ℕ) →
+    i < length p → e ≡ entries_at p i → mark' ≡ outer_of side mark o → o ≡ cell_mark side e → need' ≡ capped_flow (need + n) → n ≡ need_on side e → anchors' ≡
+    anchors ++ a ∷ [] → a ≡ anchor_on side e → IsOutline side p i mark need anchors → IsOutline side p (i + 1) mark' need' anchors'
 outline_more side p i e mark o mark' need n need' anchors anchors' a h here joined outermost added need_is pushed anchor_is y = record {
   outermost_mark = marks_more side (cell_mark side) p i no_entries e mark o mark' h here outermost joined y.outermost_mark;
   sum = let more = sum_by_more (need_on side) p i no_entries h in let same = need_is ∙ ap (need_on side) here in sums _ _ _ more same y.sum;
@@ -31,7 +33,9 @@ pub need_whole : (side : Side) (p : List Entries) (mark : Option ℤ) (need : �
 need_whole side p mark need anchors y = y.sum ∙ ap (λ (z : List Entries). capped_flow (sum_by (need_on side) z)) (take-length p)
 
 -- own drops by the list of greatest anchors
-pub drops_on : (side : Side) (p : List Entries) (mark : Option ℤ) (need q : ℕ) (anchors own : List ℕ) (drops : List (Option ℕ)) → IsOutline side p (length p) mark need anchors → own ≡ anchors → need ≡ q → HasEach None (λ c o. o ≡ anchor_drop need (slice_index own c)) (length own) drops → AreAnchorDrops side p q drops
+pub drops_on : (side : Side) (p : List Entries) (mark : Option ℤ) (need q : ℕ) (anchors own : List ℕ) (drops : List (Option ℕ)) →
+    IsOutline side p (length p) mark need anchors → own ≡ anchors → need ≡ q →
+    HasEach None (λ c o. o ≡ anchor_drop need (slice_index own c)) (length own) drops → AreAnchorDrops side p q drops
 drops_on side p mark need q anchors own drops y e f r = record {
   whole = r.whole ∙ ap (λ (z : List ℕ). length z) e ∙ y.anchors_are.whole;
   each = λ c h. r.each c (rw (e, y.anchors_are.whole) h) ∙ rw (e, f, y.anchors_are.each c h) refl;
@@ -49,7 +53,8 @@ full_is x fits =
     out (negsuc n) h = absurd (omega (arith, ints))
 
 -- the least deep flow of a cell, by flows at the ends of the range of heads
-pub deep_sums : (c : Entries) → CellFits c → (flows rivers evaps : ℤ) → flows ≡ total (flow_bound Low) c.flows → rivers ≡ total (river_flow Low (neg_ℤ (pos head_limit))) c.rivers → evaps ≡ total (evap_flow Low (pos head_limit)) c.evaps → flows +ℤ rivers +ℤ evaps ≡ deep_low c
+pub deep_sums : (c : Entries) → CellFits c → (flows rivers evaps : ℤ) → flows ≡ total (flow_bound Low) c.flows → rivers ≡
+    total (river_flow Low (neg_ℤ (pos head_limit))) c.rivers → evaps ≡ total (evap_flow Low (pos head_limit)) c.evaps → flows +ℤ rivers +ℤ evaps ≡ deep_low c
 deep_sums c fits flows rivers evaps a b d =
     let deep = b ∙ total-same RiverFits _ (deep_river Low) c.rivers (deep_is Low) fits.rivers in
     let full = d ∙ total-same EvapFits _ (λ x. neg_ℤ (pos (full_rate x))) c.evaps full_is fits.evaps ∙ total_neg (λ x. pos (full_rate x)) c.evaps in

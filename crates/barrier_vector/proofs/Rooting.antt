@@ -19,7 +19,8 @@ drop_is q zero d e = absurd cc
 drop_is q (suc a) d e = (omega arith, cc)
 
 -- one entry more
-pub greatest_on : {X : Type 0} (f : X → ℕ) (xs : List X) (i : ℕ) (x : X) (best new v : ℕ) → i < length xs → x ≡ get_or xs i x → v ≡ f x → new ≡ max v best → max best (greatest f (drop i xs)) ≡ greatest f xs → max new (greatest f (drop (i + 1) xs)) ≡ greatest f xs
+pub greatest_on : {X : Type 0} (f : X → ℕ) (xs : List X) (i : ℕ) (x : X) (best new v : ℕ) → i < length xs → x ≡ get_or xs i x → v ≡ f x → new ≡ max v best →
+    max best (greatest f (drop i xs)) ≡ greatest f xs → max new (greatest f (drop (i + 1) xs)) ≡ greatest f xs
 greatest_on f xs i x best new v h is from e so_far =
     let more : greatest f (drop i xs) ≡ max (f (get_or xs i x)) (greatest f (drop (i + 1) xs)) = at_drop_more (greatest f) xs i x h in
     let same = ap f is in

@@ -59,7 +59,8 @@ module _ (side : Side) (p : List Entries) (xs : List (Option ℤ)) (b : AreBound
         | inr (v, e) ↦ let (f, is, cut) = bound_here c h v e in absurd (has_a_bound side p c f is none)
       ]
 
-  pub side_unbounded : (n : NoBound) (c : ℕ) → IsFirst (IsMissing xs) (length xs) (Some c) → Names p n (number_of (no_barrier_on side)) c side → RefusesOn no_barrier_on (λ side. HasNoBound side p) side p n
+  pub side_unbounded : (n : NoBound) (c : ℕ) → IsFirst (IsMissing xs) (length xs) (Some c) → Names p n (number_of (no_barrier_on side)) c side →
+      RefusesOn no_barrier_on (λ side. HasNoBound side p) side p n
   side_unbounded n c (within, none, least) named =
       let h : c < length p = omega (arith, within, b.whole) in
       (c, named, record { within = h; has = no_bound_here c h none; least = λ d less fails. least d less (has_none d (omega (arith, less, h)) fails) })

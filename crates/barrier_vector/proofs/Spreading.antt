@@ -20,7 +20,12 @@ spread_mark m before c v h e = record {
   same = length-set m c (Some v);
   each = λ k.
       elim (cases_eq k c) [
-        | inl i ↦ inr (subst (λ (z : ℕ). mark_at m z ≡ None) (sym i) e, subst (λ (z : ℕ). mark_at (set m c (Some v)) z ≡ Some v) (sym i) (get_or-set_same m c (Some v) None h), i, subst (λ (z : ℕ). Contains (before ++ c ∷ []) z) (sym i) (Contains-push before c))
+        | inl i ↦ inr (
+          subst (λ (z : ℕ). mark_at m z ≡ None) (sym i) e,
+          subst (λ (z : ℕ). mark_at (set m c (Some v)) z ≡ Some v) (sym i) (get_or-set_same m c (Some v) None h),
+          i,
+          subst (λ (z : ℕ). Contains (before ++ c ∷ []) z) (sym i) (Contains-push before c),
+        )
         | inr n ↦ inl (get_or-set_other m c k (Some v) None n)
       ];
   covers = λ k i. (v, subst (λ (z : ℕ). mark_at (set m c (Some v)) z ≡ Some v) (sym i) (get_or-set_same m c (Some v) None h));
@@ -45,7 +50,8 @@ spread_marked m before c v w e = record {
 }
 
 -- the same step, its cells named in another way
-pub spread_as : (T U : ℕ → Type 0) (v : ℕ) (old new : List (Option ℕ)) (before after : List ℕ) → ((k : ℕ) → T k → U k) → ((k : ℕ) → U k → T k) → Spreads T v old new before after → Spreads U v old new before after
+pub spread_as : (T U : ℕ → Type 0) (v : ℕ) (old new : List (Option ℕ)) (before after : List ℕ) → ((k : ℕ) → T k → U k) → ((k : ℕ) → U k → T k) →
+    Spreads T v old new before after → Spreads U v old new before after
 spread_as T U v old new before after to from s = grind (arith)
 
 module _ (T U : ℕ → Type 0) (v : ℕ) (old mid new : List (Option ℕ)) (a b c : List ℕ) (s : Spreads T v old mid a b) (t : Spreads U v mid new b c) where
@@ -97,7 +103,8 @@ module _ (T U : ℕ → Type 0) (v : ℕ) (old mid new : List (Option ℕ)) (a b
 abbrev AreBelow : (ℕ → ℕ → Type 0) → ℕ → ℕ → Type 0
 AreBelow P i k = (j : ℕ) × (j < i) × P j k
 
-spread_next : (P : ℕ → ℕ → Type 0) (i v : ℕ) (old mid new : List (Option ℕ)) (a b c : List ℕ) → Spreads (AreBelow P i) v old mid a b → Spreads (P i) v mid new b c → Spreads (AreBelow P (i + 1)) v old new a c
+spread_next : (P : ℕ → ℕ → Type 0) (i v : ℕ) (old mid new : List (Option ℕ)) (a b c : List ℕ) → Spreads (AreBelow P i) v old mid a b →
+    Spreads (P i) v mid new b c → Spreads (AreBelow P (i + 1)) v old new a c
 spread_next P i v old mid new a b c s t = spread_as (λ k. AreBelow P i k ⊎ P i k) (AreBelow P (i + 1)) v old new a c to from (spread_then (AreBelow P i) (P i) v old mid new a b c s t)
   where
     to : (k : ℕ) → AreBelow P i k ⊎ P i k → AreBelow P (i + 1) k
@@ -112,7 +119,8 @@ spread_next P i v old mid new a b c s t = spread_as (λ k. AreBelow P i k ⊎ P 
         ]
 
 -- the links of a list, one after another
-pub spread_link : (links : List Link) (i : ℕ) (x : Link) (v : ℕ) (old mid new : List (Option ℕ)) (a b c : List ℕ) → x ≡ link_at links i → Spreads (LinkLeads links i) v old mid a b → Spreads (λ k. k ≡ x.cell) v mid new b c → Spreads (LinkLeads links (i + 1)) v old new a c
+pub spread_link : (links : List Link) (i : ℕ) (x : Link) (v : ℕ) (old mid new : List (Option ℕ)) (a b c : List ℕ) → x ≡ link_at links i →
+    Spreads (LinkLeads links i) v old mid a b → Spreads (λ k. k ≡ x.cell) v mid new b c → Spreads (LinkLeads links (i + 1)) v old new a c
 spread_link links i x v old mid new a b c is s t =
     let same = ap (λ (y : Link). y.cell) is in
     spread_next (λ j k. (link_at links j).cell ≡ k) i v old mid new a b c s
@@ -135,6 +143,8 @@ pub spread_marks : (m : List (Option ℕ)) (before after : List ℕ) (c v : ℕ)
 spread_marks m before after c v is h e = subst (λ (z : List ℕ). Spreads (λ k. k ≡ c) v m (set m c (Some v)) before z) (sym is) (spread_mark m before c v h e)
 
 -- the cells of a frontier, one after another
-pub spread_links : (p : List Entries) (front : List ℕ) (i : ℕ) (links : List Link) (v : ℕ) (old mid new : List (Option ℕ)) (a b c : List ℕ) → links ≡ (entries_at p (slice_index front i)).links → Spreads (FrontLeads p front i) v old mid a b → Spreads (LinkLeads links (length links)) v mid new b c → Spreads (FrontLeads p front (i + 1)) v old new a c
+pub spread_links : (p : List Entries) (front : List ℕ) (i : ℕ) (links : List Link) (v : ℕ) (old mid new : List (Option ℕ)) (a b c : List ℕ) → links ≡
+    (entries_at p (slice_index front i)).links → Spreads (FrontLeads p front i) v old mid a b → Spreads (LinkLeads links (length links)) v mid new b c →
+    Spreads (FrontLeads p front (i + 1)) v old new a c
 spread_links p front i links v old mid new a b c is s t =
     spread_next (HereLeads p front) i v old mid new a b c s (subst (λ (z : List Link). Spreads (LinkLeads z (length z)) v mid new b c) is t)

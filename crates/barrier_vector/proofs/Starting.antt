@@ -11,7 +11,8 @@ RootBelow own i k = (k < i) × (d : ℕ) × (mark_at own k ≡ Some d)
 
 module _ (own : List (Option ℕ)) (i : ℕ) (old mid : List (Option ℕ)) (paths a : List ℕ) (s : AreBegun own i old mid paths a) where
   -- cell i is a root
-  pub begun_root : (d v : ℕ) (new : List (Option ℕ)) (paths' b : List ℕ) → i < length own → mark_at own i ≡ Some d → paths' ≡ set paths i v → v ≡ min (d + 0) path_limit → Spreads (λ k. k ≡ i) 0 mid new a b → AreBegun own (i + 1) old new paths' b
+  pub begun_root : (d v : ℕ) (new : List (Option ℕ)) (paths' b : List ℕ) → i < length own → mark_at own i ≡ Some d → paths' ≡ set paths i v → v ≡
+      min (d + 0) path_limit → Spreads (λ k. k ≡ i) 0 mid new a b → AreBegun own (i + 1) old new paths' b
   begun_root d v new paths' b h root is v_is t = record {
     marks = spread_as (λ k. RootBelow own i k ⊎ (k ≡ i)) (RootBelow own (i + 1)) 0 old new [] b to from (spread_then (RootBelow own i) (λ k. k ≡ i) 0 old mid new [] a b s.marks t);
     paths_are = λ c e c_in c_is.
@@ -43,7 +44,11 @@ module _ (own : List (Option ℕ)) (i : ℕ) (old mid : List (Option ℕ)) (path
   }
     where
       earlier : (k e : ℕ) → k < i + 1 → mark_at own k ≡ Some e → k < i
-      earlier k e k_in is = elim (cases_lt k i) [ inl less ↦ less | inr more ↦ let at : k ≡ i = omega arith in absurd (no_both (mark_at own i) e none (subst (λ (z : ℕ). mark_at own z ≡ Some e) at is)) ]
+      earlier k e k_in is = elim (cases_lt k i) [
+        | inl less ↦ less
+        | inr more ↦ let at : k ≡ i = omega arith in absurd
+            (no_both (mark_at own i) e none (subst (λ (z : ℕ). mark_at own z ≡ Some e) at is))
+      ]
 
 -- a list without marks
 abbrev without_marks : ℕ → List (Option ℕ)
@@ -63,4 +68,8 @@ all_unmarked zero = refl
 all_unmarked (suc n) = ap suc (all_unmarked n)
 
 pub all_none : (n : ℕ) (m : List (Option ℕ)) → m ≡ replicate n None → (length m ≡ n) × ((c : ℕ) → mark_at m c ≡ None) × (count_unmarked m ≡ n)
-all_none n m e = (ap (λ (z : List (Option ℕ)). length z) e ∙ length_is n, (λ c. ap (λ (z : List (Option ℕ)). mark_at z c) e ∙ none_at n c), ap (λ (z : List (Option ℕ)). count_unmarked z) e ∙ all_unmarked n)
+all_none n m e = (
+  ap (λ (z : List (Option ℕ)). length z) e ∙ length_is n,
+  (λ c. ap (λ (z : List (Option ℕ)). mark_at z c) e ∙ none_at n c),
+  ap (λ (z : List (Option ℕ)). count_unmarked z) e ∙ all_unmarked n,
+)

@@ -56,7 +56,9 @@ anchored_one : (side : Side) (p : List Entries) → IsProblem p → (c : ℕ) (f
 anchored_one side p ok c f g (s, path, is) (t, path', is') = is ∙ ap (moved_out side (base_on side p)) (anchor_path_one side p ok c s t path path') ∙ sym is'
 
 carried_one : (p : List Entries) → IsProblem p → (c : ℕ) (f g : ℤ) → IsCarriedFloor p c f → IsCarriedFloor p c g → f ≡ g
-carried_one p ok c f g (_, _, s, path, t, top, is) (_, _, s', path', t', top', is') = is ∙ ap (λ (n : ℕ). base_on Low p -ℤ pos (n + t)) (inner_one p ok c s s' path path') ∙ ap (λ (n : ℕ). base_on Low p -ℤ pos (s' + n)) (longest_one p c t t' top top') ∙ sym is'
+carried_one p ok c f g (_, _, s, path, t, top, is) (_, _, s', path', t', top', is') =
+    is ∙ ap (λ (n : ℕ). base_on Low p -ℤ pos (n + t)) (inner_one p ok c s s' path path') ∙ ap (λ (n : ℕ). base_on Low p -ℤ pos (s' + n))
+    (longest_one p c t t' top top') ∙ sym is'
 
 not_both : (p : List Entries) (c : ℕ) (f g : ℤ) → IsAnchoredBound Low p c f → IsCarriedFloor p c g → ⊥
 not_both p c f g (s, path, is) y = path_anchors Low p c s path y.0
@@ -92,7 +94,13 @@ module _ (side : Side) (p : List Entries) (ok : IsProblem p) (own levels : List 
           | inr none ↦ omega (arith, none)
           | inl some ↦
               let a_in = reaches_within p ok j c a h way in
-              absurd (found.none c h e j (record { root = a; drop = ceil_over (capped_flow (need side p)) (anchor_on side (entries_at p a)); is_root = drops.each a a_in ∙ drop_of (capped_flow (need side p)) (anchor_on side (entries_at p a)) some; reaches = way }))
+              absurd (found.none c h e j (record {
+                root = a;
+                drop = ceil_over (capped_flow (need side p)) (anchor_on side (entries_at p a));
+                is_root =
+                    drops.each a a_in ∙ drop_of (capped_flow (need side p)) (anchor_on side (entries_at p a)) some;
+                reaches = way;
+              }))
         ]
 
     pub paths_made : AreAnchorPaths side p levels paths
@@ -114,11 +122,17 @@ cut_path : (side : Side) (b : ℤ) (x s : ℕ) → IsHead b → x ≡ min s path
 cut_path Low b x s h e = omega (arith, ints, clamps, h.below, h.above, e)
 cut_path High b x s h e = omega (arith, ints, clamps, h.below, h.above, e)
 
-pub bound_anchored : (side : Side) (p : List Entries) → IsProblem p → (base : ℤ) → base ≡ base_on side p → (levels : List (Option ℕ)) (paths : List ℕ) → AreAnchorPaths side p levels paths → (c k : ℕ) (v : ℤ) → mark_at levels c ≡ Some k → v ≡ cut_on side (moved_out side base (slice_index paths c)) → IsAnchoredOrNone side p c (Some v)
+pub bound_anchored : (side : Side) (p : List Entries) → IsProblem p → (base : ℤ) → base ≡ base_on side p → (levels : List (Option ℕ)) (paths : List ℕ) →
+    AreAnchorPaths side p levels paths → (c k : ℕ) (v : ℤ) → mark_at levels c ≡ Some k → v ≡ cut_on side (moved_out side base (slice_index paths c)) →
+    IsAnchoredOrNone side p c (Some v)
 bound_anchored side p ok base base_is levels paths y c k v e is =
     let (s, path, cut) = y.anchored c k e in
-    let head = base_head side p ok in
-    (moved_out side (base_on side p) s, (s, path, refl), is ∙ ap (λ (z : ℤ). cut_on side (moved_out side z (slice_index paths c))) base_is ∙ cut_path side (base_on side p) (slice_index paths c) s head cut)
+    let head = base_head side p ok in (
+      moved_out side (base_on side p) s,
+      (s, path, refl),
+      is ∙ ap (λ (z : ℤ). cut_on side (moved_out side z (slice_index paths c))) base_is ∙ cut_path side
+          (base_on side p) (slice_index paths c) s head cut,
+    )
 
 -- bounds by the anchors are the bounds where each cell has one, and on the high side
 pub anchored_is_bound : (side : Side) (p : List Entries) (c : ℕ) (f : ℤ) → IsAnchoredBound side p c f → IsBoundOn side p c f
@@ -129,7 +143,11 @@ pub some_is_bound : (side : Side) (p : List Entries) (c : ℕ) (v : ℤ) → IsA
 some_is_bound side p c v (f, is, cut) = (f, anchored_is_bound side p c f is, cut)
 
 pub all_bounds : (side : Side) (p : List Entries) (xs ys : List (Option ℤ)) → ys ≡ xs → AreBounds p (IsAnchoredOrNone side p) xs → All IsSome ys → AreBounds p (IsBoundOrNone side p) xs
-all_bounds side p xs ys e b all = record { whole = b.whole; each = λ c h. each (bound_at xs c) c (b.each c h) (subst (λ (z : List (Option ℤ)). All IsSome z) e all c None (subst (λ (n : ℕ). c < n) (sym b.whole) h)) }
+all_bounds side p xs ys e b all = record {
+  whole = b.whole;
+  each = λ c h.
+      each (bound_at xs c) c (b.each c h) (subst (λ (z : List (Option ℤ)). All IsSome z) e all c None (subst (λ (n : ℕ). c < n) (sym b.whole) h));
+}
   where
     each : (o : Option ℤ) (c : ℕ) → IsAnchoredOrNone side p c o → IsSome o → IsBoundOrNone side p c o
     each (Some v) c f some = some_is_bound side p c v f

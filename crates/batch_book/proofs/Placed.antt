@@ -11,7 +11,8 @@ some_of None h = absurd (true≢false h)
 some_of (Some e) h = (e, refl)
 
 -- one more place has an end
-pub has_more : {E : Type 0} (places : List (Option E)) (place : ℕ) (x : Option E) → place < length places → x ≡ get_or places place x → is_none x ≡ false → ((k : ℕ) → k < place → HasEnd places k) → (k : ℕ) → k < place + 1 → HasEnd places k
+pub has_more : {E : Type 0} (places : List (Option E)) (place : ℕ) (x : Option E) → place < length places → x ≡ get_or places place x → is_none x ≡ false →
+    ((k : ℕ) → k < place → HasEnd places k) → (k : ℕ) → k < place + 1 → HasEnd places k
 has_more places place x h read test before k l =
     let (e, is) = some_of x test in
     elim (cases_eq k place) [
@@ -46,7 +47,8 @@ module _ {E : Type 0} where
   same_end (Some x ∷ xs) all (suc job) e h = same_end xs (λ k l. all (suc k) (omega arith)) job e h
 
   -- where each job has an end, the ends in order are those of the jobs
-  pub are_ends : (IsEnd : ℕ → E → Type 0) (count : ℕ) (places : List (Option E)) → length places ≡ count → AreOwn IsEnd places → ((job : ℕ) → job < count → HasEnd places job) → AreJobEnds IsEnd count (those_there places)
+  pub are_ends : (IsEnd : ℕ → E → Type 0) (count : ℕ) (places : List (Option E)) → length places ≡ count → AreOwn IsEnd places →
+      ((job : ℕ) → job < count → HasEnd places job) → AreJobEnds IsEnd count (those_there places)
   are_ends IsEnd count places whole own all =
       let there : AllThere places = λ job h. all job (omega arith) in record {
         whole = count_ends places there ∙ whole;

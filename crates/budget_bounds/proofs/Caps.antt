@@ -54,7 +54,8 @@ unfolding parts
 nothing_more dir s h = rw (cap_none term_limit s.lo h.lo_below, cap_none term_limit s.hi h.hi_below) refl
 
 -- the entries from one on, where it is counted, and where it isn't
-counted : {X : Type 0} (dir : Dir) (of : X → Bool) (f : X → TermPair) (x : X) (xs : List X) → of x ≡ true → parts dir (map f (filter of (x ∷ xs))) ≡ plus_pair (part dir (f x)) (parts dir (map f (filter of xs)))
+counted : {X : Type 0} (dir : Dir) (of : X → Bool) (f : X → TermPair) (x : X) (xs : List X) → of x ≡ true → parts dir (map f (filter of (x ∷ xs))) ≡
+    plus_pair (part dir (f x)) (parts dir (map f (filter of xs)))
 unfolding parts
 counted dir of f x xs h = rw h refl
 
@@ -64,16 +65,23 @@ passed dir of f x xs h = rw h refl
 from : {X : Type 0} (xs : List X) (i : ℕ) (d x : X) → i < length xs → x ≡ get_or xs i d → drop i xs ≡ x ∷ drop (i + 1) xs
 from xs i d x lt e = rw (e, add-one, drop-cons xs i d) refl
 
-counts_or_not : {X : Type 0} (dir : Dir) (of : X → Bool) (f : X → TermPair) (x : X) (xs : List X) (s : TermPair) (b : Bool) → of x ≡ b → capped_term (plus_pair (cond b (capped_term (plus_pair s (part dir (f x)))) s) (parts dir (map f (filter of xs)))) ≡ capped_term (plus_pair s (parts dir (map f (filter of (x ∷ xs)))))
-counts_or_not dir of f x xs s true h = capped_twice s (part dir (f x)) (parts dir (map f (filter of xs))) (parts_lo dir _) (parts_hi dir _) ∙ ap (λ (z : TermPair). capped_term (plus_pair s z)) (sym (counted dir of f x xs h))
+counts_or_not : {X : Type 0} (dir : Dir) (of : X → Bool) (f : X → TermPair) (x : X) (xs : List X) (s : TermPair) (b : Bool) → of x ≡ b →
+    capped_term (plus_pair (cond b (capped_term (plus_pair s (part dir (f x)))) s) (parts dir (map f (filter of xs)))) ≡
+    capped_term (plus_pair s (parts dir (map f (filter of (x ∷ xs)))))
+counts_or_not dir of f x xs s true h = capped_twice s (part dir (f x)) (parts dir (map f (filter of xs))) (parts_lo dir _) (parts_hi dir _) ∙ ap
+    (λ (z : TermPair). capped_term (plus_pair s z)) (sym (counted dir of f x xs h))
 counts_or_not dir of f x xs s false h = ap (λ (z : TermPair). capped_term (plus_pair s z)) (sym (passed dir of f x xs h))
 
 -- one entry of a loop
-pub next_part_capped : {X : Type 0} (dir : Dir) (of : X → Bool) (f : X → TermPair) (xs : List X) (i : ℕ) (d x : X) (s next whole : TermPair) → i < length xs → x ≡ get_or xs i d → next ≡ cond (of x) (capped_term (plus_pair s (part dir (f x)))) s → capped_term (plus_pair s (parts dir (map f (filter of (drop i xs))))) ≡ whole → capped_term (plus_pair next (parts dir (map f (filter of (drop (i + 1) xs))))) ≡ whole
+pub next_part_capped : {X : Type 0} (dir : Dir) (of : X → Bool) (f : X → TermPair) (xs : List X) (i : ℕ) (d x : X) (s next whole : TermPair) → i < length xs →
+    x ≡ get_or xs i d → next ≡ cond (of x) (capped_term (plus_pair s (part dir (f x)))) s →
+    capped_term (plus_pair s (parts dir (map f (filter of (drop i xs))))) ≡ whole →
+    capped_term (plus_pair next (parts dir (map f (filter of (drop (i + 1) xs))))) ≡ whole
 next_part_capped {X = X} dir of f xs i d x s next whole lt e is h =
     rw is (counts_or_not dir of f x (drop (i + 1) xs) s (of x) refl ∙ ap (λ (ys : List X). capped_term (plus_pair s (parts dir (map f (filter of ys))))) (sym (from xs i d x lt e)) ∙ h)
 
-pub ends : {X : Type 0} (dir : Dir) (of : X → Bool) (f : X → TermPair) (xs : List X) (i : ℕ) (s whole : TermPair) → IsSum s → length xs ≤ i → capped_term (plus_pair s (parts dir (map f (filter of (drop i xs))))) ≡ whole → s ≡ whole
+pub ends : {X : Type 0} (dir : Dir) (of : X → Bool) (f : X → TermPair) (xs : List X) (i : ℕ) (s whole : TermPair) → IsSum s → length xs ≤ i →
+    capped_term (plus_pair s (parts dir (map f (filter of (drop i xs))))) ≡ whole → s ≡ whole
 ends {X = X} dir of f xs i s whole sum over h =
     sym (nothing_more dir s sum) ∙ ap (λ (ys : List X). capped_term (plus_pair s (parts dir (map f (filter of ys))))) (sym (drop_all i xs over)) ∙ h
 
@@ -81,7 +89,9 @@ ends {X = X} dir of f xs i s whole sum over h =
 cap_two : (limit a x : ℤ) → pos 0 ≤ℤ x → int_min (int_min a limit +ℤ x) limit ≡ int_min (a +ℤ x) limit
 cap_two limit a x h = omega (arith, ints, clamps)
 
-pub cell_more : (n : ℕ) (f : ℕ → TermPair) (s next : TermPair) → s ≡ capped_term (record { lo = sum_below n (λ c. (f c).lo); hi = sum_below n (λ c. (f c).hi) }) → next ≡ capped_term (plus_pair s (f n)) → pos 0 ≤ℤ (f n).lo → pos 0 ≤ℤ (f n).hi → next ≡ capped_term (record { lo = sum_below (n + 1) (λ c. (f c).lo); hi = sum_below (n + 1) (λ c. (f c).hi) })
+pub cell_more : (n : ℕ) (f : ℕ → TermPair) (s next : TermPair) → s ≡
+    capped_term (record { lo = sum_below n (λ c. (f c).lo); hi = sum_below n (λ c. (f c).hi) }) → next ≡ capped_term (plus_pair s (f n)) → pos 0 ≤ℤ (f n).lo →
+    pos 0 ≤ℤ (f n).hi → next ≡ capped_term (record { lo = sum_below (n + 1) (λ c. (f c).lo); hi = sum_below (n + 1) (λ c. (f c).hi) })
 cell_more n f s next is more h k = more ∙ rw (is, add-one) (rw (cap_two term_limit (sum_below n (λ c. (f c).lo)) (f n).lo h, cap_two term_limit (sum_below n (λ c. (f c).hi)) (f n).hi k) refl)
 
 -- Tests of sums that stop at the limit tell what tests of the whole sums do.
@@ -116,7 +126,8 @@ module _ (p : List Entries) (l u : ℕ → ℤ) (dir : Dir) (sums : List TermPai
   terms_tested [] = refl
   terms_tested (t ∷ ts) = rw (term_tested t, terms_tested ts) refl
 
-pub budget_tested : (p : List Entries) (l u : ℕ → ℤ) (into out : List TermPair) → ((t : Term) → sum_of into t ≡ capped_term (term_pair p l u In t)) → ((t : Term) → sum_of out t ≡ capped_term (term_pair p l u Out t)) → tested_budget into out ≡ budget_of p l u
+pub budget_tested : (p : List Entries) (l u : ℕ → ℤ) (into out : List TermPair) → ((t : Term) → sum_of into t ≡ capped_term (term_pair p l u In t)) →
+    ((t : Term) → sum_of out t ≡ capped_term (term_pair p l u Out t)) → tested_budget into out ≡ budget_of p l u
 unfolding tested_budget budget_of
 budget_tested p l u into out are_into are_out = rw (terms_tested p l u In into are_into all_terms, terms_tested p l u Out out are_out all_terms) refl
 

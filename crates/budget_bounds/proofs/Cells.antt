@@ -42,7 +42,14 @@ module _ (c : Entries) (l u : ℤ) where
   are_singles ConstantHead = simp (no_flows ConstantHead refl refl c.flows, filter_none c.drains, filter_none c.rivers, filter_none c.evaps, append-nil) refl
   are_singles Wells = simp (no_fixed Wells refl refl refl c.fixed, filter_none c.drains, filter_none c.rivers, filter_none c.evaps, append-nil) refl
   are_singles Drains = simp (no_fixed Drains refl refl refl c.fixed, no_flows Drains refl refl c.flows, filter_all c.drains, filter_none c.rivers, filter_none c.evaps, append-nil) refl
-  are_singles RiverLeakage = simp (no_fixed RiverLeakage refl refl refl c.fixed, no_flows RiverLeakage refl refl c.flows, filter_none c.drains, filter_all c.rivers, filter_none c.evaps, append-nil) refl
+  are_singles RiverLeakage = simp (
+    no_fixed RiverLeakage refl refl refl c.fixed,
+    no_flows RiverLeakage refl refl c.flows,
+    filter_none c.drains,
+    filter_all c.rivers,
+    filter_none c.evaps,
+    append-nil,
+  ) refl
   are_singles HeadDepBounds = simp (no_flows HeadDepBounds refl refl c.flows, filter_none c.drains, filter_none c.rivers, filter_none c.evaps, append-nil) refl
   are_singles Recharge = simp (no_fixed Recharge refl refl refl c.fixed, filter_none c.drains, filter_none c.rivers, filter_none c.evaps, append-nil) refl
   are_singles Et = simp (no_fixed Et refl refl refl c.fixed, no_flows Et refl refl c.flows, filter_none c.drains, filter_none c.rivers, filter_all c.evaps) refl
@@ -66,10 +73,13 @@ module _ (dir : Dir) where
 
   more : (s m n : TermPair) (xs ys : List TermPair) → m ≡ with_flows s xs → n ≡ with_flows m ys → n ≡ with_flows s (xs ++ ys)
   more s m n xs ys first then_ =
-      then_ ∙ ap (λ (z : TermPair). with_flows z ys) first ∙ capped_twice s (parts dir xs) (parts dir ys) (parts_lo dir ys) (parts_hi dir ys) ∙ ap (λ (z : TermPair). capped_term (plus_pair s z)) (sym (parts-append xs ys))
+      then_ ∙ ap (λ (z : TermPair). with_flows z ys) first ∙ capped_twice s (parts dir xs) (parts dir ys) (parts_lo dir ys) (parts_hi dir ys) ∙ ap
+      (λ (z : TermPair). capped_term (plus_pair s z)) (sym (parts-append xs ys))
 
-  pub cell_added : (c : Entries) (l u : ℤ) (t : Term) (s₀ s₁ s₂ s₃ s₄ s₅ : TermPair) → s₁ ≡ with_flows s₀ (map (entry_pair fixed_bound l u) (fixed_of t c.fixed)) → s₂ ≡ with_flows s₁ (map flow_pair (flows_of t c.flows)) →
-      s₃ ≡ with_flows s₂ (map (entry_pair drain_bound l u) (filter (λ x. is_term t Drains) c.drains)) → s₄ ≡ with_flows s₃ (map (entry_pair river_bound l u) (filter (λ x. is_term t RiverLeakage) c.rivers)) →
+  pub cell_added : (c : Entries) (l u : ℤ) (t : Term) (s₀ s₁ s₂ s₃ s₄ s₅ : TermPair) → s₁ ≡
+      with_flows s₀ (map (entry_pair fixed_bound l u) (fixed_of t c.fixed)) → s₂ ≡ with_flows s₁ (map flow_pair (flows_of t c.flows)) →
+      s₃ ≡ with_flows s₂ (map (entry_pair drain_bound l u) (filter (λ x. is_term t Drains) c.drains)) → s₄ ≡
+      with_flows s₃ (map (entry_pair river_bound l u) (filter (λ x. is_term t RiverLeakage) c.rivers)) →
       s₅ ≡ with_flows s₄ (map (entry_pair evap_bound l u) (filter (λ x. is_term t Et) c.evaps)) → s₅ ≡ with_flows s₀ (singles t c l u)
   cell_added c l u t s₀ s₁ s₂ s₃ s₄ s₅ fixed flows drains rivers evaps =
       let a = map (entry_pair fixed_bound l u) (fixed_of t c.fixed) in

@@ -28,41 +28,57 @@ pub record PairEncloses (k : ℕ) (x : TermPair) (f : Fraction) : Type 0 where
   pub within : EnclosesSigned x.lo x.hi k f
 
 module _ (s : ℕ) (v : Fraction) (l u : ℤ) (own : EnclosesSigned l u 9 v) where
-  fixed_singles : (t : Term) (xs : List Fixed) (ys : List ExactFixed) → AllZip (FixedEncloses s) xs ys → AllZip (PairEncloses (s + 9)) (map (entry_pair fixed_bound l u) (filter (λ x. is_term t (fixed_term x.kind)) xs)) (map (fixed_flow v) (filter (λ x. is_term t (fixed_term x.kind)) ys))
+  fixed_singles : (t : Term) (xs : List Fixed) (ys : List ExactFixed) → AllZip (FixedEncloses s) xs ys →
+      AllZip (PairEncloses (s + 9)) (map (entry_pair fixed_bound l u) (filter (λ x. is_term t (fixed_term x.kind)) xs))
+      (map (fixed_flow v) (filter (λ x. is_term t (fixed_term x.kind)) ys))
   fixed_singles t xs ys h =
       AllZip-map (FixedEncloses s) (PairEncloses (s + 9)) (entry_pair fixed_bound l u) (fixed_flow v) (λ x y e. record { within = (bounds_hold s v l u own).fixed x y e }) _ _
-      (AllZip-filter (FixedEncloses s) (λ (x : Fixed). is_term t (fixed_term x.kind)) (λ (x : ExactFixed). is_term t (fixed_term x.kind)) (λ x y e. ap (λ (k : FixedKind). is_term t (fixed_term k)) e.kind) xs ys h)
+      (AllZip-filter (FixedEncloses s) (λ (x : Fixed). is_term t (fixed_term x.kind)) (λ (x : ExactFixed). is_term t (fixed_term x.kind)) (λ x y e.
+      ap (λ (k : FixedKind). is_term t (fixed_term k)) e.kind) xs ys h)
 
-  flow_singles : (t : Term) (xs : List Flow) (ys : List ExactFlow) → AllZip (FlowEncloses s) xs ys → AllZip (PairEncloses (s + 9)) (map flow_pair (filter (λ x. is_term t (flow_term x.kind)) xs)) (map (λ x. x.flow) (filter (λ x. is_term t (flow_term x.kind)) ys))
+  flow_singles : (t : Term) (xs : List Flow) (ys : List ExactFlow) → AllZip (FlowEncloses s) xs ys →
+      AllZip (PairEncloses (s + 9)) (map flow_pair (filter (λ x. is_term t (flow_term x.kind)) xs))
+      (map (λ x. x.flow) (filter (λ x. is_term t (flow_term x.kind)) ys))
   flow_singles t xs ys h =
       AllZip-map (FlowEncloses s) (PairEncloses (s + 9)) flow_pair (λ (x : ExactFlow). x.flow) (λ x y e. record { within = e.flow }) _ _
-      (AllZip-filter (FlowEncloses s) (λ (x : Flow). is_term t (flow_term x.kind)) (λ (x : ExactFlow). is_term t (flow_term x.kind)) (λ x y e. ap (λ (k : FlowKind). is_term t (flow_term k)) e.kind) xs ys h)
+      (AllZip-filter (FlowEncloses s) (λ (x : Flow). is_term t (flow_term x.kind)) (λ (x : ExactFlow). is_term t (flow_term x.kind)) (λ x y e.
+      ap (λ (k : FlowKind). is_term t (flow_term k)) e.kind) xs ys h)
 
   cell_singles : (t : Term) (p : Entries) (e : ExactCell) → CellEncloses s p e → AllZip (PairEncloses (s + 9)) (singles t p l u) (exact_singles t e v)
   unfolding singles exact_singles
   cell_singles Storage p e h = fixed_singles Storage p.fixed e.fixed h.fixed
   cell_singles ConstantHead p e h = fixed_singles ConstantHead p.fixed e.fixed h.fixed
   cell_singles Wells p e h = flow_singles Wells p.flows e.flows h.flows
-  cell_singles Drains p e h = AllZip-map (DrainEncloses s) (PairEncloses (s + 9)) (entry_pair drain_bound l u) (drain_flow v) (λ x y e. record { within = (bounds_hold s v l u own).drains x y e }) p.drains e.drains h.drains
-  cell_singles RiverLeakage p e h = AllZip-map (RiverEncloses s) (PairEncloses (s + 9)) (entry_pair river_bound l u) (river_flow v) (λ x y e. record { within = (bounds_hold s v l u own).rivers x y e }) p.rivers e.rivers h.rivers
+  cell_singles Drains p e h = AllZip-map (DrainEncloses s) (PairEncloses (s + 9)) (entry_pair drain_bound l u) (drain_flow v) (λ x y e.
+      record { within = (bounds_hold s v l u own).drains x y e }) p.drains e.drains h.drains
+  cell_singles RiverLeakage p e h = AllZip-map (RiverEncloses s) (PairEncloses (s + 9)) (entry_pair river_bound l u) (river_flow v) (λ x y e.
+      record { within = (bounds_hold s v l u own).rivers x y e }) p.rivers e.rivers h.rivers
   cell_singles HeadDepBounds p e h = fixed_singles HeadDepBounds p.fixed e.fixed h.fixed
   cell_singles Recharge p e h = flow_singles Recharge p.flows e.flows h.flows
-  cell_singles Et p e h = AllZip-map (EvapEncloses s) (PairEncloses (s + 9)) (entry_pair evap_bound l u) (evap_flow v) (λ x y e. record { within = (bounds_hold s v l u own).evaps x y e }) p.evaps e.evaps h.evaps
+  cell_singles Et p e h = AllZip-map (EvapEncloses s) (PairEncloses (s + 9)) (entry_pair evap_bound l u) (evap_flow v) (λ x y e.
+      record { within = (bounds_hold s v l u own).evaps x y e }) p.evaps e.evaps h.evaps
 
-  cell_parts : (dir : Dir) (t : Term) (p : Entries) (e : ExactCell) → CellEncloses s p e → EnclosesSigned (parts dir (singles t p l u)).lo (parts dir (singles t p l u)).hi (s + 9) (fraction_total (exact_part dir) (exact_singles t e v))
+  cell_parts : (dir : Dir) (t : Term) (p : Entries) (e : ExactCell) → CellEncloses s p e →
+      EnclosesSigned (parts dir (singles t p l u)).lo (parts dir (singles t p l u)).hi (s + 9) (fraction_total (exact_part dir) (exact_singles t e v))
   unfolding parts
-  cell_parts dir t p e h = total_encloses (PairEncloses (s + 9)) (λ (x : TermPair). (part dir x).lo) (λ (x : TermPair). (part dir x).hi) (s + 9) (exact_part dir) (λ x f q. part_encloses dir (s + 9) x f q.within) (singles t p l u) (exact_singles t e v) (cell_singles t p e h)
+  cell_parts dir t p e h = total_encloses (PairEncloses (s + 9)) (λ (x : TermPair). (part dir x).lo) (λ (x : TermPair). (part dir x).hi) (s + 9)
+      (exact_part dir) (λ x f q. part_encloses dir (s + 9) x f q.within) (singles t p l u) (exact_singles t e v) (cell_singles t p e h)
 
-over_cells : (p : List Entries) (l u : ℕ → ℤ) (s : ℕ) (e : List ExactCell) (h : ℕ → Fraction) → AllZip (CellEncloses s) p e → AreWithin (length p) h l u → (dir : Dir) (t : Term) → EnclosesSigned (term_pair p l u dir t).lo (term_pair p l u dir t).hi (s + 9) (total_below (length p) (λ c. fraction_total (exact_part dir) (exact_singles t (cell_at e c) (h c))))
+over_cells : (p : List Entries) (l u : ℕ → ℤ) (s : ℕ) (e : List ExactCell) (h : ℕ → Fraction) → AllZip (CellEncloses s) p e → AreWithin (length p) h l u →
+    (dir : Dir) (t : Term) → EnclosesSigned (term_pair p l u dir t).lo (term_pair p l u dir t).hi (s + 9)
+    (total_below (length p) (λ c. fraction_total (exact_part dir) (exact_singles t (cell_at e c) (h c))))
 unfolding term_pair
 over_cells p l u s e h cells within dir t =
-    below_encloses (length p) (λ c. (parts dir (singles t (entries_at p c) (l c) (u c))).lo) (λ c. (parts dir (singles t (entries_at p c) (l c) (u c))).hi) (s + 9) (λ c. fraction_total (exact_part dir) (exact_singles t (cell_at e c) (h c)))
+    below_encloses (length p) (λ c. (parts dir (singles t (entries_at p c) (l c) (u c))).lo) (λ c. (parts dir (singles t (entries_at p c) (l c) (u c))).hi)
+    (s + 9) (λ c. fraction_total (exact_part dir) (exact_singles t (cell_at e c) (h c)))
     (λ c lt. cell_parts s (h c) (l c) (u c) (within c lt) dir t (entries_at p c) (cell_at e c) (AllZip-at (CellEncloses s) p e c no_entries no_cell cells lt))
 
-pub term_enclosed : (p : List Entries) (l u : ℕ → ℤ) (s : ℕ) (e : List ExactCell) (h : ℕ → Fraction) → EnclosesStep s p e → AreWithin (length p) h l u → (dir : Dir) (t : Term) → EnclosesSigned (term_pair p l u dir t).lo (term_pair p l u dir t).hi (s + 9) (exact_term e h dir t)
+pub term_enclosed : (p : List Entries) (l u : ℕ → ℤ) (s : ℕ) (e : List ExactCell) (h : ℕ → Fraction) → EnclosesStep s p e → AreWithin (length p) h l u →
+    (dir : Dir) (t : Term) → EnclosesSigned (term_pair p l u dir t).lo (term_pair p l u dir t).hi (s + 9) (exact_term e h dir t)
 unfolding exact_term
 term_enclosed p l u s e h encloses within dir t =
-    subst (λ (n : ℕ). EnclosesSigned (term_pair p l u dir t).lo (term_pair p l u dir t).hi (s + 9) (total_below n (λ c. fraction_total (exact_part dir) (exact_singles t (cell_at e c) (h c))))) (AllZip-length (CellEncloses s) p e encloses.cells)
+    subst (λ (n : ℕ). EnclosesSigned (term_pair p l u dir t).lo (term_pair p l u dir t).hi (s + 9)
+    (total_below n (λ c. fraction_total (exact_part dir) (exact_singles t (cell_at e c) (h c))))) (AllZip-length (CellEncloses s) p e encloses.cells)
     (over_cells p l u s e h encloses.cells within dir t)
 
 pub heads_within : HeadsAreWithin
@@ -96,7 +112,9 @@ module _ (p : List Entries) (l u : ℕ → ℤ) (dir : Dir) where
   unfolding term_of
   term_is t x e = chosen (is_small (term_pair p l u dir t)) x (term_pair p l u dir t) (too_large dir t) e
 
-  here : (t d : Term) (ts : List Term) (x : TermPair) (ys : List TermPair) → x ≡ term_pair p l u dir t → ((j : ℕ) → j < length ts → get_or ys j no_pair ≡ term_pair p l u dir (get_or ts j d)) → (i : ℕ) → i < suc (length ts) → get_or (x ∷ ys) i no_pair ≡ term_pair p l u dir (get_or (t ∷ ts) i d)
+  here : (t d : Term) (ts : List Term) (x : TermPair) (ys : List TermPair) → x ≡ term_pair p l u dir t →
+      ((j : ℕ) → j < length ts → get_or ys j no_pair ≡ term_pair p l u dir (get_or ts j d)) → (i : ℕ) → i < suc (length ts) → get_or (x ∷ ys) i no_pair ≡
+      term_pair p l u dir (get_or (t ∷ ts) i d)
   here t d ts x ys is rest zero h = is
   here t d ts x ys is rest (suc j) h = rest j (omega arith)
 
@@ -106,7 +124,8 @@ module _ (p : List Entries) (l u : ℕ → ℤ) (dir : Dir) where
   terms_are d (t ∷ ts) xs e i h =
       let (x, is_x, rest) = bound (term_of p l u dir t) (λ y. terms_of p l u dir ts >>= (λ ys. Ok (y ∷ ys))) xs e in
       let (ys, are_ys, whole) = bound (terms_of p l u dir ts) (λ ys. Ok (x ∷ ys)) xs rest in
-      subst (λ (zs : List TermPair). get_or zs i no_pair ≡ term_pair p l u dir (get_or (t ∷ ts) i d)) (ap (value_or (x ∷ ys)) whole) (here t d ts x ys (term_is t x is_x) (terms_are d ts ys are_ys) i h)
+      subst (λ (zs : List TermPair). get_or zs i no_pair ≡ term_pair p l u dir (get_or (t ∷ ts) i d)) (ap (value_or (x ∷ ys)) whole)
+      (here t d ts x ys (term_is t x is_x) (terms_are d ts ys are_ys) i h)
 
   term_at : (xs : List TermPair) (t : Term) → terms_of p l u dir all_terms ≡ Ok xs → get_or xs (place_of t) no_pair ≡ term_pair p l u dir t
   term_at xs t e = terms_are t all_terms xs e (place_of t) (place_within t) ∙ ap (term_pair p l u dir) (at_place t t)
@@ -118,7 +137,8 @@ bounds_are p l u b e dir t =
     let (out, is_out, whole) = bound (terms_of p l u Out all_terms) (λ out. Ok (record { into = into; out = out })) b rest in
     subst (λ (x : Budget). bounds_in x dir t ≡ term_pair p l u dir t) (ap (value_or (record { into = into; out = out })) whole) (either into out is_into is_out dir)
   where
-    either : (into out : List TermPair) → terms_of p l u In all_terms ≡ Ok into → terms_of p l u Out all_terms ≡ Ok out → (d : Dir) → bounds_in (record { into = into; out = out }) d t ≡ term_pair p l u d t
+    either : (into out : List TermPair) → terms_of p l u In all_terms ≡ Ok into → terms_of p l u Out all_terms ≡ Ok out → (d : Dir) →
+        bounds_in (record { into = into; out = out }) d t ≡ term_pair p l u d t
     either into out is_into is_out In = term_at p l u In into t is_into
     either into out is_into is_out Out = term_at p l u Out out t is_out
 

@@ -17,11 +17,14 @@ use Rattle.cell_balance.proofs.Gaps.{seen_bounds, fixed_seen, river_seen, drain_
 flow_bounds : (side : Side) (m n : ℕ) (p : Flow) (q : ℤ) → FlowWithin m n p q → Bounds side (flow_bound side p *ℤ pos (m * n)) q
 flow_bounds side m n p q r = bound_bounds side p.lo p.hi (m * n) q r.flow
 
-six : (side : Side) (a b c d e f k a' b' c' d' e' f' : ℤ) → Bounds side (a *ℤ k) a' → Bounds side (b *ℤ k) b' → Bounds side (c *ℤ k) c' → Bounds side (d *ℤ k) d' → Bounds side (e *ℤ k) e' → Bounds side (f *ℤ k) f' → Bounds side ((a +ℤ b +ℤ c +ℤ d +ℤ e +ℤ f) *ℤ k) (a' +ℤ b' +ℤ c' +ℤ d' +ℤ e' +ℤ f')
+six : (side : Side) (a b c d e f k a' b' c' d' e' f' : ℤ) → Bounds side (a *ℤ k) a' → Bounds side (b *ℤ k) b' → Bounds side (c *ℤ k) c' →
+    Bounds side (d *ℤ k) d' → Bounds side (e *ℤ k) e' → Bounds side (f *ℤ k) f' →
+    Bounds side ((a +ℤ b +ℤ c +ℤ d +ℤ e +ℤ f) *ℤ k) (a' +ℤ b' +ℤ c' +ℤ d' +ℤ e' +ℤ f')
 six Low a b c d e f k a' b' c' d' e' f' p q r s t u = simp add_mul (omega (arith, ints))
 six High a b c d e f k a' b' c' d' e' f' p q r s t u = simp add_mul (omega (arith, ints))
 
-pub balance_bounds : (side : Side) (m n cells : ℕ) (p : Entries) (w : WholeCell) → CellWithin m n cells p w → (v : ℤ) (h : ℕ → ℤ) → Bounds side (balance side p v h *ℤ pos (m * n)) (whole_balance w (v *ℤ pos n) (λ k. h k *ℤ pos n))
+pub balance_bounds : (side : Side) (m n cells : ℕ) (p : Entries) (w : WholeCell) → CellWithin m n cells p w → (v : ℤ) (h : ℕ → ℤ) →
+    Bounds side (balance side p v h *ℤ pos (m * n)) (whole_balance w (v *ℤ pos n) (λ k. h k *ℤ pos n))
 balance_bounds side m n cells p w e v h =
     let k = pos (m * n) in
     let y = v *ℤ pos n in
@@ -29,10 +32,14 @@ balance_bounds side m n cells p w e v h =
     six side _ _ _ _ _ _ k _ _ _ _ _ _
     (total_bounds side (FlowWithin m n) (flow_bound side) k (λ q. q) (flow_bounds side m n) p.flows w.flows e.flows)
     (total_bounds side (LinkWithin m n cells) (link_flow side h v) k (whole_link (λ k. h k *ℤ pos n) y) link p.links w.links e.links)
-    (total_bounds side (FixedWithin m n) (fixed_flow side v) k (whole_fixed y) (λ x z r. seen_bounds side OfFixed m n (λ u. fixed_flow side u x) z (fixed_seen m n side x z r) v y here) p.fixed w.fixed e.fixed)
-    (total_bounds side (RiverWithin m n) (river_flow side v) k (whole_river y) (λ x z r. seen_bounds side OfRiver m n (λ u. river_flow side u x) z (river_seen m n side x z r) v y here) p.rivers w.rivers e.rivers)
-    (total_bounds side (DrainWithin m n) (drain_flow side v) k (whole_drain y) (λ x z r. seen_bounds side OfDrain m n (λ u. drain_flow side u x) z (drain_seen m n side x z r) v y here) p.drains w.drains e.drains)
-    (total_bounds side (EvapWithin m n) (evap_flow side v) k (whole_evap y) (λ x z r. seen_bounds side OfEvap m n (λ u. evap_flow side u x) z (evap_seen m n side x z r) v y here) p.evaps w.evaps e.evaps)
+    (total_bounds side (FixedWithin m n) (fixed_flow side v) k (whole_fixed y) (λ x z r.
+    seen_bounds side OfFixed m n (λ u. fixed_flow side u x) z (fixed_seen m n side x z r) v y here) p.fixed w.fixed e.fixed)
+    (total_bounds side (RiverWithin m n) (river_flow side v) k (whole_river y) (λ x z r.
+    seen_bounds side OfRiver m n (λ u. river_flow side u x) z (river_seen m n side x z r) v y here) p.rivers w.rivers e.rivers)
+    (total_bounds side (DrainWithin m n) (drain_flow side v) k (whole_drain y) (λ x z r.
+    seen_bounds side OfDrain m n (λ u. drain_flow side u x) z (drain_seen m n side x z r) v y here) p.drains w.drains e.drains)
+    (total_bounds side (EvapWithin m n) (evap_flow side v) k (whole_evap y) (λ x z r.
+    seen_bounds side OfEvap m n (λ u. evap_flow side u x) z (evap_seen m n side x z r) v y here) p.evaps w.evaps e.evaps)
   where
     link : (p : Link) (w : WholeLink) → LinkWithin m n cells p w → Bounds side (link_flow side h v p *ℤ pos (m * n)) (whole_link (λ k. h k *ℤ pos n) (v *ℤ pos n) w)
     link p w e = rw e.same (entry_bounds side p.lo p.hi w.c m n (h w.cell -ℤ v) _ e.c (rw sub_mul (bounds_same side _)))
@@ -48,7 +55,8 @@ module _ (m n : ℕ) (some_m : 0 < m) (some_n : 0 < n) (p : List Entries) (w : L
     same_length = AllZip-length (CellWithin m n (length p)) p w within
 
     -- heads X at which no cell gains water lie nowhere below heads Z at which none loses water
-    highest : (X Z : ℕ → ℤ) → ((c : ℕ) → c < length p → X c <ℤ Z c → whole_balance (whole_at w c) (X c) X ≤ℤ pos 0) → ((c : ℕ) → c < length p → X c <ℤ Z c → pos 0 ≤ℤ whole_balance (whole_at w c) (Z c) Z) → (c : ℕ) → c < length p → Z c ≤ℤ X c
+    highest : (X Z : ℕ → ℤ) → ((c : ℕ) → c < length p → X c <ℤ Z c → whole_balance (whole_at w c) (X c) X ≤ℤ pos 0) →
+        ((c : ℕ) → c < length p → X c <ℤ Z c → pos 0 ≤ℤ whole_balance (whole_at w c) (Z c) Z) → (c : ℕ) → c < length p → Z c ≤ℤ X c
     highest X Z loses gains c i =
         comparison (length w) (a_of w) (b_of w) (q_of w) (ramps_from 0 w) (both_ways w both) (held_below m n some_m some_n p w within held) 1 X Z (omega arith)
         (λ k j up. rw (← balance_is_net_flow w X k (both.range k j)) (loses k (omega (arith, j, same_length)) up))
@@ -62,13 +70,15 @@ module _ (m n : ℕ) (some_m : 0 < m) (some_n : 0 < n) (p : List Entries) (w : L
       lets side given c i =
           elim (given c i) [
             | inl lies ↦ inl lies
-            | inr can ↦ inr (bounds_trans side _ _ _ (rw zero-*ℤ at (bounds_times side (m * n) _ _ can)) (balance_bounds side m n (length p) (entries_at p c) (whole_at w c) (cell_within m n p w within c i) (h c) h))
+            | inr can ↦ inr (bounds_trans side _ _ _ (rw zero-*ℤ at (bounds_times side (m * n) _ _ can))
+                (balance_bounds side m n (length p) (entries_at p c) (whole_at w c) (cell_within m n p w within c i) (h c) h))
           ]
 
       zero_at : (c : ℕ) → c < length p → whole_balance (whole_at w c) (Y c) Y ≡ pos 0
       zero_at c i = solves c (omega (arith, i, same_length))
 
-      pub compare : (side : Side) → ((c : ℕ) → c < length p → Bounds side (h c *ℤ pos n) (Y c) ⊎ Bounds side (pos 0) (balance side (entries_at p c) (h c) h)) → (c : ℕ) → c < length p → Bounds side (h c *ℤ pos n) (Y c)
+      pub compare : (side : Side) → ((c : ℕ) → c < length p → Bounds side (h c *ℤ pos n) (Y c) ⊎ Bounds side (pos 0) (balance side (entries_at p c) (h c) h)) →
+          (c : ℕ) → c < length p → Bounds side (h c *ℤ pos n) (Y c)
       compare Low given =
           highest Y (λ k. h k *ℤ pos n) (λ c i up. omega (arith, ints, zero_at c i))
           (λ c i up. elim (lets Low given c i) [ inl under ↦ absurd (omega (arith, ints, up, under)) | inr can ↦ can ])

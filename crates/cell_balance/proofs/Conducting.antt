@@ -60,13 +60,18 @@ pub both_ways : (w : List WholeCell) → IsMutual w → AreMutual (length w) (a_
 both_ways w both = record { nonneg = λ i j. weight_nonneg (whole_at w i).links j; same = both.same }
 
 -- over a set that no link leaves the flows over links cancel
-pub closed_cancel : (w : List WholeCell) (inside : ℕ → Bool) (Y : ℕ → ℤ) → IsMutual w → ((c : ℕ) → c < length w → inside c ≡ true → All (λ x. inside x.cell ≡ true) (whole_at w c).links) → sum_inside (length w) inside (λ c. total (whole_link Y (Y c)) (whole_at w c).links) ≡ pos 0
+pub closed_cancel : (w : List WholeCell) (inside : ℕ → Bool) (Y : ℕ → ℤ) → IsMutual w →
+    ((c : ℕ) → c < length w → inside c ≡ true → All (λ x. inside x.cell ≡ true) (whole_at w c).links) →
+    sum_inside (length w) inside (λ c. total (whole_link Y (Y c)) (whole_at w c).links) ≡ pos 0
 closed_cancel w inside Y both closed =
     sum-same (length w) _ _ (λ c i. ap (λ (z : ℤ). cond (inside c) z (pos 0)) (by_weight (length w) (whole_at w c).links (λ k. Y k -ℤ Y c) (both.range c i)))
     ∙ link_flows_cancel (length w) (a_of w) inside Y (both_ways w both) (λ i j h k t conducts. weight_is_of_links (λ z. inside z ≡ true) (whole_at w i).links j (closed i h t) conducts)
 
 -- The dry law: over such a set, each of whose heads lies at or below every bottom, elevation and fixed head there that conducts, the balances sum to at least the deep flows.
-pub dry_law : (w : List WholeCell) (Y : ℕ → ℤ) → IsMutual w → (inside : ℕ → Bool) (t : ℕ → ℤ) → ((c : ℕ) → c < length w → inside c ≡ true → (Y c ≤ℤ t c) × IsDry (t c) (whole_at w c)) → ((c : ℕ) → c < length w → inside c ≡ true → All (λ x. inside x.cell ≡ true) (whole_at w c).links) → sum_inside (length w) inside (λ c. whole_deep (whole_at w c)) ≤ℤ sum_inside (length w) inside (λ c. whole_balance (whole_at w c) (Y c) Y)
+pub dry_law : (w : List WholeCell) (Y : ℕ → ℤ) → IsMutual w → (inside : ℕ → Bool) (t : ℕ → ℤ) →
+    ((c : ℕ) → c < length w → inside c ≡ true → (Y c ≤ℤ t c) × IsDry (t c) (whole_at w c)) →
+    ((c : ℕ) → c < length w → inside c ≡ true → All (λ x. inside x.cell ≡ true) (whole_at w c).links) →
+    sum_inside (length w) inside (λ c. whole_deep (whole_at w c)) ≤ℤ sum_inside (length w) inside (λ c. whole_balance (whole_at w c) (Y c) Y)
 dry_law w Y both inside t dry closed =
     let links = λ (c : ℕ). total (whole_link Y (Y c)) (whole_at w c).links in
     let deep = λ (c : ℕ). whole_deep (whole_at w c) in

@@ -28,7 +28,9 @@ by_weight n (x ∷ xs) g h =
     ∙ rw (sum-one n x.cell (pos x.c) g range, others) refl)
 
 -- flows that change their sign at the other end cancel
-cancel : (n : ℕ) (links : ℕ → List WholeLink) (g : ℕ → ℕ → ℤ) → ((c : ℕ) → c < n → All (λ x. x.cell < n) (links c)) → ((c k : ℕ) → c < n → k < n → weight (links c) k ≡ weight (links k) c) → ((c k : ℕ) → g c k ≡ neg_ℤ (g k c)) → sum_below n (λ c. total (λ x. pos x.c *ℤ g c x.cell) (links c)) ≡ pos 0
+cancel : (n : ℕ) (links : ℕ → List WholeLink) (g : ℕ → ℕ → ℤ) → ((c : ℕ) → c < n → All (λ x. x.cell < n) (links c)) →
+    ((c k : ℕ) → c < n → k < n → weight (links c) k ≡ weight (links k) c) → ((c k : ℕ) → g c k ≡ neg_ℤ (g k c)) →
+    sum_below n (λ c. total (λ x. pos x.c *ℤ g c x.cell) (links c)) ≡ pos 0
 cancel n links g range same turned =
     sum-same n _ _ (λ c i. by_weight n (links c) (g c) (range c i))
     ∙ turned_cancel n (λ c k. weight (links c) k *ℤ g c k) (λ c k i j. rw (same c k i j, turned c k) (mul_neg (weight (links k) c) (g k c)))
@@ -59,14 +61,17 @@ split_link : (b : Bool) (c : ℕ) (d : ℤ) → pos c *ℤ d ≡ cond b (pos 0) 
 split_link true c d = omega (arith, ints)
 split_link false c d = rw *ℤ-zero (omega (arith, ints))
 
-one_cell : (inside : ℕ → Bool) (Y : ℕ → ℤ) (y other : ℤ) (links : List WholeLink) (b : Bool) → cond b (total (whole_link Y y) links +ℤ other) (pos 0) ≡ cond b (total (cut_link inside Y y) links +ℤ other) (pos 0) +ℤ total (λ x. pos x.c *ℤ cond b (cond (inside x.cell) (Y x.cell -ℤ y) (pos 0)) (pos 0)) links
+one_cell : (inside : ℕ → Bool) (Y : ℕ → ℤ) (y other : ℤ) (links : List WholeLink) (b : Bool) → cond b (total (whole_link Y y) links +ℤ other) (pos 0) ≡
+    cond b (total (cut_link inside Y y) links +ℤ other) (pos 0) +ℤ total (λ x. pos x.c *ℤ cond b (cond (inside x.cell) (Y x.cell -ℤ y) (pos 0)) (pos 0)) links
 one_cell inside Y y other links true =
     let split = total-add (whole_link Y y) (cut_link inside Y y) (λ x. pos x.c *ℤ cond (inside x.cell) (Y x.cell -ℤ y) (pos 0)) links (λ x. split_link (inside x.cell) x.c (Y x.cell -ℤ y)) in
     omega (arith, ints)
 one_cell inside Y y other links false = rw (total-none (λ x. Unit {0}) (λ x. pos x.c *ℤ pos 0) links (λ x u. *ℤ-zero (pos x.c)) (λ k d i. tt)) refl
 
 -- over any set of cells only the links that leave it count, whatever else each cell gets
-pub cut_links : (w : List WholeCell) (inside : ℕ → Bool) (Y other : ℕ → ℤ) → IsMutual w → sum_inside (length w) inside (λ c. total (whole_link Y (Y c)) (whole_at w c).links +ℤ other c) ≡ sum_inside (length w) inside (λ c. total (cut_link inside Y (Y c)) (whole_at w c).links +ℤ other c)
+pub cut_links : (w : List WholeCell) (inside : ℕ → Bool) (Y other : ℕ → ℤ) → IsMutual w →
+    sum_inside (length w) inside (λ c. total (whole_link Y (Y c)) (whole_at w c).links +ℤ other c) ≡
+    sum_inside (length w) inside (λ c. total (cut_link inside Y (Y c)) (whole_at w c).links +ℤ other c)
 cut_links w inside Y other both =
     let n = length w in
     let none_inside = cancel n (λ c. (whole_at w c).links) (inner inside Y) both.range both.same (λ c k. turned_cases (inside c) (inside k) (Y k) (Y c)) in

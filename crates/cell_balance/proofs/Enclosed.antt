@@ -44,7 +44,8 @@ module _ (s m n : ℕ) where
   pub link_within : (cells : ℕ) (p : Link) (e : ExactLink) (w : WholeLink) → LinkEncloses s p e → LinkOver (m * 10 ^ s) (n * 10 ^ 9) e w → (p.cell < cells) × (0 < p.lo) → LinkWithin m n cells p w
   link_within cells p e w r o good = record { same = r.cell ∙ o.same; range = good.0; conducts = good.1; c = between_share p.lo p.hi s m w.c e.conductance r.conductance o.c }
 
-  pub entry_within : (lo hi : ℕ) (a b p q : ℤ) (r : Ratio) (top foot : Fraction) (w : WholeEntry) → Encloses lo hi s r → EnclosesSigned a b 9 top → EnclosesSigned p q 9 foot → EntryOver (m * 10 ^ s) (n * 10 ^ 9) r top foot w → EntryWithin m n lo hi a b p q w
+  pub entry_within : (lo hi : ℕ) (a b p q : ℤ) (r : Ratio) (top foot : Fraction) (w : WholeEntry) → Encloses lo hi s r → EnclosesSigned a b 9 top →
+      EnclosesSigned p q 9 foot → EntryOver (m * 10 ^ s) (n * 10 ^ 9) r top foot w → EntryWithin m n lo hi a b p q w
   entry_within lo hi a b p q r top foot w conductance high low o = record {
     c = between_share lo hi s m w.c r conductance o.c;
     top = between_over a b 9 n top w.top high o.top;
@@ -54,15 +55,25 @@ module _ (s m n : ℕ) where
   module _ (cells : ℕ) where
     cell_within : (p : Entries) (e : ExactCell) (w : WholeCell) → CellEncloses s p e → CellOver (m * 10 ^ s) (n * 10 ^ 9) e w → LinksGood cells p → CellWithin m n cells p w
     cell_within p e w h o good = record {
-      flows = AllZip-compose (FlowEncloses s) (FlowOver (m * 10 ^ s) (n * 10 ^ 9)) (FlowWithin m n) (λ x. Unit {0}) (λ x y z r q u. flow_within x y z r q) p.flows e.flows w.flows h.flows o.flows (λ k d i. tt);
-      links = AllZip-compose (LinkEncloses s) (LinkOver (m * 10 ^ s) (n * 10 ^ 9)) (LinkWithin m n cells) (λ x. (x.cell < cells) × (0 < x.lo)) (link_within cells) p.links e.links w.links h.links o.links good;
-      fixed = AllZip-compose (FixedEncloses s) (FixedOver (m * 10 ^ s) (n * 10 ^ 9)) (FixedWithin m n) (λ x. Unit {0}) (λ x y z r o u. entry_within x.lo x.hi _ _ _ _ y.conductance y.head y.head z r.conductance r.head r.head o) p.fixed e.fixed w.fixed h.fixed o.fixed (λ k d i. tt);
-      rivers = AllZip-compose (RiverEncloses s) (RiverOver (m * 10 ^ s) (n * 10 ^ 9)) (RiverWithin m n) (λ x. Unit {0}) (λ x y z r o u. entry_within x.lo x.hi _ _ _ _ y.conductance y.stage y.bottom z r.conductance r.stage r.bottom o) p.rivers e.rivers w.rivers h.rivers o.rivers (λ k d i. tt);
-      drains = AllZip-compose (DrainEncloses s) (DrainOver (m * 10 ^ s) (n * 10 ^ 9)) (DrainWithin m n) (λ x. Unit {0}) (λ x y z r o u. entry_within x.lo x.hi _ _ _ _ y.conductance y.elevation y.elevation z r.conductance r.elevation r.elevation o) p.drains e.drains w.drains h.drains o.drains (λ k d i. tt);
-      evaps = AllZip-compose (EvapEncloses s) (EvapOver (m * 10 ^ s) (n * 10 ^ 9)) (EvapWithin m n) (λ x. Unit {0}) (λ x y z r o u. entry_within x.lo x.hi _ _ _ _ y.conductance y.surface y.extinction z r.conductance r.surface r.extinction o) p.evaps e.evaps w.evaps h.evaps o.evaps (λ k d i. tt);
+      flows = AllZip-compose (FlowEncloses s) (FlowOver (m * 10 ^ s) (n * 10 ^ 9)) (FlowWithin m n) (λ x. Unit {0}) (λ x y z r q u.
+          flow_within x y z r q) p.flows e.flows w.flows h.flows o.flows (λ k d i. tt);
+      links = AllZip-compose (LinkEncloses s) (LinkOver (m * 10 ^ s) (n * 10 ^ 9)) (LinkWithin m n cells) (λ x. (x.cell < cells) × (0 < x.lo))
+          (link_within cells) p.links e.links w.links h.links o.links good;
+      fixed = AllZip-compose (FixedEncloses s) (FixedOver (m * 10 ^ s) (n * 10 ^ 9)) (FixedWithin m n) (λ x. Unit {0}) (λ x y z r o u.
+          entry_within x.lo x.hi _ _ _ _ y.conductance y.head y.head z r.conductance r.head r.head o) p.fixed e.fixed w.fixed h.fixed o.fixed (λ k d i. tt);
+      rivers = AllZip-compose (RiverEncloses s) (RiverOver (m * 10 ^ s) (n * 10 ^ 9)) (RiverWithin m n) (λ x. Unit {0}) (λ x y z r o u.
+          entry_within x.lo x.hi _ _ _ _ y.conductance y.stage y.bottom z r.conductance r.stage r.bottom o) p.rivers e.rivers w.rivers h.rivers o.rivers
+          (λ k d i. tt);
+      drains = AllZip-compose (DrainEncloses s) (DrainOver (m * 10 ^ s) (n * 10 ^ 9)) (DrainWithin m n) (λ x. Unit {0}) (λ x y z r o u.
+          entry_within x.lo x.hi _ _ _ _ y.conductance y.elevation y.elevation z r.conductance r.elevation r.elevation o) p.drains e.drains w.drains h.drains
+          o.drains (λ k d i. tt);
+      evaps = AllZip-compose (EvapEncloses s) (EvapOver (m * 10 ^ s) (n * 10 ^ 9)) (EvapWithin m n) (λ x. Unit {0}) (λ x y z r o u.
+          entry_within x.lo x.hi _ _ _ _ y.conductance y.surface y.extinction z r.conductance r.surface r.extinction o) p.evaps e.evaps w.evaps h.evaps o.evaps
+          (λ k d i. tt);
     }
 
-    pub step_within : (p : List Entries) (e : List ExactCell) (w : List WholeCell) → AllZip (CellEncloses s) p e → AllZip (CellOver (m * 10 ^ s) (n * 10 ^ 9)) e w → All (LinksGood cells) p → AllZip (CellWithin m n cells) p w
+    pub step_within : (p : List Entries) (e : List ExactCell) (w : List WholeCell) → AllZip (CellEncloses s) p e →
+        AllZip (CellOver (m * 10 ^ s) (n * 10 ^ 9)) e w → All (LinksGood cells) p → AllZip (CellWithin m n cells) p w
     step_within p e w h o good = AllZip-compose (CellEncloses s) (CellOver (m * 10 ^ s) (n * 10 ^ 9)) (CellWithin m n cells) (LinksGood cells) cell_within p e w h o good
 
 module _ (s : ℕ) (p : List Entries) (e : List ExactCell) (fits : IsProblem p) (encloses : EnclosesStep s p e) where
@@ -74,7 +85,8 @@ module _ (s : ℕ) (p : List Entries) (e : List ExactCell) (fits : IsProblem p) 
 
   pub linked : AreLinked e
   linked = record {
-    range = λ c i. All-zip (LinkEncloses s) (λ x. x.cell < length p) (λ x. x.cell < length e) (λ x y r h. omega (arith, r.cell, h, same_length)) (entries_at p c).links (cell_at e c).links (cell_encloses c (omega (arith, same_length))).links (fits.links c (omega (arith, same_length))).within;
+    range = λ c i. All-zip (LinkEncloses s) (λ x. x.cell < length p) (λ x. x.cell < length e) (λ x y r h. omega (arith, r.cell, h, same_length))
+        (entries_at p c).links (cell_at e c).links (cell_encloses c (omega (arith, same_length))).links (fits.links c (omega (arith, same_length))).within;
     apart = λ c i j h less inside same.
         let here : c < length p = omega (arith, same_length, h) in
         let links = (cell_encloses c here).links in

@@ -60,7 +60,8 @@ pub share_is : (d j : ℕ) (z : ℤ) → 0 < d → IsOver (d * j) (share d z) (z
 share_is d j z some = grind (arith, mul_assoc, mul_comm)
 
 -- a solution, in whole numbers
-pub whole_solves : (k m : ℕ) (e : List ExactCell) (w : List WholeCell) (d : ℕ) (X Y : ℕ → ℤ) → AllZip (CellOver k m) e w → SolvesStep e d X → ((c : ℕ) → IsOver m (share d (X c)) (Y c)) → (c : ℕ) → c < length w → whole_balance (whole_at w c) (Y c) Y ≡ pos 0
+pub whole_solves : (k m : ℕ) (e : List ExactCell) (w : List WholeCell) (d : ℕ) (X Y : ℕ → ℤ) → AllZip (CellOver k m) e w → SolvesStep e d X →
+    ((c : ℕ) → IsOver m (share d (X c)) (Y c)) → (c : ℕ) → c < length w → whole_balance (whole_at w c) (Y c) Y ≡ pos 0
 whole_solves k m e w d X Y over solves heads c i =
     let here : c < length e = omega (arith, AllZip-length (CellOver k m) e w over, i) in
     zero_over (k * m) (balance (cell_at e c) (share d (X c)) (λ z. share d (X z))) _
@@ -79,7 +80,8 @@ pub record IsWholeSolution (p : List Entries) (d : ℕ) (X : ℕ → ℤ) (n : �
   pub solves : (c : ℕ) → c < length w → whole_balance (whole_at w c) (whole_head n X c) (whole_head n X) ≡ pos 0
 
 -- a solution of an exact step that a problem encloses, in whole numbers
-pub whole_solution : (p : List Entries) (s : ℕ) (e : List ExactCell) (d : ℕ) (X : ℕ → ℤ) → IsProblem p → EnclosesStep s p e → 0 < d → SolvesStep e d X → (n : ℕ) × (w : List WholeCell) × IsWholeSolution p d X n w
+pub whole_solution : (p : List Entries) (s : ℕ) (e : List ExactCell) (d : ℕ) (X : ℕ → ℤ) → IsProblem p → EnclosesStep s p e → 0 < d → SolvesStep e d X →
+    (n : ℕ) × (w : List WholeCell) × IsWholeSolution p d X n w
 whole_solution p s e d X problem encloses some solves =
     let (n, some_n, common) = step_common e in
     let (w, over') = whole_step n (10 ^ s) (d * 10 ^ 9) e common in
@@ -99,7 +101,8 @@ whole_solution p s e d X problem encloses some solves =
     assoc a b c = omega arith
 
     heads_over : (n c : ℕ) → IsOver (n * d * 10 ^ 9) (share d (X c)) (whole_head n X c)
-    heads_over n c = subst (λ (z : ℤ). IsOver (n * d * 10 ^ 9) (share d (X c)) z) (same (10 ^ 9)) (subst (λ (z : ℕ). IsOver z (share d (X c)) (X c *ℤ pos (10 ^ 9 * n))) (ring n d (10 ^ 9)) (share_is d (10 ^ 9 * n) (X c) some))
+    heads_over n c = subst (λ (z : ℤ). IsOver (n * d * 10 ^ 9) (share d (X c)) z) (same (10 ^ 9))
+        (subst (λ (z : ℕ). IsOver z (share d (X c)) (X c *ℤ pos (10 ^ 9 * n))) (ring n d (10 ^ 9)) (share_is d (10 ^ 9 * n) (X c) some))
       where
         ring : (n d t : ℕ) → d * (t * n) ≡ n * d * t
         ring n d t = omega arith

@@ -85,27 +85,33 @@ pub out_encloses : (a b : ℤ) (k : ℕ) (f : Fraction) → EnclosesSigned a b k
 out_encloses a b k f h = in_encloses (neg_ℤ b) (neg_ℤ a) k (opposite f) (negated_enclosed a b k f h)
 
 -- over lists that are related place by place
-pub total_encloses : {X Y : Type 0} (R : X → Y → Type 0) (lo hi : X → ℤ) (k : ℕ) (f : Y → Fraction) → ((x : X) (y : Y) → R x y → EnclosesSigned (lo x) (hi x) k (f y)) → (xs : List X) (ys : List Y) → AllZip R xs ys → EnclosesSigned (total lo xs) (total hi xs) k (fraction_total f ys)
+pub total_encloses : {X Y : Type 0} (R : X → Y → Type 0) (lo hi : X → ℤ) (k : ℕ) (f : Y → Fraction) →
+    ((x : X) (y : Y) → R x y → EnclosesSigned (lo x) (hi x) k (f y)) → (xs : List X) (ys : List Y) → AllZip R xs ys →
+    EnclosesSigned (total lo xs) (total hi xs) k (fraction_total f ys)
 total_encloses R lo hi k f each [] [] h = none_encloses k
 total_encloses R lo hi k f each (x ∷ xs) (y ∷ ys) h = plus_encloses _ _ _ _ k (f y) (fraction_total f ys) (each x y h.0) (total_encloses R lo hi k f each xs ys h.1)
 total_encloses _ lo hi k f each _ _ h = absurd h
 
 -- over the cells below a number
-pub below_encloses : (n : ℕ) (lo hi : ℕ → ℤ) (k : ℕ) (f : ℕ → Fraction) → ((c : ℕ) → c < n → EnclosesSigned (lo c) (hi c) k (f c)) → EnclosesSigned (sum_below n lo) (sum_below n hi) k (total_below n f)
+pub below_encloses : (n : ℕ) (lo hi : ℕ → ℤ) (k : ℕ) (f : ℕ → Fraction) → ((c : ℕ) → c < n → EnclosesSigned (lo c) (hi c) k (f c)) →
+    EnclosesSigned (sum_below n lo) (sum_below n hi) k (total_below n f)
 below_encloses zero lo hi k f each = none_encloses k
 below_encloses (suc n) lo hi k f each = plus_encloses _ _ _ _ k (total_below n f) (f n) (below_encloses n lo hi k f (λ c h. each c (omega arith))) (each n (omega arith))
 
 -- what a test keeps of related lists is related, where it tests both the same
-kept : {X Y : Type 0} (R : X → Y → Type 0) (p : X → Bool) (q : Y → Bool) (x : X) (y : Y) (xs : List X) (ys : List Y) (a : Bool) → p x ≡ a → q y ≡ a → R x y → AllZip R (filter p xs) (filter q ys) → AllZip R (filter p (x ∷ xs)) (filter q (y ∷ ys))
+kept : {X Y : Type 0} (R : X → Y → Type 0) (p : X → Bool) (q : Y → Bool) (x : X) (y : Y) (xs : List X) (ys : List Y) (a : Bool) → p x ≡ a → q y ≡ a → R x y →
+    AllZip R (filter p xs) (filter q ys) → AllZip R (filter p (x ∷ xs)) (filter q (y ∷ ys))
 kept R p q x y xs ys true e d r h = rw (e, d) (r, h)
 kept R p q x y xs ys false e d r h = rw (e, d) h
 
-pub AllZip-filter : {X Y : Type 0} (R : X → Y → Type 0) (p : X → Bool) (q : Y → Bool) → ((x : X) (y : Y) → R x y → p x ≡ q y) → (xs : List X) (ys : List Y) → AllZip R xs ys → AllZip R (filter p xs) (filter q ys)
+pub AllZip-filter : {X Y : Type 0} (R : X → Y → Type 0) (p : X → Bool) (q : Y → Bool) → ((x : X) (y : Y) → R x y → p x ≡ q y) → (xs : List X) (ys : List Y) →
+    AllZip R xs ys → AllZip R (filter p xs) (filter q ys)
 AllZip-filter R p q agree [] [] h = tt
 AllZip-filter R p q agree (x ∷ xs) (y ∷ ys) h = kept R p q x y xs ys (q y) (agree x y h.0) refl h.0 (AllZip-filter R p q agree xs ys h.1)
 AllZip-filter _ p q agree _ _ h = absurd h
 
-pub AllZip-map : {X Y V W : Type 0} (R : X → Y → Type 0) (S : V → W → Type 0) (f : X → V) (g : Y → W) → ((x : X) (y : Y) → R x y → S (f x) (g y)) → (xs : List X) (ys : List Y) → AllZip R xs ys → AllZip S (map f xs) (map g ys)
+pub AllZip-map : {X Y V W : Type 0} (R : X → Y → Type 0) (S : V → W → Type 0) (f : X → V) (g : Y → W) → ((x : X) (y : Y) → R x y → S (f x) (g y)) →
+    (xs : List X) (ys : List Y) → AllZip R xs ys → AllZip S (map f xs) (map g ys)
 AllZip-map R S f g each [] [] h = tt
 AllZip-map R S f g each (x ∷ xs) (y ∷ ys) h = (each x y h.0, AllZip-map R S f g each xs ys h.1)
 AllZip-map _ _ f g each _ _ h = absurd h

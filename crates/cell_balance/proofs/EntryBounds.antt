@@ -25,7 +25,8 @@ module _ (s : ℕ) (v : Fraction) (l u : ℤ) (own : EnclosesSigned l u 9 v) whe
 
   -- an entry's flow at that head, by a flow that bounds it on each side
   entry_holds : (k : Kind) (r : Ratio) (top foot f : Fraction) (bound : Side → ℤ → ℤ) →
-      ((d : ℕ) (y : ℤ) → IsOver (d * 10 ^ 9) v y → (w : WholeEntry) → EntryOver (d * 10 ^ s) (d * 10 ^ 9) r top foot w → IsOver (d * 10 ^ s * (d * 10 ^ 9)) f (whole_flow k y w) × ((side : Side) → IsSeen side k d d (bound side) w)) →
+      ((d : ℕ) (y : ℤ) → IsOver (d * 10 ^ 9) v y → (w : WholeEntry) → EntryOver (d * 10 ^ s) (d * 10 ^ 9) r top foot w →
+      IsOver (d * 10 ^ s * (d * 10 ^ 9)) f (whole_flow k y w) × ((side : Side) → IsSeen side k d d (bound side) w)) →
       EnclosesSigned (bound Low u) (bound High l) (s + 9) f
   entry_holds k r top foot f bound seen =
       let d = den v * entry_den r top foot in
@@ -35,7 +36,8 @@ module _ (s : ℕ) (v : Fraction) (l u : ℤ) (own : EnclosesSigned l u 9 v) whe
       enclosed s d f (whole_flow k y w) _ _ (mul-pos (omega arith) (some_entry r top foot)) is
       (seen_bounds Low k d d (bound Low) w (by Low) u y between.upper) (seen_bounds High k d d (bound High) w (by High) l y between.lower)
 
-  link_holds : (d : ℕ) → 0 < d → Goes (den v) d → (p : Link) (x : ExactLink) (h : ℕ → Fraction) (L U : ℕ → ℤ) → Goes (den (h x.cell)) d → Goes (link_den x) d → LinkEncloses s p x → EnclosesSigned (L x.cell) (U x.cell) 9 (h x.cell) → EnclosesSigned (link_on Low L u p) (link_on High U l p) (s + 9) (link_flow h v x)
+  link_holds : (d : ℕ) → 0 < d → Goes (den v) d → (p : Link) (x : ExactLink) (h : ℕ → Fraction) (L U : ℕ → ℤ) → Goes (den (h x.cell)) d → Goes (link_den x) d →
+      LinkEncloses s p x → EnclosesSigned (L x.cell) (U x.cell) 9 (h x.cell) → EnclosesSigned (link_on Low L u p) (link_on High U l p) (s + 9) (link_flow h v x)
   link_holds d some go p x h L U there goes e other =
       let (y, over, between) = head d go in
       let (z, over_z) = fraction_over d (10 ^ 9) (h x.cell) there in
@@ -44,18 +46,38 @@ module _ (s : ℕ) (v : Fraction) (l u : ℤ) (own : EnclosesSigned l u 9 v) whe
       let conducts = between_share p.lo p.hi s d c x.conductance e.conductance part in
       enclosed s d (link_flow h v x) (pos c *ℤ (z -ℤ y)) _ _ some
       (difference_over (d * 10 ^ s) (d * 10 ^ 9) c x.conductance (h x.cell) v z y part over_z over)
-      (subst (λ (k : ℕ). (least p.lo p.hi (L k -ℤ u) *ℤ pos (d * d)) ≤ℤ (pos c *ℤ (z -ℤ y))) (sym e.cell) (entry_bounds Low p.lo p.hi c d d (L x.cell -ℤ u) (z -ℤ y) conducts (rw sub_mul (omega (arith, ints, between_z.lower, between.upper)))))
-      (subst (λ (k : ℕ). (pos c *ℤ (z -ℤ y)) ≤ℤ (most p.lo p.hi (U k -ℤ l) *ℤ pos (d * d))) (sym e.cell) (entry_bounds High p.lo p.hi c d d (U x.cell -ℤ l) (z -ℤ y) conducts (rw sub_mul (omega (arith, ints, between_z.upper, between.lower)))))
+      (subst (λ (k : ℕ). (least p.lo p.hi (L k -ℤ u) *ℤ pos (d * d)) ≤ℤ (pos c *ℤ (z -ℤ y))) (sym e.cell)
+      (entry_bounds Low p.lo p.hi c d d (L x.cell -ℤ u) (z -ℤ y) conducts (rw sub_mul (omega (arith, ints, between_z.lower, between.upper)))))
+      (subst (λ (k : ℕ). (pos c *ℤ (z -ℤ y)) ≤ℤ (most p.lo p.hi (U k -ℤ l) *ℤ pos (d * d))) (sym e.cell)
+      (entry_bounds High p.lo p.hi c d d (U x.cell -ℤ l) (z -ℤ y) conducts (rw sub_mul (omega (arith, ints, between_z.upper, between.lower)))))
 
 pub bounds_hold : BoundsHold
 bounds_hold s v l u own = record {
-  links = λ p x h L U e other. link_holds s v l u own (den v * (den (h x.cell) * link_den x)) (mul-pos (omega arith) (mul-pos (omega arith) (omega arith))) (Goes-first (den v) _) p x h L U (left_goes (den (h x.cell)) (link_den x) _ (Goes-second (den v) _)) (right_goes (den (h x.cell)) (link_den x) _ (Goes-second (den v) _)) e other;
+  links = λ p x h L U e other. link_holds s v l u own (den v * (den (h x.cell) * link_den x)) (mul-pos (omega arith) (mul-pos (omega arith) (omega arith)))
+      (Goes-first (den v) _) p x h L U (left_goes (den (h x.cell)) (link_den x) _ (Goes-second (den v) _))
+      (right_goes (den (h x.cell)) (link_den x) _ (Goes-second (den v) _)) e other;
   fixed = λ p x e. entry_holds s v l u own OfFixed x.conductance x.head x.head (fixed_flow v x) (λ side z. fixed_on side z p)
-      (λ d y over w o. (fixed_over (d * 10 ^ s) (d * 10 ^ 9) v y over x w o, λ side. fixed_seen d d side p w (entry_within s d d p.lo p.hi _ _ _ _ x.conductance x.head x.head w e.conductance e.head e.head o)));
+      (λ d y over w o. (
+        fixed_over (d * 10 ^ s) (d * 10 ^ 9) v y over x w o,
+        λ side.
+            fixed_seen d d side p w (entry_within s d d p.lo p.hi _ _ _ _ x.conductance x.head x.head w e.conductance e.head e.head o),
+      ));
   rivers = λ p x e. entry_holds s v l u own OfRiver x.conductance x.stage x.bottom (river_flow v x) (λ side z. river_on side z p)
-      (λ d y over w o. (river_over (d * 10 ^ s) (d * 10 ^ 9) v y over x w o, λ side. river_seen d d side p w (entry_within s d d p.lo p.hi _ _ _ _ x.conductance x.stage x.bottom w e.conductance e.stage e.bottom o)));
+      (λ d y over w o. (
+        river_over (d * 10 ^ s) (d * 10 ^ 9) v y over x w o,
+        λ side.
+            river_seen d d side p w (entry_within s d d p.lo p.hi _ _ _ _ x.conductance x.stage x.bottom w e.conductance e.stage e.bottom o),
+      ));
   drains = λ p x e. entry_holds s v l u own OfDrain x.conductance x.elevation x.elevation (drain_flow v x) (λ side z. drain_on side z p)
-      (λ d y over w o. (drain_over (d * 10 ^ s) (d * 10 ^ 9) v y over x w o, λ side. drain_seen d d side p w (entry_within s d d p.lo p.hi _ _ _ _ x.conductance x.elevation x.elevation w e.conductance e.elevation e.elevation o)));
+      (λ d y over w o. (
+        drain_over (d * 10 ^ s) (d * 10 ^ 9) v y over x w o,
+        λ side.
+            drain_seen d d side p w (entry_within s d d p.lo p.hi _ _ _ _ x.conductance x.elevation x.elevation w e.conductance e.elevation e.elevation o),
+      ));
   evaps = λ p x e. entry_holds s v l u own OfEvap x.conductance x.surface x.extinction (evap_flow v x) (λ side z. evap_on side z p)
-      (λ d y over w o. (evap_over (d * 10 ^ s) (d * 10 ^ 9) v y over x w o, λ side. evap_seen d d side p w (entry_within s d d p.lo p.hi _ _ _ _ x.conductance x.surface x.extinction w e.conductance e.surface e.extinction o)));
+      (λ d y over w o. (
+        evap_over (d * 10 ^ s) (d * 10 ^ 9) v y over x w o,
+        λ side.
+            evap_seen d d side p w (entry_within s d d p.lo p.hi _ _ _ _ x.conductance x.surface x.extinction w e.conductance e.surface e.extinction o),
+      ));
 }

@@ -34,15 +34,24 @@ module _ (k m : ℕ) (some_k : 0 < k) (some_m : 0 < m) (v : Fraction) (y : ℤ) 
 
   fixed_laws : (x : ExactFixed) (w : WholeEntry) → FixedOver k m x w → FixedLaws v x
   fixed_laws x w r = record {
-    gives = λ c h. positive_above (k * m) (fixed_flow v x) (whole_fixed y w) some (fixed_over k m v y own x w r) (mul_positive w.c (w.top -ℤ y) (some_share k w.c x.conductance some_k c r.c) (let b = below_over m v x.head y w.top some_m own r.top h in omega (arith, ints, b)));
-    takes = λ c h. negative_below (k * m) (fixed_flow v x) (whole_fixed y w) some (fixed_over k m v y own x w r) (mul_negative w.c (w.top -ℤ y) (some_share k w.c x.conductance some_k c r.c) (let b = below_over m x.head v w.top y some_m r.top own h in omega (arith, ints, b)));
+    gives = λ c h. positive_above (k * m) (fixed_flow v x) (whole_fixed y w) some (fixed_over k m v y own x w r)
+        (mul_positive w.c (w.top -ℤ y) (some_share k w.c x.conductance some_k c r.c)
+        (let b = below_over m v x.head y w.top some_m own r.top h in omega (arith, ints, b)));
+    takes = λ c h. negative_below (k * m) (fixed_flow v x) (whole_fixed y w) some (fixed_over k m v y own x w r)
+        (mul_negative w.c (w.top -ℤ y) (some_share k w.c x.conductance some_k c r.c)
+        (let b = below_over m x.head v w.top y some_m r.top own h in omega (arith, ints, b)));
   }
 
   river_laws : (x : ExactRiver) (w : WholeEntry) → RiverOver k m x w → RiverLaws v x
   river_laws x w r = record {
-    takes = λ c h. negative_below (k * m) (river_flow v x) (whole_river y w) some (river_over k m v y own x w r) (mul_negative w.c (w.top -ℤ int_max y w.foot) (some_share k w.c x.conductance some_k c r.c) (let b = below_over m x.stage v w.top y some_m r.top own h in omega (arith, ints, clamps, b)));
-    above = λ h. same_over (k * m) _ _ _ _ some (river_over k m v y own x w r) (difference_over k m w.c x.conductance x.stage v w.top y r.c r.top own) (ap (λ (z : ℤ). pos w.c *ℤ (w.top -ℤ z)) (left (over_le m x.bottom v w.foot y r.foot own h)));
-    below = λ h. same_over (k * m) _ _ _ _ some (river_over k m v y own x w r) (difference_over k m w.c x.conductance x.stage x.bottom w.top w.foot r.c r.top r.foot) (ap (λ (z : ℤ). pos w.c *ℤ (w.top -ℤ z)) (right (over_le m v x.bottom y w.foot own r.foot h)));
+    takes = λ c h. negative_below (k * m) (river_flow v x) (whole_river y w) some (river_over k m v y own x w r)
+        (mul_negative w.c (w.top -ℤ int_max y w.foot) (some_share k w.c x.conductance some_k c r.c)
+        (let b = below_over m x.stage v w.top y some_m r.top own h in omega (arith, ints, clamps, b)));
+    above = λ h. same_over (k * m) _ _ _ _ some (river_over k m v y own x w r) (difference_over k m w.c x.conductance x.stage v w.top y r.c r.top own)
+        (ap (λ (z : ℤ). pos w.c *ℤ (w.top -ℤ z)) (left (over_le m x.bottom v w.foot y r.foot own h)));
+    below = λ h. same_over (k * m) _ _ _ _ some (river_over k m v y own x w r)
+        (difference_over k m w.c x.conductance x.stage x.bottom w.top w.foot r.c r.top r.foot)
+        (ap (λ (z : ℤ). pos w.c *ℤ (w.top -ℤ z)) (right (over_le m v x.bottom y w.foot own r.foot h)));
   }
     where
       left : w.foot ≤ℤ y → int_max y w.foot ≡ y
@@ -53,9 +62,11 @@ module _ (k m : ℕ) (some_k : 0 < k) (some_m : 0 < m) (v : Fraction) (y : ℤ) 
 
   drain_laws : (x : ExactDrain) (w : WholeEntry) → DrainOver k m x w → DrainLaws v x
   drain_laws x w r = record {
-    never_gives = negative_over (k * m) (drain_flow v x) (whole_drain y w) some (drain_over k m v y own x w r) (out (mul_nonneg (pos w.c) (int_max (y -ℤ w.foot) (pos 0)) (omega (arith, ints)) (omega (arith, ints, clamps))));
+    never_gives = negative_over (k * m) (drain_flow v x) (whole_drain y w) some (drain_over k m v y own x w r)
+        (out (mul_nonneg (pos w.c) (int_max (y -ℤ w.foot) (pos 0)) (omega (arith, ints)) (omega (arith, ints, clamps))));
     below = λ h. over_zero (k * m) (drain_flow v x) some (subst (λ (z : ℤ). IsOver (k * m) (drain_flow v x) z) (none (over_le m v x.elevation y w.foot own r.foot h)) (drain_over k m v y own x w r));
-    above = λ h. same_over (k * m) _ _ _ _ some (drain_over k m v y own x w r) (difference_over k m w.c x.conductance x.elevation v w.foot y r.c r.foot own) (wet (over_le m x.elevation v w.foot y r.foot own h));
+    above = λ h. same_over (k * m) _ _ _ _ some (drain_over k m v y own x w r) (difference_over k m w.c x.conductance x.elevation v w.foot y r.c r.foot own)
+        (wet (over_le m x.elevation v w.foot y r.foot own h));
   }
     where
       out : pos 0 ≤ℤ (pos w.c *ℤ int_max (y -ℤ w.foot) (pos 0)) → whole_drain y w ≤ℤ pos 0
@@ -72,10 +83,12 @@ module _ (k m : ℕ) (some_k : 0 < k) (some_m : 0 < m) (v : Fraction) (y : ℤ) 
 
   evap_laws : (x : ExactEvap) (w : WholeEntry) → EvapOver k m x w → EvapLaws v x
   evap_laws x w r = record {
-    never_gives = negative_over (k * m) (evap_flow v x) (whole_evap y w) some flow (out (mul_nonneg (pos w.c) (int_max (int_min y w.top -ℤ w.foot) (pos 0)) (omega (arith, ints)) (omega (arith, ints, clamps))));
+    never_gives = negative_over (k * m) (evap_flow v x) (whole_evap y w) some flow
+        (out (mul_nonneg (pos w.c) (int_max (int_min y w.top -ℤ w.foot) (pos 0)) (omega (arith, ints)) (omega (arith, ints, clamps))));
     at_most_full = le_over (k * m) (opposite (full_rate x)) (evap_flow v x) (neg_ℤ (whole_full w)) (whole_evap y w) some (all_out x w r) flow (evap_within_full y w);
     below = λ h. over_zero (k * m) (evap_flow v x) some (subst (λ (z : ℤ). IsOver (k * m) (evap_flow v x) z) (none (over_le m v x.extinction y w.foot own r.foot h)) flow);
-    between = λ h i. same_over (k * m) _ _ _ _ some flow (difference_over k m w.c x.conductance x.extinction v w.foot y r.c r.foot own) (middle (over_le m x.extinction v w.foot y r.foot own h) (over_le m v x.surface y w.top own r.top i));
+    between = λ h i. same_over (k * m) _ _ _ _ some flow (difference_over k m w.c x.conductance x.extinction v w.foot y r.c r.foot own)
+        (middle (over_le m x.extinction v w.foot y r.foot own h) (over_le m v x.surface y w.top own r.top i));
     above = λ h. same_over (k * m) _ _ _ _ some flow (all_out x w r) (top (over_le m x.surface v w.top y r.top own h));
   }
     where
@@ -89,7 +102,8 @@ module _ (k m : ℕ) (some_k : 0 < k) (some_m : 0 < m) (v : Fraction) (y : ℤ) 
       none h = let e : int_max (int_min y w.top -ℤ w.foot) (pos 0) ≡ pos 0 = omega (arith, ints, clamps) in rw (e, *ℤ-zero) refl
 
       middle : w.foot ≤ℤ y → y ≤ℤ w.top → whole_evap y w ≡ pos w.c *ℤ (w.foot -ℤ y)
-      middle h i = let e : neg_ℤ (int_max (int_min y w.top -ℤ w.foot) (pos 0)) ≡ w.foot -ℤ y = omega (arith, ints, clamps) in sym (mul_neg (pos w.c) (int_max (int_min y w.top -ℤ w.foot) (pos 0))) ∙ ap (λ (z : ℤ). pos w.c *ℤ z) e
+      middle h i = let e : neg_ℤ (int_max (int_min y w.top -ℤ w.foot) (pos 0)) ≡ w.foot -ℤ y = omega (arith, ints, clamps) in sym
+          (mul_neg (pos w.c) (int_max (int_min y w.top -ℤ w.foot) (pos 0))) ∙ ap (λ (z : ℤ). pos w.c *ℤ z) e
 
       top : w.top ≤ℤ y → whole_evap y w ≡ neg_ℤ (whole_full w)
       top h = let e : int_min y w.top ≡ w.top = omega (arith, ints, clamps) in ap (λ (z : ℤ). neg_ℤ (pos w.c *ℤ int_max (z -ℤ w.foot) (pos 0))) e

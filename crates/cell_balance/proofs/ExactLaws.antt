@@ -53,7 +53,8 @@ balance_rises c d v X Z some each =
     (balance_over (n * 1) (n * d) (share d v) (v *ℤ pos n) (heads_over n d some v) (λ k. share d (X k)) (λ k. X k *ℤ pos n) (λ k. heads_over n d some (X k)) c u over)
     (balance_over (n * 1) (n * d) (share d v) (v *ℤ pos n) (heads_over n d some v) (λ k. share d (Z k)) (λ k. Z k *ℤ pos n) (λ k. heads_over n d some (Z k)) c u over)
     (whole_rises u (v *ℤ pos n) (λ k. X k *ℤ pos n) (λ k. Z k *ℤ pos n)
-    (All-zip (LinkOver (n * 1) (n * d)) (λ x. X x.cell ≤ℤ Z x.cell) (λ x. (X x.cell *ℤ pos n) ≤ℤ (Z x.cell *ℤ pos n)) (λ x y r h. subst (λ (k : ℕ). (X k *ℤ pos n) ≤ℤ (Z k *ℤ pos n)) r.same (mul_mono_right n _ _ h)) c.links u.links over.links each))
+    (All-zip (LinkOver (n * 1) (n * d)) (λ x. X x.cell ≤ℤ Z x.cell) (λ x. (X x.cell *ℤ pos n) ≤ℤ (Z x.cell *ℤ pos n)) (λ x y r h.
+    subst (λ (k : ℕ). (X k *ℤ pos n) ≤ℤ (Z k *ℤ pos n)) r.same (mul_mono_right n _ _ h)) c.links u.links over.links each))
 
 module _ (k m : ℕ) (e : List ExactCell) (w : List WholeCell) (over : AllZip (CellOver k m) e w) where
   pub same_length : length e ≡ length w
@@ -65,13 +66,17 @@ module _ (k m : ℕ) (e : List ExactCell) (w : List WholeCell) (over : AllZip (C
   pub closed_whole : (inside : ℕ → Bool) → IsClosed e inside → (c : ℕ) → c < length w → inside c ≡ true → All (λ x. inside x.cell ≡ true) (whole_at w c).links
   closed_whole inside closed c i t =
       let here : c < length e = omega (arith, same_length, i) in
-      All-zip (LinkOver k m) (λ x. inside x.cell ≡ true) (λ x. inside x.cell ≡ true) (λ x y r h. subst (λ (z : ℕ). inside z ≡ true) r.same h) (cell_at e c).links (whole_at w c).links (cell_over c here).links (closed c here t)
+      All-zip (LinkOver k m) (λ x. inside x.cell ≡ true) (λ x. inside x.cell ≡ true) (λ x y r h. subst (λ (z : ℕ). inside z ≡ true) r.same h)
+      (cell_at e c).links (whole_at w c).links (cell_over c here).links (closed c here t)
 
   dry_over : (v : Fraction) (y : ℤ) (c : ExactCell) (u : WholeCell) → IsOver m v y → CellOver k m c u → LiesBelow v c → IsDry y u
   dry_over v y c u own o h = record {
-    fixed = All-zip (FixedOver k m) (λ x. 0 < x.conductance.num → AtMost v x.head) (λ x. (x.c ≡ 0) ⊎ (y ≤ℤ x.top)) (λ x z r b. case x.conductance z.c x.head z.top r.c r.top b) c.fixed u.fixed o.fixed h.fixed;
-    rivers = All-zip (RiverOver k m) (λ x. 0 < x.conductance.num → AtMost v x.bottom) (λ x. (x.c ≡ 0) ⊎ (y ≤ℤ x.foot)) (λ x z r b. case x.conductance z.c x.bottom z.foot r.c r.foot b) c.rivers u.rivers o.rivers h.rivers;
-    drains = All-zip (DrainOver k m) (λ x. 0 < x.conductance.num → AtMost v x.elevation) (λ x. (x.c ≡ 0) ⊎ (y ≤ℤ x.foot)) (λ x z r b. case x.conductance z.c x.elevation z.foot r.c r.foot b) c.drains u.drains o.drains h.drains;
+    fixed = All-zip (FixedOver k m) (λ x. 0 < x.conductance.num → AtMost v x.head) (λ x. (x.c ≡ 0) ⊎ (y ≤ℤ x.top)) (λ x z r b.
+        case x.conductance z.c x.head z.top r.c r.top b) c.fixed u.fixed o.fixed h.fixed;
+    rivers = All-zip (RiverOver k m) (λ x. 0 < x.conductance.num → AtMost v x.bottom) (λ x. (x.c ≡ 0) ⊎ (y ≤ℤ x.foot)) (λ x z r b.
+        case x.conductance z.c x.bottom z.foot r.c r.foot b) c.rivers u.rivers o.rivers h.rivers;
+    drains = All-zip (DrainOver k m) (λ x. 0 < x.conductance.num → AtMost v x.elevation) (λ x. (x.c ≡ 0) ⊎ (y ≤ℤ x.foot)) (λ x z r b.
+        case x.conductance z.c x.elevation z.foot r.c r.foot b) c.drains u.drains o.drains h.drains;
   }
     where
       case : (r : Ratio) (c : ℕ) (f : Fraction) (z : ℤ) → IsShare k r c → IsOver m f z → (0 < r.num → AtMost v f) → (c ≡ 0) ⊎ (y ≤ℤ z)
@@ -89,10 +94,15 @@ links_cancel e inside d X linked closed some =
     let Y = λ (k : ℕ). X k *ℤ pos n in
     let both = mutual_whole (n * 1) (n * d) e w linked over in
     let none = closed_cancel w inside Y both (closed_whole (n * 1) (n * d) e w over inside closed) in
-    let sum = IsOver-inside (n * 1 * (n * d)) (length e) inside (λ c. fraction_total (link_flow (λ k. share d (X k)) (share d (X c))) (cell_at e c).links) (λ c. total (whole_link Y (Y c)) (whole_at w c).links)
-    (λ c i. IsOver-total (LinkOver (n * 1) (n * d)) (n * 1 * (n * d)) _ _ (link_over (n * 1) (n * d) (share d (X c)) (Y c) (heads c) (λ k. share d (X k)) Y heads) (cell_at e c).links (whole_at w c).links (cell_over (n * 1) (n * d) e w over c i).links) in
+    let sum = IsOver-inside (n * 1 * (n * d)) (length e) inside (λ c. fraction_total (link_flow (λ k. share d (X k)) (share d (X c))) (cell_at e c).links) (λ c.
+    total (whole_link Y (Y c)) (whole_at w c).links)
+    (λ c i. IsOver-total (LinkOver (n * 1) (n * d)) (n * 1 * (n * d)) _ _
+    (link_over (n * 1) (n * d) (share d (X c)) (Y c) (heads c) (λ k. share d (X k)) Y heads) (cell_at e c).links (whole_at w c).links
+    (cell_over (n * 1) (n * d) e w over c i).links) in
     over_zero (n * 1 * (n * d)) _ (mul-pos (omega arith) (mul-pos some_n some))
-    (subst (λ (z : ℤ). IsOver (n * 1 * (n * d)) (total_inside (length e) inside (λ c. fraction_total (link_flow (λ k. share d (X k)) (share d (X c))) (cell_at e c).links)) z) (rw (same_length (n * 1) (n * d) e w over) none) sum)
+    (subst (λ (z : ℤ). IsOver (n * 1 * (n * d))
+    (total_inside (length e) inside (λ c. fraction_total (link_flow (λ k. share d (X k)) (share d (X c))) (cell_at e c).links)) z)
+    (rw (same_length (n * 1) (n * d) e w over) none) sum)
 
 pub exact_dry_law : DryLaw
 exact_dry_law e inside d X linked closed some below =
@@ -102,8 +112,16 @@ exact_dry_law e inside d X linked closed some below =
     let Y = λ (k : ℕ). X k *ℤ pos n in
     let both = mutual_whole (n * 1) (n * d) e w linked over in
     let same = same_length (n * 1) (n * d) e w over in
-    let law = dry_law w Y both inside Y (λ c i t. let here : c < length e = omega (arith, same, i) in (same_z (Y c), dry_over (n * 1) (n * d) e w over (share d (X c)) (Y c) (cell_at e c) (whole_at w c) (heads c) (cell_over (n * 1) (n * d) e w over c here) (below c here t))) (closed_whole (n * 1) (n * d) e w over inside closed) in
+    let law = dry_law w Y both inside Y (λ c i t.
+    let here : c < length e = omega (arith, same, i) in (
+      same_z (Y c),
+      dry_over (n * 1) (n * d) e w over (share d (X c)) (Y c) (cell_at e c) (whole_at w c) (heads c) (cell_over (n * 1) (n * d) e w over c here)
+          (below c here t),
+    )) (closed_whole (n * 1) (n * d) e w over inside closed) in
     le_over (n * 1 * (n * d)) _ _ _ _ (mul-pos (omega arith) (mul-pos some_n some))
-    (IsOver-inside (n * 1 * (n * d)) (length e) inside (λ c. deep_flow (cell_at e c)) (λ c. whole_deep (whole_at w c)) (λ c i. deep_over (n * 1) (n * d) (cell_at e c) (whole_at w c) (cell_over (n * 1) (n * d) e w over c i)))
-    (IsOver-inside (n * 1 * (n * d)) (length e) inside (λ c. balance (cell_at e c) (share d (X c)) (λ k. share d (X k))) (λ c. whole_balance (whole_at w c) (Y c) Y) (λ c i. balance_over (n * 1) (n * d) (share d (X c)) (Y c) (heads c) (λ k. share d (X k)) Y heads (cell_at e c) (whole_at w c) (cell_over (n * 1) (n * d) e w over c i)))
+    (IsOver-inside (n * 1 * (n * d)) (length e) inside (λ c. deep_flow (cell_at e c)) (λ c. whole_deep (whole_at w c)) (λ c i.
+    deep_over (n * 1) (n * d) (cell_at e c) (whole_at w c) (cell_over (n * 1) (n * d) e w over c i)))
+    (IsOver-inside (n * 1 * (n * d)) (length e) inside (λ c. balance (cell_at e c) (share d (X c)) (λ k. share d (X k))) (λ c.
+    whole_balance (whole_at w c) (Y c) Y) (λ c i. balance_over (n * 1) (n * d) (share d (X c)) (Y c) (heads c) (λ k. share d (X k)) Y heads (cell_at e c)
+    (whole_at w c) (cell_over (n * 1) (n * d) e w over c i)))
     (rw same law)

@@ -35,8 +35,12 @@ solves = of_three (λ c. (balance (cell_at example_step c) (share 3 (example_hea
 
 certificate : IsCertificate example_problem example_barrier example_lows example_highs
 certificate = record {
-  low = of_three (λ c. (example_lows c ≤ℤ head_at example_barrier.floor c) ⊎ (pos 0 ≤ℤ lower_balance (entries_at example_problem c) (example_lows c) example_lows)) (inr (omega (arith, ints))) (inr (omega (arith, ints))) (inr (omega (arith, ints)));
-  high = of_three (λ c. (head_at example_barrier.ceiling c ≤ℤ example_highs c) ⊎ (upper_balance (entries_at example_problem c) (example_highs c) example_highs ≤ℤ pos 0)) (inr (omega (arith, ints))) (inr (omega (arith, ints))) (inr (omega (arith, ints)));
+  low = of_three (λ c. (example_lows c ≤ℤ head_at example_barrier.floor c) ⊎
+      (pos 0 ≤ℤ lower_balance (entries_at example_problem c) (example_lows c) example_lows)) (inr (omega (arith, ints))) (inr (omega (arith, ints)))
+      (inr (omega (arith, ints)));
+  high = of_three (λ c. (head_at example_barrier.ceiling c ≤ℤ example_highs c) ⊎
+      (upper_balance (entries_at example_problem c) (example_highs c) example_highs ≤ℤ pos 0)) (inr (omega (arith, ints))) (inr (omega (arith, ints)))
+      (inr (omega (arith, ints)));
 }
 
 barrier : LiesBetween 3 3 example_heads (head_at example_barrier.floor) (head_at example_barrier.ceiling)

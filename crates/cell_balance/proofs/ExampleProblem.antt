@@ -33,8 +33,16 @@ cell_fits : (c : ℕ) → c < 3 → CellFits (entries_at example_problem c)
 cell_fits = of_three (λ c. CellFits (entries_at example_problem c))
     (record {
       links = single LinkFits _ (record { conducts = omega arith; ordered = omega arith });
-      fixed = double FixedFits zero_side old_head (record { ordered = omega arith; head_lo = is_low 1 (omega arith); head_hi = is_head 1 (omega arith) }) (record { ordered = omega arith; head_lo = is_head 3300000000 (omega arith); head_hi = is_head 3400000000 (omega arith) });
-      rivers = single RiverFits _ (record { ordered = omega arith; stage_lo = is_head _ (omega arith); stage_hi = is_head _ (omega arith); bottom_lo = is_head _ (omega arith); bottom_hi = is_head _ (omega arith) });
+      fixed = double FixedFits zero_side old_head (record { ordered = omega arith; head_lo = is_low 1 (omega arith); head_hi = is_head 1 (omega arith) })
+          (record { ordered = omega arith; head_lo = is_head 3300000000 (omega arith); head_hi = is_head 3400000000 (omega arith) });
+      rivers = single RiverFits _ (record {
+        ordered = omega arith;
+        stage_lo = is_head _ (omega arith);
+        stage_hi = is_head _ (omega arith);
+        bottom_lo =
+            is_head _ (omega arith);
+        bottom_hi = is_head _ (omega arith);
+      });
       drains = All-nil DrainFits;
       evaps = All-nil EvapFits;
       conductances = omega arith;
@@ -45,7 +53,15 @@ cell_fits = of_three (λ c. CellFits (entries_at example_problem c))
       fixed = single FixedFits _ (record { ordered = omega arith; head_lo = is_head _ (omega arith); head_hi = is_head _ (omega arith) });
       rivers = All-nil RiverFits;
       drains = All-nil DrainFits;
-      evaps = single EvapFits _ (record { ordered = omega arith; ext_lo = is_head _ (omega arith); ext_hi = is_head _ (omega arith); surf_lo = is_head _ (omega arith); surf_hi = is_head _ (omega arith); deep = omega (arith, ints) });
+      evaps = single EvapFits _ (record {
+        ordered = omega arith;
+        ext_lo = is_head _ (omega arith);
+        ext_hi = is_head _ (omega arith);
+        surf_lo =
+            is_head _ (omega arith);
+        surf_hi = is_head _ (omega arith);
+        deep = omega (arith, ints);
+      });
       conductances = omega arith;
       flows = omega arith;
     })

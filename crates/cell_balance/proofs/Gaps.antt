@@ -28,7 +28,8 @@ flow_is : (k : Kind) (v : ℤ) (x : WholeEntry) → whole_flow k v x ≡ pos x.c
 flow_is OfFixed v x = refl
 flow_is OfRiver v x = refl
 flow_is OfDrain v x = sym (mul_neg (pos x.c) _) ∙ ap (λ (z : ℤ). pos x.c *ℤ z) (let e : neg_ℤ (int_max (v -ℤ x.foot) (pos 0)) ≡ gap OfDrain x.top x.foot v = omega (arith, ints, clamps) in e)
-flow_is OfEvap v x = sym (mul_neg (pos x.c) _) ∙ ap (λ (z : ℤ). pos x.c *ℤ z) (let e : neg_ℤ (int_max (int_min v x.top -ℤ x.foot) (pos 0)) ≡ gap OfEvap x.top x.foot v = omega (arith, ints, clamps) in e)
+flow_is OfEvap v x = sym (mul_neg (pos x.c) _) ∙ ap (λ (z : ℤ). pos x.c *ℤ z)
+    (let e : neg_ℤ (int_max (int_min v x.top -ℤ x.foot) (pos 0)) ≡ gap OfEvap x.top x.foot v = omega (arith, ints, clamps) in e)
 
 gap_scales : (k : Kind) (t f v : ℤ) (n : ℕ) → gap k t f v *ℤ pos n ≡ gap k (t *ℤ pos n) (f *ℤ pos n) (v *ℤ pos n)
 gap_scales OfFixed t f v n = sub_mul t v (pos n)
@@ -73,10 +74,36 @@ module _ (m n : ℕ) where
   fixed_seen side p w e = let head = bound_on side p.head_lo p.head_hi in record { lo = p.lo; hi = p.hi; top = head; foot = head; is = λ v. refl; c = e.c; heads = bound_bounds side _ _ n w.top e.top }
 
   pub river_seen : (side : Side) (p : River) (w : WholeEntry) → RiverWithin m n p w → IsSeen side OfRiver m n (λ v. river_flow side v p) w
-  river_seen side p w e = record { lo = p.lo; hi = p.hi; top = bound_on side p.stage_lo p.stage_hi; foot = bound_on side p.bottom_hi p.bottom_lo; is = λ v. refl; c = e.c; heads = (bound_bounds side _ _ n w.top e.top, bounds_other side _ _ n w.foot e.foot) }
+  river_seen side p w e = record {
+    lo = p.lo;
+    hi = p.hi;
+    top = bound_on side p.stage_lo p.stage_hi;
+    foot = bound_on side p.bottom_hi p.bottom_lo;
+    is = λ v.
+        refl;
+    c = e.c;
+    heads = (bound_bounds side _ _ n w.top e.top, bounds_other side _ _ n w.foot e.foot);
+  }
 
   pub drain_seen : (side : Side) (p : Drain) (w : WholeEntry) → DrainWithin m n p w → IsSeen side OfDrain m n (λ v. drain_flow side v p) w
-  drain_seen side p w e = let head = bound_on side p.elev_lo p.elev_hi in record { lo = p.lo; hi = p.hi; top = head; foot = head; is = λ v. refl; c = e.c; heads = bound_bounds side _ _ n w.foot e.foot }
+  drain_seen side p w e = let head = bound_on side p.elev_lo p.elev_hi in record {
+    lo = p.lo;
+    hi = p.hi;
+    top = head;
+    foot = head;
+    is = λ v. refl;
+    c = e.c;
+    heads = bound_bounds side _ _ n w.foot e.foot;
+  }
 
   pub evap_seen : (side : Side) (p : Evap) (w : WholeEntry) → EvapWithin m n p w → IsSeen side OfEvap m n (λ v. evap_flow side v p) w
-  evap_seen side p w e = record { lo = p.lo; hi = p.hi; top = bound_on side p.surf_hi p.surf_lo; foot = bound_on side p.ext_lo p.ext_hi; is = λ v. refl; c = e.c; heads = (bounds_other side _ _ n w.top e.top, bound_bounds side _ _ n w.foot e.foot) }
+  evap_seen side p w e = record {
+    lo = p.lo;
+    hi = p.hi;
+    top = bound_on side p.surf_hi p.surf_lo;
+    foot = bound_on side p.ext_lo p.ext_hi;
+    is = λ v. refl;
+    c =
+        e.c;
+    heads = (bounds_other side _ _ n w.top e.top, bound_bounds side _ _ n w.foot e.foot);
+  }

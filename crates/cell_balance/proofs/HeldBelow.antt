@@ -22,10 +22,12 @@ pub cell_within : (m n : ℕ) (p : List Entries) (w : List WholeCell) → AllZip
 cell_within m n p w within c i = AllZip-at (CellWithin m n (length p)) p w c no_entries no_whole within i
 
 -- no link leaves a component
-closed_links : (m n : ℕ) (p : List Entries) (w : List WholeCell) → AllZip (CellWithin m n (length p)) p w → (c : ℕ) (T : ℕ → Bool) → IsComponent p c T → (k : ℕ) → k < length p → T k ≡ true → All (λ x. T x.cell ≡ true) (whole_at w k).links
+closed_links : (m n : ℕ) (p : List Entries) (w : List WholeCell) → AllZip (CellWithin m n (length p)) p w → (c : ℕ) (T : ℕ → Bool) → IsComponent p c T →
+    (k : ℕ) → k < length p → T k ≡ true → All (λ x. T x.cell ≡ true) (whole_at w k).links
 closed_links m n p w within c T component k i e =
     let (steps, way) = component.reached k e in
-    All-zip (LinkWithin m n (length p)) (λ x. T x.cell ≡ true) (λ x. T x.cell ≡ true) (λ x z r h. subst (λ (i : ℕ). T i ≡ true) r.same h) (entries_at p k).links (whole_at w k).links (cell_within m n p w within k i).links
+    All-zip (LinkWithin m n (length p)) (λ x. T x.cell ≡ true) (λ x. T x.cell ≡ true) (λ x z r h. subst (λ (i : ℕ). T i ≡ true) r.same h) (entries_at p k).links
+    (whole_at w k).links (cell_within m n p w within k i).links
     (λ g d h. component.whole (suc steps) _ (Reaches-more p steps c k (get_or (entries_at p k).links g d) way (Contains-get_or (entries_at p k).links g d h)))
 
 clash : (a b c : ℤ) → pos 0 <ℤ a → a ≤ℤ b → b ≤ℤ c → c ≡ pos 0 → ⊥
@@ -41,7 +43,8 @@ module _ (m n : ℕ) (some_m : 0 < m) (some_n : 0 < n) (p : List Entries) (w : L
     -- the cells of a carried component don't all lie below their bottoms and drains
     pub carried_not_dry : (c : ℕ) (held : IsCarried p c) (t : ℕ → ℤ) → ((k : ℕ) → k < length p → held.inside k ≡ true → (Y k ≤ℤ t k) × IsDry (t k) (whole_at w k)) → ⊥
     carried_not_dry c held t dry =
-        let sum = rw same_length at (sum_inside_times (length p) held.inside (λ k. deep_low (entries_at p k)) (λ k. whole_deep (whole_at w k)) (pos (m * n)) (λ k j e. deep_less m n (length p) (entries_at p k) (whole_at w k) (cell_within m n p w within k j))) in
+        let sum = rw same_length at (sum_inside_times (length p) held.inside (λ k. deep_low (entries_at p k)) (λ k. whole_deep (whole_at w k)) (pos (m * n))
+        (λ k j e. deep_less m n (length p) (entries_at p k) (whole_at w k) (cell_within m n p w within k j))) in
         let law = dry_law w Y both held.inside t (λ k j e. dry k (rw same_length j) e) (λ k j e. closed_links m n p w within c held.inside held.component k (rw same_length j) e) in
         let none = sum_inside-zero (length w) held.inside (λ k. whole_balance (whole_at w k) (Y k) Y) solves in
         clash _ _ _ (positive_times _ (m * n) (mul-pos some_m some_n) (rw same_length at held.carries)) sum law none
@@ -81,7 +84,8 @@ module _ (m n : ℕ) (some_m : 0 < m) (some_n : 0 < n) (p : List Entries) (w : L
     some_conducts lo hi c between none h = omega (arith, conducting m lo c some_m h between.lower)
 
     pub no_fixed : (c : ℕ) → c < length p → b_of w c ≡ 0 → All (λ x. 0 < x.lo → ⊥) (entries_at p c).fixed
-    no_fixed c i none = All-back (FixedWithin m n) (λ x. 0 < x.lo → ⊥) (λ x. x.c ≡ 0) (λ x y r e. some_conducts x.lo x.hi y.c r.c e) (entries_at p c).fixed (whole_at w c).fixed (cell_within m n p w within c i).fixed (no_known_conductance (whole_at w c).fixed none)
+    no_fixed c i none = All-back (FixedWithin m n) (λ x. 0 < x.lo → ⊥) (λ x. x.c ≡ 0) (λ x y r e. some_conducts x.lo x.hi y.c r.c e) (entries_at p c).fixed
+        (whole_at w c).fixed (cell_within m n p w within c i).fixed (no_known_conductance (whole_at w c).fixed none)
 
     -- held below
     pub held_below : IsHeldBelow p → IsHeldFromBelow (length w) (a_of w) (b_of w) (q_of w) (ramps_from 0 w)
@@ -95,14 +99,17 @@ module _ (m n : ℕ) (some_m : 0 < m) (some_n : 0 < n) (p : List Entries) (w : L
             carried.inside,
             record {
               closed = λ k z k_in z_in k_inside conducts.
-                  weight_is_of_links (λ y. carried.inside y ≡ true) (whole_at w k).links z (closed_links m n p w within c carried.inside carried.component k (omega (arith, k_in, as_many)) k_inside) conducts;
+                  weight_is_of_links (λ y. carried.inside y ≡ true) (whole_at w k).links z
+                  (closed_links m n p w within c carried.inside carried.component k (omega (arith, k_in, as_many)) k_inside) conducts;
               within = λ k k_in k_inside. let (j, way) = carried.component.reached k k_inside in (along S closed j c k i inside way).1;
-              carries = sums carried.inside carried.carries (λ k k_in k_inside. let (j, way) = carried.component.reached k k_inside in none k (omega (arith, k_in, as_many)) (along S closed j c k i inside way).1);
+              carries = sums carried.inside carried.carries (λ k k_in k_inside.
+                  let (j, way) = carried.component.reached k k_inside in none k (omega (arith, k_in, as_many)) (along S closed j c k i inside way).1);
             },
           )
         ]
       where
-        sums : (T : ℕ → Bool) → pos 0 <ℤ sum_inside (length p) T (λ k. deep_low (entries_at p k)) → ((k : ℕ) → k < length p → T k ≡ true → b_of w k ≡ 0) → pos 0 <ℤ sum_inside (length w) T (deep (length w) (a_of w) (b_of w) (q_of w) (ramps_from 0 w))
+        sums : (T : ℕ → Bool) → pos 0 <ℤ sum_inside (length p) T (λ k. deep_low (entries_at p k)) → ((k : ℕ) → k < length p → T k ≡ true → b_of w k ≡ 0) →
+            pos 0 <ℤ sum_inside (length w) T (deep (length w) (a_of w) (b_of w) (q_of w) (ramps_from 0 w))
         sums T some none =
             let less = sum_inside_times (length p) T (λ k. deep_low (entries_at p k)) (deep (length w) (a_of w) (b_of w) (q_of w) (ramps_from 0 w)) (pos (m * n))
             (λ k k_in e. rw (deep-loose w k (none k k_in e)) (deep_less m n (length p) (entries_at p k) (whole_at w k) (cell_within m n p w within k k_in))) in

@@ -71,7 +71,9 @@ module _ (k m : ℕ) (e : List ExactCell) (w : List WholeCell) (linked : AreLink
       ((link_over c i h (omega arith)).same ∙ same ∙ sym (link_over c j h inside).same)
 
   -- the link back of a link, in whole numbers
-  back : (c d i : ℕ) → c < length w → i < length (whole_at w c).links → (get_or (whole_at w c).links i no_whole_link).cell ≡ d → d < length w → (j : ℕ) × (j < length (whole_at w d).links) × ((get_or (whole_at w d).links j no_whole_link).cell ≡ c) × ((get_or (whole_at w d).links j no_whole_link).c ≡ (get_or (whole_at w c).links i no_whole_link).c)
+  back : (c d i : ℕ) → c < length w → i < length (whole_at w c).links → (get_or (whole_at w c).links i no_whole_link).cell ≡ d → d < length w → (j : ℕ) ×
+      (j < length (whole_at w d).links) × ((get_or (whole_at w d).links j no_whole_link).cell ≡ c) ×
+      ((get_or (whole_at w d).links j no_whole_link).c ≡ (get_or (whole_at w c).links i no_whole_link).c)
   back c d i h j is inside =
       let here = link_over c i h j in
       let ends = All-get_or (HasLinkBack e c) (cell_at e c).links i no_link (omega (arith, same_links c h)) (linked.ends c (omega (arith, same_length))) in
@@ -83,7 +85,8 @@ module _ (k m : ℕ) (e : List ExactCell) (w : List WholeCell) (linked : AreLink
         place,
         short_w,
         sym over_there.same ∙ ap (λ (z : ExactLink). z.cell) is_back ∙ ends.leads_back,
-        same_share k _ _ ends.back.conductance (get_or (cell_at e c).links i no_link).conductance ends.same (subst (λ (z : ExactLink). IsShare k z.conductance (get_or (whole_at w d).links place no_whole_link).c) is_back over_there.c) here.c,
+        same_share k _ _ ends.back.conductance (get_or (cell_at e c).links i no_link).conductance ends.same
+            (subst (λ (z : ExactLink). IsShare k z.conductance (get_or (whole_at w d).links place no_whole_link).c) is_back over_there.c) here.c,
       )
     where
       default_free : (xs : List ExactLink) (i : ℕ) (x : ExactLink) → i < length xs → get_or xs i x ≡ x → get_or xs i no_link ≡ x
@@ -105,6 +108,7 @@ module _ (k m : ℕ) (e : List ExactCell) (w : List WholeCell) (linked : AreLink
 
   pub mutual_whole : IsMutual w
   mutual_whole = record {
-    range = λ c h. All-zip (LinkOver k m) (λ x. x.cell < length e) (λ x. x.cell < length w) (λ x y r i. omega (arith, r.same, i, same_length)) (cell_at e c).links (whole_at w c).links (cell_over c h).links (linked.range c (omega (arith, same_length)));
+    range = λ c h. All-zip (LinkOver k m) (λ x. x.cell < length e) (λ x. x.cell < length w) (λ x y r i. omega (arith, r.same, i, same_length))
+        (cell_at e c).links (whole_at w c).links (cell_over c h).links (linked.range c (omega (arith, same_length)));
     same = same_weight;
   }

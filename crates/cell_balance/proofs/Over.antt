@@ -43,7 +43,8 @@ module _ (k m : ℕ) where
     pub evaps : AllZip EvapOver e.evaps w.evaps
 
   pub deep_river_over : (e : ExactRiver) (w : WholeEntry) → RiverOver e w → IsOver (k * m) (deep_river e) (whole_deep_river w)
-  deep_river_over e w r = IsOver-times k m (as_fraction e.conductance) (minus e.stage e.bottom) (pos w.c) _ (IsOver-signed k e.conductance w.c r.c) (IsOver-minus m e.stage e.bottom w.top w.foot r.top r.foot)
+  deep_river_over e w r = IsOver-times k m (as_fraction e.conductance) (minus e.stage e.bottom) (pos w.c) _ (IsOver-signed k e.conductance w.c r.c)
+      (IsOver-minus m e.stage e.bottom w.top w.foot r.top r.foot)
 
   pub full_over : (e : ExactEvap) (w : WholeEntry) → EvapOver e w → IsOver (k * m) (full_rate e) (whole_full w)
   full_over e w r =
@@ -77,14 +78,17 @@ module _ (k m : ℕ) where
     pub drain_over : (e : ExactDrain) (w : WholeEntry) → DrainOver e w → IsOver (k * m) (drain_flow v e) (whole_drain y w)
     drain_over e w r =
         let depth = IsOver-greater m (minus v e.elevation) (whole (pos 0)) (y -ℤ w.foot) (pos 0) (IsOver-minus m v e.elevation y w.foot own r.foot) (IsOver-none m) in
-        let out = IsOver-times k m (as_fraction e.conductance) (greater (minus v e.elevation) (whole (pos 0))) (pos w.c) (int_max (y -ℤ w.foot) (pos 0)) (IsOver-signed k e.conductance w.c r.c) depth in
+        let out = IsOver-times k m (as_fraction e.conductance) (greater (minus v e.elevation) (whole (pos 0))) (pos w.c) (int_max (y -ℤ w.foot) (pos 0))
+        (IsOver-signed k e.conductance w.c r.c) depth in
         IsOver-negated (k * m) (times (as_fraction e.conductance) (greater (minus v e.elevation) (whole (pos 0)))) (pos w.c *ℤ int_max (y -ℤ w.foot) (pos 0)) out
 
     pub evap_over : (e : ExactEvap) (w : WholeEntry) → EvapOver e w → IsOver (k * m) (evap_flow v e) (whole_evap y w)
     evap_over e w r =
         let top = IsOver-lesser m v e.surface y w.top own r.top in
-        let depth = IsOver-greater m (minus (lesser v e.surface) e.extinction) (whole (pos 0)) (int_min y w.top -ℤ w.foot) (pos 0) (IsOver-minus m (lesser v e.surface) e.extinction (int_min y w.top) w.foot top r.foot) (IsOver-none m) in
-        let out = IsOver-times k m (as_fraction e.conductance) (greater (minus (lesser v e.surface) e.extinction) (whole (pos 0))) (pos w.c) (int_max (int_min y w.top -ℤ w.foot) (pos 0)) (IsOver-signed k e.conductance w.c r.c) depth in
+        let depth = IsOver-greater m (minus (lesser v e.surface) e.extinction) (whole (pos 0)) (int_min y w.top -ℤ w.foot) (pos 0)
+        (IsOver-minus m (lesser v e.surface) e.extinction (int_min y w.top) w.foot top r.foot) (IsOver-none m) in
+        let out = IsOver-times k m (as_fraction e.conductance) (greater (minus (lesser v e.surface) e.extinction) (whole (pos 0))) (pos w.c)
+        (int_max (int_min y w.top -ℤ w.foot) (pos 0)) (IsOver-signed k e.conductance w.c r.c) depth in
         IsOver-negated (k * m) (times (as_fraction e.conductance) (greater (minus (lesser v e.surface) e.extinction) (whole (pos 0)))) (pos w.c *ℤ int_max (int_min y w.top -ℤ w.foot) (pos 0)) out
 
     pub balance_over : (h : ℕ → Fraction) (Y : ℕ → ℤ) → ((c : ℕ) → IsOver m (h c) (Y c)) → (e : ExactCell) (w : WholeCell) → CellOver e w → IsOver (k * m) (balance e v h) (whole_balance w y Y)
@@ -95,7 +99,8 @@ module _ (k m : ℕ) where
         let rivers = IsOver-total RiverOver (k * m) (river_flow v) (whole_river y) river_over e.rivers w.rivers r.rivers in
         let drains = IsOver-total DrainOver (k * m) (drain_flow v) (whole_drain y) drain_over e.drains w.drains r.drains in
         let evaps = IsOver-total EvapOver (k * m) (evap_flow v) (whole_evap y) evap_over e.evaps w.evaps r.evaps in
-        rw (six (total (λ q. q) w.flows) (total (whole_link Y y) w.links) (total (whole_fixed y) w.fixed) (total (whole_river y) w.rivers) (total (whole_drain y) w.drains) (total (whole_evap y) w.evaps))
+        rw (six (total (λ q. q) w.flows) (total (whole_link Y y) w.links) (total (whole_fixed y) w.fixed) (total (whole_river y) w.rivers)
+        (total (whole_drain y) w.drains) (total (whole_evap y) w.evaps))
         (IsOver-plus (k * m) _ _ _ _ flows (IsOver-plus (k * m) _ _ _ _ links (IsOver-plus (k * m) _ _ _ _ fixed (IsOver-plus (k * m) _ _ _ _ rivers (IsOver-plus (k * m) _ _ _ _ drains evaps)))))
       where
         six : (a b c d e f : ℤ) → a +ℤ b +ℤ c +ℤ d +ℤ e +ℤ f ≡ a +ℤ (b +ℤ (c +ℤ (d +ℤ (e +ℤ f))))

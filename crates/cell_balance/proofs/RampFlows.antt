@@ -18,7 +18,8 @@ flows_fall d x y i [] h = omega (arith, ints)
 flows_fall d x y i (r ∷ rs) h = omega (arith, ints, flow_falls d x y i r h, flows_fall d x y i rs h)
 
 -- a ramp that carries no more at the higher of two heads carries at most its full rate
-carries_within_full : (c : ℕ) (t : ℤ) (top : Option ℤ) (d : ℕ) (x y : ℤ) → x <ℤ y → neg_ℤ (pos c *ℤ rise t top d x) ≤ℤ neg_ℤ (pos c *ℤ rise t top d y) → neg_ℤ (pos d *ℤ (pos c *ℤ extent t top)) ≤ℤ neg_ℤ (pos c *ℤ rise t top d y)
+carries_within_full : (c : ℕ) (t : ℤ) (top : Option ℤ) (d : ℕ) (x y : ℤ) → x <ℤ y → neg_ℤ (pos c *ℤ rise t top d x) ≤ℤ neg_ℤ (pos c *ℤ rise t top d y) →
+    neg_ℤ (pos d *ℤ (pos c *ℤ extent t top)) ≤ℤ neg_ℤ (pos c *ℤ rise t top d y)
 carries_within_full zero t None d x y h k = grind (arith, rise)
 carries_within_full (suc c) t None d x y h k =
     let low = cancel_le (suc c) (rise t None d y) (rise t None d x) (omega arith) (omega (arith, ints)) in
@@ -38,7 +39,8 @@ flow_within_full : (d : ℕ) (x y : ℤ) (i : ℕ) (r : Ramp) → x <ℤ y → r
 flow_within_full d x y i r h k = grind (arith, nat_eq, rise, extent, carries_within_full)
 
 -- ramps that carry no more at the higher of two heads carry at most their full rates
-pub flows_within_full : (d : ℕ) (x y : ℤ) (i : ℕ) (rs : List Ramp) → x <ℤ y → total (ramp_flow d x i) rs ≤ℤ total (ramp_flow d y i) rs → neg_ℤ (pos d *ℤ total (full_rate i) rs) ≤ℤ total (ramp_flow d y i) rs
+pub flows_within_full : (d : ℕ) (x y : ℤ) (i : ℕ) (rs : List Ramp) → x <ℤ y → total (ramp_flow d x i) rs ≤ℤ total (ramp_flow d y i) rs →
+    neg_ℤ (pos d *ℤ total (full_rate i) rs) ≤ℤ total (ramp_flow d y i) rs
 flows_within_full d x y i [] h k = omega (arith, ints)
 flows_within_full d x y i (r ∷ rs) h k =
     let first = flow_falls d x y i r (omega (arith, ints)) in

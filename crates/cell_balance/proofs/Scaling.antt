@@ -105,7 +105,8 @@ IsOver-greater d f g a b p q = grind (arith, max_times, crossed, crossed_back, d
 pub IsOver-lesser : (d : ℕ) (f g : Fraction) (a b : ℤ) → IsOver d f a → IsOver d g b → IsOver d (lesser f g) (int_min a b)
 IsOver-lesser d f g a b p q = grind (arith, min_times, crossed, crossed_back, den_product)
 
-pub IsOver-total : {X Y : Type 0} (R : X → Y → Type 0) (d : ℕ) (f : X → Fraction) (g : Y → ℤ) → ((x : X) (y : Y) → R x y → IsOver d (f x) (g y)) → (xs : List X) (ys : List Y) → AllZip R xs ys → IsOver d (fraction_total f xs) (total g ys)
+pub IsOver-total : {X Y : Type 0} (R : X → Y → Type 0) (d : ℕ) (f : X → Fraction) (g : Y → ℤ) → ((x : X) (y : Y) → R x y → IsOver d (f x) (g y)) →
+    (xs : List X) (ys : List Y) → AllZip R xs ys → IsOver d (fraction_total f xs) (total g ys)
 IsOver-total R d f g each [] [] h = IsOver-none d
 IsOver-total R d f g each (x ∷ xs) (y ∷ ys) h = IsOver-plus d (f x) (fraction_total f xs) (g y) (total g ys) (each x y h.0) (IsOver-total R d f g each xs ys h.1)
 IsOver-total _ d f g each _ _ h = absurd h

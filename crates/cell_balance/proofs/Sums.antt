@@ -54,7 +54,12 @@ sum-swap (suc n) m f = rw (sum-swap n m f) (sym (sum-add m (λ j. sum_below n (�
 -- terms that change their sign with their two indices cancel
 pub turned_cancel : (n : ℕ) (f : ℕ → ℕ → ℤ) → ((i j : ℕ) → i < n → j < n → f i j ≡ neg_ℤ (f j i)) → sum_below n (λ i. sum_below n (f i)) ≡ pos 0
 turned_cancel n f turned =
-    omega (arith, ints, sum-same n _ _ (λ i h. sum-same n _ _ (λ j k. turned i j h k)) ∙ sum-swap n n (λ i j. neg_ℤ (f j i)) ∙ sum-same n _ _ (λ j h. sum-neg n (f j)) ∙ sum-neg n (λ j. sum_below n (f j)))
+    omega (
+      arith,
+      ints,
+      sum-same n _ _ (λ i h. sum-same n _ _ (λ j k. turned i j h k)) ∙ sum-swap n n (λ i j. neg_ℤ (f j i)) ∙ sum-same n _ _ (λ j h.
+          sum-neg n (f j)) ∙ sum-neg n (λ j. sum_below n (f j)),
+    )
 
 pub sum_at_most : (n : ℕ) (f g : ℕ → ℤ) → ((k : ℕ) → k < n → f k ≤ℤ g k) → sum_below n f ≤ℤ sum_below n g
 sum_at_most zero f g h = omega (arith, ints)
@@ -123,7 +128,8 @@ inside_flow_turned false true a b y z e = refl
 inside_flow_turned false false a b y z e = refl
 
 pub link_flows_cancel : (n : ℕ) (a : ℕ → ℕ → ℤ) (T : ℕ → Bool) (Y : ℕ → ℤ) → AreMutual n a → IsClosed n a T → sum_inside n T (link_flow n a Y) ≡ pos 0
-link_flows_cancel n a T Y both closed = sum-same n _ _ (λ i h. row i h (T i) refl) ∙ turned_cancel n (inside_flow T a Y) (λ i j h k. inside_flow_turned (T i) (T j) (a i j) (a j i) (Y j) (Y i) (both.same i j h k))
+link_flows_cancel n a T Y both closed = sum-same n _ _ (λ i h. row i h (T i) refl) ∙ turned_cancel n (inside_flow T a Y) (λ i j h k.
+    inside_flow_turned (T i) (T j) (a i j) (a j i) (Y j) (Y i) (both.same i j h k))
   where
     none : (i j : ℕ) → i < n → j < n → T i ≡ true → T j ≡ false → (z : ℤ) → a i j *ℤ z ≡ pos 0
     none i j h k inside outside z =
@@ -140,7 +146,8 @@ link_flows_cancel n a T Y both closed = sum-same n _ _ (λ i h. row i h (T i) re
     row i h false e = sym (sum-zero n)
 
 -- over a closed set whose flows g sum above 0 not every cell loses water
-pub carried_gain : (n : ℕ) (a : ℕ → ℕ → ℤ) (T : ℕ → Bool) (Y g : ℕ → ℤ) (d : ℕ) → AreMutual n a → IsClosed n a T → 0 < d → pos 0 <ℤ sum_inside n T g → ((i : ℕ) → i < n → T i ≡ true → (link_flow n a Y i +ℤ pos d *ℤ g i) ≤ℤ pos 0) → ⊥
+pub carried_gain : (n : ℕ) (a : ℕ → ℕ → ℤ) (T : ℕ → Bool) (Y g : ℕ → ℤ) (d : ℕ) → AreMutual n a → IsClosed n a T → 0 < d → pos 0 <ℤ sum_inside n T g →
+    ((i : ℕ) → i < n → T i ≡ true → (link_flow n a Y i +ℤ pos d *ℤ g i) ≤ℤ pos 0) → ⊥
 carried_gain n a T Y g d both closed some carries loses =
     let less = sum_inside_at_most n T (λ i. link_flow n a Y i +ℤ pos d *ℤ g i) (λ i. pos 0) loses in
     let split = sum_inside-add n T (link_flow n a Y) (λ i. pos d *ℤ g i) in

@@ -122,7 +122,8 @@ rivers_scaled_total d i y [] = none (pos d)
   where
     none : (d : ℤ) → pos 0 ≡ d *ℤ pos 0 +ℤ pos 0
     none d = rw (*ℤ-zero d) refl
-rivers_scaled_total d i y (x ∷ xs) = rw (rivers_scaled_total d i y xs, apart y (x.foot *ℤ pos d)) (ring (pos x.c) x.top x.foot (pos d) (int_max (y -ℤ x.foot *ℤ pos d) (pos 0)) (total whole_deep_river xs) (total (λ x. ramp_gives d y (open_ramp i x)) xs))
+rivers_scaled_total d i y (x ∷ xs) = rw (rivers_scaled_total d i y xs, apart y (x.foot *ℤ pos d))
+    (ring (pos x.c) x.top x.foot (pos d) (int_max (y -ℤ x.foot *ℤ pos d) (pos 0)) (total whole_deep_river xs) (total (λ x. ramp_gives d y (open_ramp i x)) xs))
   where
     apart : (y b : ℤ) → int_max y b ≡ b +ℤ int_max (y -ℤ b) (pos 0)
     apart y b = omega (arith, ints, clamps)
@@ -131,7 +132,8 @@ rivers_scaled_total d i y (x ∷ xs) = rw (rivers_scaled_total d i y xs, apart y
     ring c s b d m t g = rw (as_diff c, as_diff s, as_diff b, as_diff d, as_diff m, as_diff t, as_diff g) (simp diffs (same_diff _ _ _ _ (omega arith)))
 
 -- a cell's balance at heads over d
-pub scaled_balance : (w : List WholeCell) (d : ℕ) (X : ℕ → ℤ) (i : ℕ) → All (λ x. x.cell < length w) (whole_at w i).links → whole_balance (scaled d (whole_at w i)) (X i) X ≡ net_flow (length w) (a_of w) (b_of w) (q_of w) (ramps_from 0 w) d X i
+pub scaled_balance : (w : List WholeCell) (d : ℕ) (X : ℕ → ℤ) (i : ℕ) → All (λ x. x.cell < length w) (whole_at w i).links →
+    whole_balance (scaled d (whole_at w i)) (X i) X ≡ net_flow (length w) (a_of w) (b_of w) (q_of w) (ramps_from 0 w) d X i
 scaled_balance w d X i range =
     let u = whole_at w i in
     rw (
@@ -143,7 +145,9 @@ scaled_balance w d X i range =
       by_weight (length w) u.links (λ k. X k -ℤ X i) range,
       ramps_at_cell (ramp_gives d (X i)) i w,
     )
-    (ring (pos d) (total (λ q. q) u.flows) (sum_below (length w) (λ k. weight u.links k *ℤ (X k -ℤ X i))) (total known_flow u.fixed) (pos (known_conductance u.fixed) *ℤ X i) (total whole_deep_river u.rivers) (total (λ x. ramp_gives d (X i) (open_ramp i x)) u.rivers) (total (λ x. ramp_gives d (X i) (open_ramp i x)) u.drains) (total (λ x. ramp_gives d (X i) (evap_ramp i x)) u.evaps))
+    (ring (pos d) (total (λ q. q) u.flows) (sum_below (length w) (λ k. weight u.links k *ℤ (X k -ℤ X i))) (total known_flow u.fixed)
+    (pos (known_conductance u.fixed) *ℤ X i) (total whole_deep_river u.rivers) (total (λ x. ramp_gives d (X i) (open_ramp i x)) u.rivers)
+    (total (λ x. ramp_gives d (X i) (open_ramp i x)) u.drains) (total (λ x. ramp_gives d (X i) (evap_ramp i x)) u.evaps))
   where
     ring : (d f l g b s r o e : ℤ) → d *ℤ f +ℤ l +ℤ (d *ℤ g -ℤ b) +ℤ (d *ℤ s +ℤ r) +ℤ o +ℤ e ≡ l +ℤ (d *ℤ (f +ℤ g +ℤ s) -ℤ b) +ℤ (r +ℤ (o +ℤ e))
     ring d f l g b s r o e = rw (as_diff d, as_diff f, as_diff l, as_diff g, as_diff b, as_diff s, as_diff r, as_diff o, as_diff e) (simp diffs (same_diff _ _ _ _ (omega arith)))
@@ -159,5 +163,7 @@ times_one z = omega (arith, ints)
 scaled_one : (u : WholeCell) → scaled 1 u ≡ u
 scaled_one u = grind (arith, map-same, times_one)
 
-pub balance_is_net_flow : (w : List WholeCell) (X : ℕ → ℤ) (i : ℕ) → All (λ x. x.cell < length w) (whole_at w i).links → whole_balance (whole_at w i) (X i) X ≡ net_flow (length w) (a_of w) (b_of w) (q_of w) (ramps_from 0 w) 1 X i
-balance_is_net_flow w X i range = subst (λ (u : WholeCell). whole_balance u (X i) X ≡ net_flow (length w) (a_of w) (b_of w) (q_of w) (ramps_from 0 w) 1 X i) (scaled_one (whole_at w i)) (scaled_balance w 1 X i range)
+pub balance_is_net_flow : (w : List WholeCell) (X : ℕ → ℤ) (i : ℕ) → All (λ x. x.cell < length w) (whole_at w i).links → whole_balance (whole_at w i) (X i) X ≡
+    net_flow (length w) (a_of w) (b_of w) (q_of w) (ramps_from 0 w) 1 X i
+balance_is_net_flow w X i range = subst (λ (u : WholeCell). whole_balance u (X i) X ≡ net_flow (length w) (a_of w) (b_of w) (q_of w) (ramps_from 0 w) 1 X i)
+    (scaled_one (whole_at w i)) (scaled_balance w 1 X i range)

@@ -22,7 +22,9 @@ All-zip R P Q each (x ∷ xs) (y ∷ ys) h a = All-cons Q y ys (each x y h.0 (Al
 All-zip _ _ _ each _ _ h a = absurd h
 
 -- two relations in a row, where a fact holds of each left element
-pub AllZip-compose : {X Y Z : Type 0} (R : X → Y → Type 0) (S : Y → Z → Type 0) (T : X → Z → Type 0) (P : X → Type 0) → ((x : X) (y : Y) (z : Z) → R x y → S y z → P x → T x z) → (xs : List X) (ys : List Y) (zs : List Z) → AllZip R xs ys → AllZip S ys zs → All P xs → AllZip T xs zs
+pub AllZip-compose : {X Y Z : Type 0} (R : X → Y → Type 0) (S : Y → Z → Type 0) (T : X → Z → Type 0) (P : X → Type 0) →
+    ((x : X) (y : Y) (z : Z) → R x y → S y z → P x → T x z) → (xs : List X) (ys : List Y) (zs : List Z) → AllZip R xs ys → AllZip S ys zs → All P xs →
+    AllZip T xs zs
 AllZip-compose R S T P each [] [] [] h k a = tt
 AllZip-compose R S T P each [] (y ∷ ys) zs h k a = absurd h
 AllZip-compose R S T P each (x ∷ xs) [] zs h k a = absurd h

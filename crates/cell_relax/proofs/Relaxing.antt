@@ -37,7 +37,8 @@ abbrev pub IsBalanceAt : Side → List Entries → ℕ → List ℤ → ℤ → 
 IsBalanceAt side p c values v b = (h : ℕ → ℤ) → ends_in h (entries_at p c).links ≡ values → b ≡ balance side (entries_at p c) v h
 
 module _ (side : Side) (p : List Entries) (c : ℕ) (own : ℤ) (values : List ℤ) where
-  pub relax_reaches : (reached beyond middle at b : ℤ) → Relaxing side p c own values reached beyond → reached <ℤ middle → middle <ℤ beyond → at ≡ turned_on side middle → IsBalanceAt side p c values at b → LetsMove side b → Relaxing side p c own values middle beyond
+  pub relax_reaches : (reached beyond middle at b : ℤ) → Relaxing side p c own values reached beyond → reached <ℤ middle → middle <ℤ beyond → at ≡
+      turned_on side middle → IsBalanceAt side p c values at b → LetsMove side b → Relaxing side p c own values middle beyond
   relax_reaches reached beyond middle at b s above below turned is lets = record {
     head = record { above = omega (arith, ints, above, s.head.above); below = omega (arith, ints, below, s.limit) };
     no_looser = omega (arith, ints, above, s.no_looser);
@@ -47,7 +48,8 @@ module _ (side : Side) (p : List Entries) (c : ℕ) (own : ℤ) (values : List �
     may_not = s.may_not;
   }
 
-  pub relax_bounds : (reached beyond middle at b : ℤ) → Relaxing side p c own values reached beyond → reached <ℤ middle → middle <ℤ beyond → at ≡ turned_on side middle → IsBalanceAt side p c values at b → (LetsMove side b → ⊥) → Relaxing side p c own values reached middle
+  pub relax_bounds : (reached beyond middle at b : ℤ) → Relaxing side p c own values reached beyond → reached <ℤ middle → middle <ℤ beyond → at ≡
+      turned_on side middle → IsBalanceAt side p c values at b → (LetsMove side b → ⊥) → Relaxing side p c own values reached middle
   relax_bounds reached beyond middle at b s above below turned is stops = record {
     head = s.head;
     no_looser = s.no_looser;
@@ -58,7 +60,8 @@ module _ (side : Side) (p : List Entries) (c : ℕ) (own : ℤ) (values : List �
         (λ le. absurd (stops (subst (LetsMove side) (sym (is h e)) (subst (λ (x : ℤ). Moves side p c x h) (sym turned) (falls_on side (entries_at p c) h middle v le moves)))));
   }
 
-  pub relax_end : (reached beyond : ℤ) → Relaxing side p c own values reached beyond → (beyond -ℤ reached) ≤ℤ pos 1 → (l : ℕ → ℤ) → l c ≡ own → ends_in l (entries_at p c).links ≡ values → IsRelaxedOn side p l c (turned_on side reached)
+  pub relax_end : (reached beyond : ℤ) → Relaxing side p c own values reached beyond → (beyond -ℤ reached) ≤ℤ pos 1 → (l : ℕ → ℤ) → l c ≡ own →
+      ends_in l (entries_at p c).links ≡ values → IsRelaxedOn side p l c (turned_on side reached)
   relax_end reached beyond s near l here ends = record {
     no_looser = subst (λ (x : ℤ). IsAsTight side x (turned_on side reached)) (sym here) (tight_turned side own reached s.no_looser);
     furthest = λ v in_range moves.
@@ -75,7 +78,8 @@ pub ends_in_range : (n : ℕ) (h : ℕ → ℤ) → ((c : ℕ) → c < n → IsH
 ends_in_range n h heads links within = All-map IsHead (λ (x : Link). h x.cell) links (λ k d i. heads (get_or links k d).cell (within k d i))
 
 -- one more head is read
-pub read_more : (values : List ℤ) (links : List Link) (h : ℕ → ℤ) (i : ℕ) (z : ℤ) → i < length values → i < length links → take i values ≡ ends_in h (take i links) → z ≡ h (link_at links i).cell → take (i + 1) (slice_set values i z) ≡ ends_in h (take (i + 1) links)
+pub read_more : (values : List ℤ) (links : List Link) (h : ℕ → ℤ) (i : ℕ) (z : ℤ) → i < length values → i < length links → take i values ≡
+    ends_in h (take i links) → z ≡ h (link_at links i).cell → take (i + 1) (slice_set values i z) ≡ ends_in h (take (i + 1) links)
 read_more values links h i z room here before is =
     take_more_set values i z room ∙ ap (λ (xs : List ℤ). xs ++ z ∷ []) before ∙ ap (λ (x : ℤ). ends_in h (take i links) ++ x ∷ []) is
     ∙ sym (ap (λ (xs : List Link). ends_in h xs) (take_more links i no_link here) ∙ map-append (λ (x : Link). h x.cell) (take i links) (link_at links i ∷ []))

@@ -96,7 +96,8 @@ module _ (m : FlowModel) (s : ℕ) (at : TimeStep) (old : List Bound) (es : List
       is_to c (ToGeneral head conductance) = refl
       is_to c FromStorage = refl
 
-pub have_branches : (a : FlowModel) (o : Option FlowModel) (s : ℕ) (at : TimeStep) (old : List Bound) (es : List Entries) → IsModel a → IfSome o (IsSecond a) → IsProblemBy a o s at old es → HaveBranches a at.period es
+pub have_branches : (a : FlowModel) (o : Option FlowModel) (s : ℕ) (at : TimeStep) (old : List Bound) (es : List Entries) → IsModel a → IfSome o (IsSecond a) →
+    IsProblemBy a o s at old es → HaveBranches a at.period es
 have_branches a None s at old es valid second is = of_problem a s at old es is
 have_branches a (Some b) s at old es valid second is =
     let k = hull_parts a b s at old es valid second.alike is in
@@ -154,7 +155,8 @@ module _ (zones : List ℕ) (l u : ℕ → ℤ) where
     link_end c x g i face v e = ap (λ k. (entries_at es k).id) e ∙ end_is g.end v (end_within m.grid c g size (variable-In m p (cell_count m.grid) c i).1 face)
 
     -- A face joins a pair that share_face names.
-    joins_pair : (c : ℕ) (g : ModelFace) (z : ZonePair) → In (variable_cells m p) c → IsFaceOf m.grid c g → is_active m g.end ≡ true → Crosses c g.end z ⊎ Crosses g.end c z → share_face m zones p z ≡ true
+    joins_pair : (c : ℕ) (g : ModelFace) (z : ZonePair) → In (variable_cells m p) c → IsFaceOf m.grid c g → is_active m g.end ≡ true → Crosses c g.end z ⊎
+        Crosses g.end c z → share_face m zones p z ≡ true
     joins_pair c g z i face active h =
         shares m zones p z (record { cell = c; face = g; variable = i; neighbour = faces_have m.grid c g face; active = active; join = joined h })
       where
@@ -162,11 +164,13 @@ module _ (zones : List ℕ) (l u : ℕ → ℤ) where
         joined (inl k) = (let a = k.from in let b = k.to in let d = k.lower in grind (arith, nat_tests))
         joined (inr k) = (let a = k.from in let b = k.to in let d = k.lower in grind (arith, nat_tests))
 
-    fixed_shares : (e : Entries) (c : ℕ) (x : Fixed) (t : FixedSource) (f : Face) → e.id ≡ c → In (variable_cells m p) c → In (fixed_sources m p c) t → IsTo m p x t → In (fixed_faces zones l u e x) f → share_face m zones p (zones_of_face f) ≡ true
+    fixed_shares : (e : Entries) (c : ℕ) (x : Fixed) (t : FixedSource) (f : Face) → e.id ≡ c → In (variable_cells m p) c → In (fixed_sources m p c) t →
+        IsTo m p x t → In (fixed_faces zones l u e x) f → share_face m zones p (zones_of_face f) ≡ true
     fixed_shares e c x (ToConstant g) f id i j is k =
         let (face, constant) = passing_are m.grid (is_constant m p) c g (fixed_source m p c (ToConstant g) j) in
         joins_pair c g (zones_of_face f) i face (constant_active m p g.end constant)
-        (elim (In-append (face_from zones l u e.id x.source x.lo x.hi) (face_from zones l u x.source e.id x.lo x.hi) f (subst (λ kind. In (faces_by_kind zones l u kind e.id x.source x.lo x.hi) f) is.0 k)) [
+        (elim (In-append (face_from zones l u e.id x.source x.lo x.hi) (face_from zones l u x.source e.id x.lo x.hi) f
+        (subst (λ kind. In (faces_by_kind zones l u kind e.id x.source x.lo x.hi) f) is.0 k)) [
           | inl n ↦ inl (crosses e.id x.source x.lo x.hi c g.end f id is.1 n)
           | inr n ↦ inr (crosses x.source e.id x.lo x.hi g.end c f is.1 id n)
         ])
@@ -183,7 +187,8 @@ module _ (zones : List ℕ) (l u : ℕ → ℤ) where
               (let (x, a, b) = flat-In (link_faces zones l u es e) e.links f n in
               let (g, d, leads) = left_of (LeadsTo m p) e.links (variable_faces m p c) x is.links a in
               let (face, variable) = passing_are m.grid (is_variable m p) c g d in
-              joins_pair c g (zones_of_face f) v face (variable_active m p g.end variable) (inl (crosses e.id (entries_at es x.cell).id x.lo x.hi c g.end f is.id (link_end c x g v face variable leads) b)))
+              joins_pair c g (zones_of_face f) v face (variable_active m p g.end variable)
+              (inl (crosses e.id (entries_at es x.cell).id x.lo x.hi c g.end f is.id (link_end c x g v face variable leads) b)))
           | inr n ↦
               (let (x, a, b) = flat-In (fixed_faces zones l u e) e.fixed f n in
               let (t, d, to) = left_of (IsTo m p) e.fixed (fixed_sources m p c) x is.fixed a in
@@ -208,22 +213,34 @@ module _ (zones : List ℕ) (l u : ℕ → ℤ) where
         let among = left_in (flat_map (link_faces zones l u es e) e.links) (flat_map (fixed_faces zones l u e) e.fixed) f (flat_in (link_faces zones l u es e) e.links x f k n) in
         shown (faces zones l u es) z f (flat_in (cell_faces zones l u es) es e f j among) from to
 
-    fixed_has : (c : ℕ) (g : ModelFace) (z : ZonePair) → In (variable_cells m p) c → IsFaceOf m.grid c g → is_constant m p g.end ≡ true → Crosses c g.end z ⊎ Crosses g.end c z → share (faces zones l u es) z ≡ true
+    fixed_has : (c : ℕ) (g : ModelFace) (z : ZonePair) → In (variable_cells m p) c → IsFaceOf m.grid c g → is_constant m p g.end ≡ true → Crosses c g.end z ⊎
+        Crosses g.end c z → share (faces zones l u es) z ≡ true
     unfolding faces cell_faces
     fixed_has c g z i face constant h =
         let (e, j, is) = right_of (HasBranches m p) es (variable_cells m p) c are i in
-        let source = left_in _ (filter_map as_general (local_entries m p c)) (ToConstant g) (right_in (option_to_list (storage_at m p)) _ (ToConstant g) (In-map ToConstant (constant_faces m p c) g (passing_have m.grid (is_constant m p) c g face constant))) in
+        let source = left_in _ (filter_map as_general (local_entries m p c)) (ToConstant g)
+        (right_in (option_to_list (storage_at m p)) _ (ToConstant g)
+        (In-map ToConstant (constant_faces m p c) g (passing_have m.grid (is_constant m p) c g face constant))) in
         let (x, k, to) = right_of (IsTo m p) e.fixed (fixed_sources m p c) (ToConstant g) is.fixed source in
         let ahead = face_from zones l u e.id x.source x.lo x.hi in
         let back = face_from zones l u x.source e.id x.lo x.hi in
         let (f, n, ends) = either e c x g z is.id to.1 h in
-        let among = right_in (flat_map (link_faces zones l u es e) e.links) (flat_map (fixed_faces zones l u e) e.fixed) f (flat_in (fixed_faces zones l u e) e.fixed x f k (subst (λ kind. In (faces_by_kind zones l u kind e.id x.source x.lo x.hi) f) (sym to.0) n)) in
+        let among = right_in (flat_map (link_faces zones l u es e) e.links) (flat_map (fixed_faces zones l u e) e.fixed) f
+        (flat_in (fixed_faces zones l u e) e.fixed x f k (subst (λ kind. In (faces_by_kind zones l u kind e.id x.source x.lo x.hi) f) (sym to.0) n)) in
         shown (faces zones l u es) z f (flat_in (cell_faces zones l u es) es e f j among) ends.0 ends.1
       where
         either : (e : Entries) (c : ℕ) (x : Fixed) (g : ModelFace) (z : ZonePair) → e.id ≡ c → x.source ≡ g.end → Crosses c g.end z ⊎ Crosses g.end c z →
             (f : Face) × In (face_from zones l u e.id x.source x.lo x.hi ++ face_from zones l u x.source e.id x.lo x.hi) f × ((f.from ≡ z.from) × (f.to ≡ z.to))
-        either e c x g z id to (inl h) = let (f, n, a, b) = crossed e.id x.source x.lo x.hi c g.end z id to h in (f, left_in (face_from zones l u e.id x.source x.lo x.hi) (face_from zones l u x.source e.id x.lo x.hi) f n, (a, b))
-        either e c x g z id to (inr h) = let (f, n, a, b) = crossed x.source e.id x.lo x.hi g.end c z to id h in (f, right_in (face_from zones l u e.id x.source x.lo x.hi) (face_from zones l u x.source e.id x.lo x.hi) f n, (a, b))
+        either e c x g z id to (inl h) = let (f, n, a, b) = crossed e.id x.source x.lo x.hi c g.end z id to h in (
+          f,
+          left_in (face_from zones l u e.id x.source x.lo x.hi) (face_from zones l u x.source e.id x.lo x.hi) f n,
+          (a, b),
+        )
+        either e c x g z id to (inr h) = let (f, n, a, b) = crossed x.source e.id x.lo x.hi g.end c z to id h in (
+          f,
+          right_in (face_from zones l u e.id x.source x.lo x.hi) (face_from zones l u x.source e.id x.lo x.hi) f n,
+          (a, b),
+        )
 
     pub shared_has : (z : ZonePair) → share_face m zones p z ≡ true → share (faces zones l u es) z ≡ true
     shared_has z t =

@@ -25,13 +25,15 @@ module _ (limits : Limits) (ds : Decks) (s : ℕ) (zones : Option (List ℕ)) (r
   abbrev task : Task
   task = deck_task limits ds s zones rounds quick
 
-  step_bounds : (m : FlowModel) (at : TimeStep) (old : List Bound) (v : Step) (before : ℕ → Fraction) (d : ℕ) (X : ℕ → ℤ) → IsStep task at old v → Bounds task m v before d X → Bounds (checked_task ds s zones) m (step_of at (as_listed v)) before d X
+  step_bounds : (m : FlowModel) (at : TimeStep) (old : List Bound) (v : Step) (before : ℕ → Fraction) (d : ℕ) (X : ℕ → ℤ) → IsStep task at old v →
+      Bounds task m v before d X → Bounds (checked_task ds s zones) m (step_of at (as_listed v)) before d X
   step_bounds m at old v before d X is b =
       let B : TimeStep → Type 0 = λ t. BudgetEncloses s (exact_step m t.period t.step before) (heads_of d (variable_heads (exact_step m t.period t.step before) X)) v.budget in
       let Z : TimeStep → Type 0 = λ t. IfSome zones (λ z. EncloseExact s (exact_step m t.period t.step before) z (heads_of d X) v.zones) in
       record { heads = b.heads; budget = subst B is.time b.budget; zones = subst Z is.time b.zones }
 
-  all_bounds : (m : FlowModel) (d : ℕ) (old : List Bound) (before : ℕ → Fraction) (rest : List TimeStep) (values : List Step) (Xs : List (ℕ → ℤ)) → Steps task old rest values Whole → BoundAll task m d before values Xs →
+  all_bounds : (m : FlowModel) (d : ℕ) (old : List Bound) (before : ℕ → Fraction) (rest : List TimeStep) (values : List Step) (Xs : List (ℕ → ℤ)) →
+      Steps task old rest values Whole → BoundAll task m d before values Xs →
       BoundAll (checked_task ds s zones) m d before (steps_of rest (map as_listed values)) Xs
   all_bounds m d old before [] [] [] h b = tt
   all_bounds m d old before [] [] (X ∷ Xs) h b = absurd b
@@ -40,7 +42,8 @@ module _ (limits : Limits) (ds : Decks) (s : ℕ) (zones : Option (List ℕ)) (r
   all_bounds m d old before (at ∷ rest) (v ∷ values) [] h b = absurd b
   all_bounds m d old before (at ∷ rest) (v ∷ values) (X ∷ Xs) (is, h) (b, more) = (step_bounds m at old v before d X is b, all_bounds m d v.heads (heads_of d X) rest values Xs h more)
 
-  between_bounds : (a b : FlowModel) (d : ℕ) (old : List Bound) (before : ℕ → Fraction) (rest : List TimeStep) (values : List Step) (Xs : List (ℕ → ℤ)) (h : SolvesBetweenFrom a b d before rest Xs) → Steps task old rest values Whole →
+  between_bounds : (a b : FlowModel) (d : ℕ) (old : List Bound) (before : ℕ → Fraction) (rest : List TimeStep) (values : List Step) (Xs : List (ℕ → ℤ))
+      (h : SolvesBetweenFrom a b d before rest Xs) → Steps task old rest values Whole →
       BoundBetween task a b d before rest values Xs h → BoundBetween (checked_task ds s zones) a b d before rest (steps_of rest (map as_listed values)) Xs h
   between_bounds a b d old before [] [] [] h steps c = tt
   between_bounds a b d old before [] [] (X ∷ Xs) h steps c = absurd c

@@ -60,13 +60,27 @@ module _ (limits : Limits) (ds : Decks) (s : ℕ) (zones : Option (List ℕ)) (a
   -- What is defined of a step is said of it.
 
   passes_said : Passes limits ds s zones at old w → Says passed
-  passes_said h = let t = h.terms in inr (h.problem, h.barrier, t.heads.posed, inr (t.heads.constants, inr (t.heads.certificate, inr (t.budget, t.is, inr (t.covers, inr (h.flows, h.are, inr (h.wide, refl)))))))
+  passes_said h = let t = h.terms in inr (
+    h.problem,
+    h.barrier,
+    t.heads.posed,
+    inr (t.heads.constants, inr (t.heads.certificate, inr (t.budget, t.is, inr (t.covers, inr (h.flows, h.are, inr (h.wide, refl)))))),
+  )
 
   fails_said : (place : Place) → FailsAt limits ds s zones at old w place → Says (failed place)
   fails_said place (at_constant p b c side posed f e) = inr (p, b, posed, inl (c, side, f, ap failed e))
   fails_said place (at_variable p b k side posed reach f e) = inr (p, b, posed, inr (reach, inl (k, side, f, ap failed e)))
   fails_said place (at_term p b budget dir t h is f e) = inr (p, b, h.posed, inr (h.constants, inr (h.certificate, inr (budget, is, inl (dir, t, f, ap failed e)))))
-  fails_said place (at_zones p b flows x y t are f e) = inr (p, b, t.heads.posed, inr (t.heads.constants, inr (t.heads.certificate, inr (t.budget, t.is, inr (t.covers, inr (flows, are, inl (x, y, f, ap failed e)))))))
+  fails_said place (at_zones p b flows x y t are f e) =
+      inr (
+        p,
+        b,
+        t.heads.posed,
+        inr (
+          t.heads.constants,
+          inr (t.heads.certificate, inr (t.budget, t.is, inr (t.covers, inr (flows, are, inl (x, y, f, ap failed e))))),
+        ),
+      )
 
   refused_said : (n : NoBound) → IsRefused limits ds s zones at old w n → Says (refused n)
   refused_said n (no_heads x) = inl (n, x, refl)
@@ -103,11 +117,14 @@ module _ (limits : Limits) (ds : Decks) (s : ℕ) (zones : Option (List ℕ)) (a
   budget_one p o q (inr (b, x, t)) (inl (n, y, k)) = absurd (ok_not_err b n (sym x ∙ y))
   budget_one p o q (inr (b, x, t)) (inr (c, y, u)) = let P : Budget → Type 0 = λ z. ByTerms p z o in terms_one p c o q (subst P (one_ok b c (sym x ∙ y)) t) u
 
-  certified_at : (p : List Entries) (b : Edges) (k : ℕ) (side : Side) → k < length p → IsCertificate p b (lower_at (bounds limits ds s zones at old w)) (upper_at (bounds limits ds s zones at old w)) → HoldsAt p b (bounds limits ds s zones at old w) k side
+  certified_at : (p : List Entries) (b : Edges) (k : ℕ) (side : Side) → k < length p →
+      IsCertificate p b (lower_at (bounds limits ds s zones at old w)) (upper_at (bounds limits ds s zones at old w)) →
+      HoldsAt p b (bounds limits ds s zones at old w) k side
   certified_at p b k Low lt h = h.low k lt
   certified_at p b k High lt h = h.high k lt
 
-  first_failing : (p : List Entries) (b : Edges) (k : ℕ) (side : Side) → IsFirstFailing p b (bounds limits ds s zones at old w) k side → IsFirst (HoldsAt p b (bounds limits ds s zones at old w)) k side
+  first_failing : (p : List Entries) (b : Edges) (k : ℕ) (side : Side) → IsFirstFailing p b (bounds limits ds s zones at old w) k side →
+      IsFirst (HoldsAt p b (bounds limits ds s zones at old w)) k side
   first_failing p b k side f = record { fails = f.fails; least = f.least; low_first = f.low_first }
 
   variables_one : (p : List Entries) (b : Edges) (o q : Said) → ByVariables p b o → ByVariables p b q → o ≡ q
@@ -180,7 +197,9 @@ module _ (limits : Limits) (ds : Decks) (s : ℕ) (zones : Option (List ℕ)) (a
     passes_excludes v h k = let x = stopped v k in x.stops (said_one laws before x.said passed x.says (passes_said h))
 
 module _ (laws : Laws) (limits : Limits) (ds : Decks) (s : ℕ) (zones : Option (List ℕ)) (valid : AreDecks ds) where
-  checks_one : (old : List Bound) (rest : List TimeStep) (steps : List ListedStep) (a b : ListingVerdict) → IsRest (times ds.first) rest → AreGridHeads ds.first old → AllZip (IsListedAt ds.first (pairs_in ds.first zones)) rest steps → Checks limits ds s zones old rest steps a → Checks limits ds s zones old rest steps b → a ≡ b
+  checks_one : (old : List Bound) (rest : List TimeStep) (steps : List ListedStep) (a b : ListingVerdict) → IsRest (times ds.first) rest →
+      AreGridHeads ds.first old → AllZip (IsListedAt ds.first (pairs_in ds.first zones)) rest steps → Checks limits ds s zones old rest steps a →
+      Checks limits ds s zones old rest steps b → a ≡ b
   checks_one old [] [] Certified Certified r heads l h k = refl
   checks_one old [] [] Certified (Fails t place) r heads l h k = absurd k
   checks_one old [] [] Certified (Refused t n) r heads l h k = absurd k
@@ -190,9 +209,12 @@ module _ (laws : Laws) (limits : Limits) (ds : Decks) (s : ℕ) (zones : Option 
   checks_one old (at ∷ rest) [] a b r heads l h k = absurd h
   checks_one old (at ∷ rest) (w ∷ steps) a b r heads l (inl (p, h)) (inl (q, k)) =
       checks_one w.heads rest steps a b (rest_more (times ds.first) at rest r) (grid_of ds.first w l.0.0) l.1 h k
-  checks_one old (at ∷ rest) (w ∷ steps) a b r heads l (inl (p, h)) (inr k) = absurd (passes_excludes limits ds s zones at old w laws (record { decks = valid; time = r.each at (first_in at rest); heads = heads }) b p k)
-  checks_one old (at ∷ rest) (w ∷ steps) a b r heads l (inr h) (inl (q, k)) = absurd (passes_excludes limits ds s zones at old w laws (record { decks = valid; time = r.each at (first_in at rest); heads = heads }) a q h)
-  checks_one old (at ∷ rest) (w ∷ steps) a b r heads l (inr h) (inr k) = stops_one limits ds s zones at old w laws (record { decks = valid; time = r.each at (first_in at rest); heads = heads }) a b h k
+  checks_one old (at ∷ rest) (w ∷ steps) a b r heads l (inl (p, h)) (inr k) =
+      absurd (passes_excludes limits ds s zones at old w laws (record { decks = valid; time = r.each at (first_in at rest); heads = heads }) b p k)
+  checks_one old (at ∷ rest) (w ∷ steps) a b r heads l (inr h) (inl (q, k)) =
+      absurd (passes_excludes limits ds s zones at old w laws (record { decks = valid; time = r.each at (first_in at rest); heads = heads }) a q h)
+  checks_one old (at ∷ rest) (w ∷ steps) a b r heads l (inr h) (inr k) =
+      stops_one limits ds s zones at old w laws (record { decks = valid; time = r.each at (first_in at rest); heads = heads }) a b h k
 
 pub verdicts_one : Laws → VerdictIsOne
 verdicts_one laws limits ds s zones steps a b valid listed x y =

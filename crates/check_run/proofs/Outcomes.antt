@@ -10,15 +10,19 @@ use Rattle.check_run.proofs.Passing.{member_moves}
 use Rattle.step_problem.specs.declared.place.Place.TheVariants as places
 use Rattle.check_run.specs.declared.listing.CheckFault.TheVariants as fault
 
-module _ (limits : Limits) (ds : Decks) (s : ℕ) (zones : Option (List ℕ)) (at : TimeStep) (old : List Bound) (x : Posed) (posed : ArePosed limits ds s at old x) (heads : List Bound) (listed : Budget) (flows : List ZoneFlow) where
-  pub constant_fails : (c : ℕ) (side : Side) → IsFirstShort ds at heads c side → FailsBy limits ds s zones at old (record { heads = heads; budget = listed; zones = flows }) (fault.Fails (places.Cell c side))
+module _ (limits : Limits) (ds : Decks) (s : ℕ) (zones : Option (List ℕ)) (at : TimeStep) (old : List Bound) (x : Posed) (posed : ArePosed limits ds s at old x)
+    (heads : List Bound) (listed : Budget) (flows : List ZoneFlow) where
+  pub constant_fails : (c : ℕ) (side : Side) → IsFirstShort ds at heads c side →
+      FailsBy limits ds s zones at old (record { heads = heads; budget = listed; zones = flows }) (fault.Fails (places.Cell c side))
   constant_fails c side f = at_constant x.problem x.barrier c side posed.posed f refl
 
   module _ (reach : ConstantsReach ds at heads) (bs lent : List Bound) (lent_is : lent ≡ bs) (are : bs ≡ map (λ (e : Entries). bound_at heads e.id) x.problem) where
     same : lent ≡ variable_bounds ds at heads
     same = lent_is ∙ are ∙ bounds_are ds at heads x.problem posed.cells
 
-    pub variable_fails : (e : CheckFault) → (k : ℕ) × (side : Side) × IsFirstFailing x.problem x.barrier lent k side × (e ≡ fault.Fails (places.Cell (entries_at x.problem k).id side)) → FailsBy limits ds s zones at old (record { heads = heads; budget = listed; zones = flows }) e
+    pub variable_fails : (e : CheckFault) → (k : ℕ) × (side : Side) × IsFirstFailing x.problem x.barrier lent k side ×
+        (e ≡ fault.Fails (places.Cell (entries_at x.problem k).id side)) →
+        FailsBy limits ds s zones at old (record { heads = heads; budget = listed; zones = flows }) e
     variable_fails e (k, side, f, is) =
         let F : List Bound → Type 0 = λ v. IsFirstFailing x.problem x.barrier v k side in
         let P : CheckFault → Type 0 = FailsBy limits ds s zones at old (record { heads = heads; budget = listed; zones = flows }) in
@@ -53,10 +57,12 @@ module _ (limits : Limits) (ds : Decks) (s : ℕ) (zones : Option (List ℕ)) (a
         pub step_passes : AreWide x.problem heads zones flows → Passes limits ds s zones at old (record { heads = heads; budget = listed; zones = flows })
         step_passes wide = record { problem = x.problem; barrier = x.barrier; terms = terms_hold; flows = wide.flows; are = wide.are; wide = wide.wide }
 
-    pub step_moves : AreDecks ds → Contains (times ds.first) at → ConstantPairEncloses → CoverEncloses → HeadsAreWithin → EnclosesSolutions x.problem (lower_at lent) (upper_at lent) → IsCovered x.problem lent listed → AreWide x.problem heads zones flows →
+    pub step_moves : AreDecks ds → Contains (times ds.first) at → ConstantPairEncloses → CoverEncloses → HeadsAreWithin →
+        EnclosesSolutions x.problem (lower_at lent) (upper_at lent) → IsCovered x.problem lent listed → AreWide x.problem heads zones flows →
         BoundsMoves (checked_task ds s zones) at old (step_of at (record { heads = heads; budget = listed; zones = flows }))
     step_moves valid time pair_encloses cover within solutions h wide =
         let S : List Bound → Type 0 = λ v. EnclosesSolutions x.problem (lower_at v) (upper_at v) in
         let E : List Bound → Type 0 = λ v. EnclosesBudgets x.problem (lower_at v) (upper_at v) h.budget in
         each_member ds (BoundsMovesOf (checked_task ds s zones) at old (step_of at (record { heads = heads; budget = listed; zones = flows })))
-        (λ m member. member_moves ds s at old x.problem x.constant_heads heads valid time posed.constant pair_encloses posed.encloses posed.named reach (subst S same solutions) m member cover within listed h.budget h.covers (subst E same h.encloses) zones flows wide)
+        (λ m member. member_moves ds s at old x.problem x.constant_heads heads valid time posed.constant pair_encloses posed.encloses posed.named reach
+        (subst S same solutions) m member cover within listed h.budget h.covers (subst E same h.encloses) zones flows wide)

@@ -21,7 +21,8 @@ module _ (limits : Limits) (ds : Decks) (s : ℕ) (zones : Option (List ℕ)) wh
   ArePassed old (at ∷ rest) [] = ⊥
   ArePassed old (at ∷ rest) (w ∷ steps) = IsPassed at old w × ArePassed w.heads rest steps
 
-  pub all_move : (old : List Bound) (rest : List TimeStep) (steps : List ListedStep) → ArePassed old rest steps → AllBoundMoves (checked_task ds s zones) ds.first ds.second old rest (steps_of rest steps)
+  pub all_move : (old : List Bound) (rest : List TimeStep) (steps : List ListedStep) → ArePassed old rest steps →
+      AllBoundMoves (checked_task ds s zones) ds.first ds.second old rest (steps_of rest steps)
   all_move old [] [] h = tt
   all_move old [] (w ∷ steps) h = absurd h
   all_move old (at ∷ rest) [] h = absurd h
@@ -36,7 +37,8 @@ module _ (limits : Limits) (ds : Decks) (s : ℕ) (zones : Option (List ℕ)) (v
   lands : (at : TimeStep) (old : List Bound) (w : ListedStep) → IsPassed limits ds s zones at old w → Lands limits ds s at old w.heads
   lands at old w p m member before d X olds some solves =
       let cells = member_cells ds m member in
-      let bound = of_member ds (λ (m : FlowModel). (before : ℕ → Fraction) (d : ℕ) (X : ℕ → ℤ) → IsMove m at old before d X → Bounds (checked_task ds s zones) m (step_of at w) before d X) p.moves m member before d X
+      let bound = of_member ds (λ (m : FlowModel). (before : ℕ → Fraction) (d : ℕ) (X : ℕ → ℤ) → IsMove m at old before d X →
+      Bounds (checked_task ds s zones) m (step_of at w) before d X) p.moves m member before d X
       (record { within = encloses_member ds.first m cells old before olds; some = some; solves = solves }) in
       lies_encloses ds.first w.heads d X some (lies_in_first ds.first m cells w.heads d X bound.heads)
 
@@ -52,4 +54,5 @@ module _ (limits : Limits) (ds : Decks) (s : ℕ) (zones : Option (List ℕ)) (v
 pub have_one : (limits : Limits) (a : FlowModel) (o : Option FlowModel) (s : ℕ) (zones : Option (List ℕ)) → AreDecks (record { first = a; second = o }) → (start : List Bound) (all : List ListedStep) →
     HoldsOf a o (λ m. HeadsEnclose m start (start_head m)) → ArePassed limits (record { first = a; second = o }) s zones start (times a) all → HaveOneBy a o
 have_one limits a o s zones valid start all starts h =
-    have_one_by limits a o s start (map (heads_at limits (record { first = a; second = o }) s zones valid) all) starts (turns_of limits (record { first = a; second = o }) s zones valid start (times a) all h)
+    have_one_by limits a o s start (map (heads_at limits (record { first = a; second = o }) s zones valid) all) starts
+    (turns_of limits (record { first = a; second = o }) s zones valid start (times a) all h)

@@ -55,7 +55,8 @@ module _ (ds : Decks) (s : ℕ) (at : TimeStep) (old : List Bound) (p : List Ent
   moves = follows ds m s at old solved cells (of_member ds (EnclosesSteps s at old p) all_enclose m member) (λ c lt v. sym (variable_listed ds at heads c v lt)) constant solutions
 
   -- the listed step bounds each move of the member
-  pub member_moves : CoverEncloses → HeadsAreWithin → (listed computed : Budget) → Covers listed computed → EnclosesBudgets p (lower_at (variable_bounds ds at heads)) (upper_at (variable_bounds ds at heads)) computed →
+  pub member_moves : CoverEncloses → HeadsAreWithin → (listed computed : Budget) → Covers listed computed →
+      EnclosesBudgets p (lower_at (variable_bounds ds at heads)) (upper_at (variable_bounds ds at heads)) computed →
       (zones : Option (List ℕ)) (flows : List ZoneFlow) → AreWide p heads zones flows →
       BoundsMovesOf (checked_task ds s zones) at old (step_of at (record { heads = heads; budget = listed; zones = flows })) m
   member_moves cover within listed computed covers terms zones flows wide before d X move =
@@ -67,5 +68,7 @@ module _ (ds : Decks) (s : ℕ) (at : TimeStep) (old : List Bound) (p : List Ent
       record {
         heads = moved.heads;
         budget = cover listed computed s e (heads_of d Y) covers (terms s e (heads_of d Y) moved.step inside);
-        zones = wide_enclose s e zones (heads_of d X) flows wide.flows wide.wide (flows_enclose zones p heads wide.flows wide.encloses s e (heads_of d X) moved.step (heads_named m p active heads (heads_of d X) (lies_encloses m heads d X move.some moved.heads)));
+        zones = wide_enclose s e zones (heads_of d X) flows wide.flows wide.wide
+            (flows_enclose zones p heads wide.flows wide.encloses s e (heads_of d X) moved.step
+            (heads_named m p active heads (heads_of d X) (lies_encloses m heads d X move.some moved.heads)));
       }

@@ -35,12 +35,14 @@ no_evaps m s at old p evt is =
     subst (λ (es : List Entries). AllZip NoEvaps es (variable_cells m at.period)) (sym (cells_of m s at old p is).each)
     (zip_image NoEvaps (whole_cell m s at old) (variable_cells m at.period) (λ c i. ap (map (whole_evap m s c)) (no_source m at.period c evt)))
 
-decks_no_evaps : (a : FlowModel) (o : Option FlowModel) (s : ℕ) (at : TimeStep) (old : List Bound) → has_evt a ≡ false → (p : List Entries) → IsModel a → IfSome o (IsSecond a) → IsProblemBy a o s at old p → AllZip NoEvaps p (variable_cells a at.period)
+decks_no_evaps : (a : FlowModel) (o : Option FlowModel) (s : ℕ) (at : TimeStep) (old : List Bound) → has_evt a ≡ false → (p : List Entries) → IsModel a →
+    IfSome o (IsSecond a) → IsProblemBy a o s at old p → AllZip NoEvaps p (variable_cells a at.period)
 decks_no_evaps a None s at old e p valid second is = no_evaps a s at old p e is
 decks_no_evaps a (Some b) s at old e p valid second is =
     let k = hull_parts a b s at old p valid second.alike is in
     subst (λ (es : List Entries). AllZip NoEvaps es (variable_cells a at.period)) (sym k.hull.is)
-    (hull_zip cell_shape cell_hull NoEvaps (λ x y c same none. ap (λ (xs : List Evap). zip_with evap_hull xs y.evaps) none) k.first k.second (variable_cells a at.period) k.hull.alike (no_evaps a s at old k.first e k.is_first))
+    (hull_zip cell_shape cell_hull NoEvaps (λ x y c same none. ap (λ (xs : List Evap). zip_with evap_hull xs y.evaps) none) k.first k.second
+    (variable_cells a at.period) k.hull.alike (no_evaps a s at old k.first e k.is_first))
 
 -- Heads in range are those of a listing.
 
@@ -56,7 +58,8 @@ cell_bounds m c (b ∷ bs) h =
           subst Q next (h (suc k) (omega (arith, lt)))),
     )
 
-module _ (limits : Limits) (ds : Decks) (s : ℕ) (at : TimeStep) (old : List Bound) (kind : PairKind) (x : Solved) (decks : AreDecks ds) (solves : IsStepBy limits ds s at old kind x) (grid : AreGridHeads ds.first x.heads) where
+module _ (limits : Limits) (ds : Decks) (s : ℕ) (at : TimeStep) (old : List Bound) (kind : PairKind) (x : Solved) (decks : AreDecks ds)
+    (solves : IsStepBy limits ds s at old kind x) (grid : AreGridHeads ds.first x.heads) where
   cell_bound : (c : ℕ) → c < length x.heads → IsCellBound ds.first (0 + c) (bound_at x.heads c)
   cell_bound c lt =
       let range = grid.range c no_bound lt in
@@ -116,7 +119,8 @@ module _ (fs : List Face) where
 
 flows_small : (p : List Entries) (heads : List Bound) (o : Option (List ℕ)) (vs : List ZoneFlow) → AreFlowsOf p heads o vs → All (λ v. IsFlowPair (zone_pair v)) vs
 flows_small p heads None vs are = let P : List ZoneFlow → Type 0 = All (λ v. IsFlowPair (zone_pair v)) in subst P (same_flows p heads None [] vs refl are) (λ i d lt. absurd (omega (arith, lt)))
-flows_small p heads (Some zones) vs are = All-weaker (IsZoneFlow (faces_of p heads zones)) (λ (v : ZoneFlow). IsFlowPair (zone_pair v)) (small_flow (faces_of p heads zones)) vs (flows_of_pairs (faces_of p heads zones) vs are).0
+flows_small p heads (Some zones) vs are = All-weaker (IsZoneFlow (faces_of p heads zones)) (λ (v : ZoneFlow). IsFlowPair (zone_pair v))
+    (small_flow (faces_of p heads zones)) vs (flows_of_pairs (faces_of p heads zones) vs are).0
 
 -- All steps of a run.
 
@@ -142,7 +146,8 @@ module _ (fits : HeadsFit) (limits : Limits) (ds : Decks) (s : ℕ) (zones : Opt
     next_heads : AreGridHeads ds.first v.heads
     next_heads = subst (AreGridHeads ds.first) (sym is.heads) solved_heads
 
-  all_listed : (old : List Bound) (rest : List TimeStep) (values : List Step) → IsRest (times ds.first) rest → AreGridHeads ds.first old → Steps task old rest values Whole → AllZip (IsListedAt ds.first (pairs_in ds.first zones)) rest (map as_listed values)
+  all_listed : (old : List Bound) (rest : List TimeStep) (values : List Step) → IsRest (times ds.first) rest → AreGridHeads ds.first old →
+      Steps task old rest values Whole → AllZip (IsListedAt ds.first (pairs_in ds.first zones)) rest (map as_listed values)
   all_listed old [] [] r heads h = tt
   all_listed old [] (v ∷ values) r heads h = absurd h
   all_listed old (at ∷ rest) [] r heads h = absurd h

@@ -12,7 +12,8 @@ use Rattle.problem_builder.proofs.CellEnclosed.{ids_are}
 use Rattle.problem_hull.proofs.Hulls.{hull_keeps}
 
 -- The cells of the problem of decks are the variable cells of the first.
-pub decks_ids : (a : FlowModel) (o : Option FlowModel) (s : ℕ) (at : TimeStep) (old : List Bound) (p : List Entries) → IsModel a → IfSome o (IsSecond a) → IsProblemBy a o s at old p → map (λ (e : Entries). e.id) p ≡ variable_cells a at.period
+pub decks_ids : (a : FlowModel) (o : Option FlowModel) (s : ℕ) (at : TimeStep) (old : List Bound) (p : List Entries) → IsModel a → IfSome o (IsSecond a) →
+    IsProblemBy a o s at old p → map (λ (e : Entries). e.id) p ≡ variable_cells a at.period
 decks_ids a None s at old p valid second is = ids_are a s at old p (cells_of a s at old p is)
 decks_ids a (Some b) s at old p valid second is =
     let k = hull_parts a b s at old p valid second.alike is in
@@ -34,7 +35,8 @@ pub record Laws : Type 0 where
   pub pair_one : ConstantPairIsOne
   pub heads_fit : HeadsFit
 
-module _ (limits : Limits) (ds : Decks) (s : ℕ) (at : TimeStep) (old : List Bound) (kind : PairKind) (x : Solved) (fits : IsProblem x.problem) (ids : map (λ (e : Entries). e.id) x.problem ≡ variable_cells ds.first at.period) (solves : IsStepBy limits ds s at old kind x) where
+module _ (limits : Limits) (ds : Decks) (s : ℕ) (at : TimeStep) (old : List Bound) (kind : PairKind) (x : Solved) (fits : IsProblem x.problem)
+    (ids : map (λ (e : Entries). e.id) x.problem ≡ variable_cells ds.first at.period) (solves : IsStepBy limits ds s at old kind x) where
   abbrev cells : List ℕ
   cells = variable_cells ds.first at.period
 
@@ -54,15 +56,19 @@ module _ (limits : Limits) (ds : Decks) (s : ℕ) (at : TimeStep) (old : List Bo
       ∙ ap (bound_at x.bounds) (index_is ds.first at.period (get_or cells k 0) ∙ c.index)
 
   listed_are : variable_bounds ds at x.heads ≡ x.bounds
-  listed_are = same_bounds (variable_bounds ds at x.heads) x.bounds (length-map cells (bound_at x.heads) ∙ sym (count_is ds at x.heads x.problem ids) ∙ sym (pair_words kind x.problem (edges_by limits solves.barrier) x.bounds solves.pair).whole) listed_at
+  listed_are = same_bounds (variable_bounds ds at x.heads) x.bounds (length-map cells (bound_at x.heads) ∙ sym (count_is ds at x.heads x.problem ids) ∙ sym
+      (pair_words kind x.problem (edges_by limits solves.barrier) x.bounds solves.pair).whole) listed_at
 
   module _ (laws : Laws) (before : IsBefore ds at old) where
     constants : ConstantsReach ds at x.heads
     constants c cell side pair is =
         reaches side (bound_at x.heads c) pair
-        (laws.pair_one ds at c (lower_at x.heads c) (upper_at x.heads c) pair.low pair.high (record { decks = before.decks; time = before.time; within = cell.within; constant = cell.constant }) (solves.heads.constant c cell.within cell.constant) is)
+        (laws.pair_one ds at c (lower_at x.heads c) (upper_at x.heads c) pair.low pair.high
+        (record { decks = before.decks; time = before.time; within = cell.within; constant = cell.constant })
+        (solves.heads.constant c cell.within cell.constant) is)
 
-    passes : (zones : Option (List ℕ)) (b : Budget) (flows : List ZoneFlow) → budget_at x ≡ Ok b → AreFlowsAt zones x flows → Passes limits ds s zones at old (record { heads = x.heads; budget = b; zones = flows })
+    passes : (zones : Option (List ℕ)) (b : Budget) (flows : List ZoneFlow) → budget_at x ≡ Ok b → AreFlowsAt zones x flows →
+        Passes limits ds s zones at old (record { heads = x.heads; budget = b; zones = flows })
     passes zones b flows is are =
         let C : List Bound → Type 0 = λ v. IsCertificate x.problem solves.barrier (lower_at v) (upper_at v) in
         let B : List Bound → Type 0 = λ v. budget_of x.problem (lower_at v) (upper_at v) ≡ Ok b in
@@ -88,12 +94,16 @@ module _ (laws : Laws) (limits : Limits) (ds : Decks) (s : ℕ) (zones : Option 
     step_passes : Passes limits ds s zones at old (as_listed v)
     step_passes =
         let P : List Bound → Type 0 = λ hs. Passes limits ds s zones at old (record { heads = hs; budget = v.budget; zones = v.zones }) in
-        subst P (sym is.heads) (passes limits ds s at old (pairs_of task) is.solved (laws.problem_fits ds s at old is.solved.problem before is.solves.posed.problem) (decks_ids ds.first ds.second s at old is.solved.problem before.decks.first before.decks.second is.solves.posed.problem) is.solves laws before zones v.budget v.zones is.budget is.zones)
+        subst P (sym is.heads) (passes limits ds s at old (pairs_of task) is.solved
+        (laws.problem_fits ds s at old is.solved.problem before is.solves.posed.problem)
+        (decks_ids ds.first ds.second s at old is.solved.problem before.decks.first before.decks.second is.solves.posed.problem) is.solves laws before zones
+        v.budget v.zones is.budget is.zones)
 
     next_heads : AreGridHeads ds.first v.heads
     next_heads = subst (AreGridHeads ds.first) (sym is.heads) (laws.heads_fit limits ds s at old (pairs_of task) is.solved before is.solves)
 
-  all_pass : (old : List Bound) (rest : List TimeStep) (values : List Step) → IsRest (times ds.first) rest → AreGridHeads ds.first old → Steps task old rest values Whole → Checks limits ds s zones old rest (map as_listed values) Certified
+  all_pass : (old : List Bound) (rest : List TimeStep) (values : List Step) → IsRest (times ds.first) rest → AreGridHeads ds.first old →
+      Steps task old rest values Whole → Checks limits ds s zones old rest (map as_listed values) Certified
   all_pass old [] [] r heads h = tt
   all_pass old [] (v ∷ values) r heads h = absurd h
   all_pass old (at ∷ rest) [] r heads h = absurd h

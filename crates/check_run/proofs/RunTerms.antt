@@ -86,7 +86,8 @@ module _ (p : List Entries) (l u : ℕ → ℤ) where
         rw (lo, hi) refl
 
   -- ET has none where the model has no EVT
-  pub terms_are_listed : (evt : Bool) → (evt ≡ false → (c : ℕ) → c < length p → (entries_at p c).evaps ≡ []) → (dir : Dir) (xs : List TermPair) → AllZip (IsTermOf dir) all_terms xs → AllZip (λ t x. IsPairIf (is_printed evt t) x) all_terms xs
+  pub terms_are_listed : (evt : Bool) → (evt ≡ false → (c : ℕ) → c < length p → (entries_at p c).evaps ≡ []) → (dir : Dir) (xs : List TermPair) →
+      AllZip (IsTermOf dir) all_terms xs → AllZip (λ t x. IsPairIf (is_printed evt t) x) all_terms xs
   terms_are_listed evt none dir xs h = AllZip-weaker (IsTermOf dir) (λ t x. IsPairIf (is_printed evt t) x) (λ t x k. record { small = flow_is dir t x k; none = absent t x k }) all_terms xs h
     where
       absent : (t : Term) (x : TermPair) → IsTermOf dir t x → is_printed evt t ≡ false → x ≡ no_pair

@@ -23,7 +23,8 @@ module _ (limits : Limits) (ds : Decks) (s : ℕ) (zones : Option (List ℕ)) (r
       let T : TimeStep → List ℕ = λ t. text (step_lines ds.first s t v.heads v.budget v.zones) in
       ap T is.time
 
-  rows_text : (old : List Bound) (rest : List TimeStep) (values : List Step) → Steps task old rest values Whole → concat (map (text_of task) values ++ (end_line ∷ [])) ≡ text (all_step_lines ds.first s rest (map as_listed values) ++ (last_row ∷ []))
+  rows_text : (old : List Bound) (rest : List TimeStep) (values : List Step) → Steps task old rest values Whole →
+      concat (map (text_of task) values ++ (end_line ∷ [])) ≡ text (all_step_lines ds.first s rest (map as_listed values) ++ (last_row ∷ []))
   unfolding all_step_lines
   rows_text old [] [] h = refl
   rows_text old [] (v ∷ values) h = absurd h
@@ -64,7 +65,9 @@ pub run_read : HeadsFit → StartHeadsFit → ListingsAreReadAgain → RunIsRead
 run_read fits start_fits again limits ds s zones rounds quick values readable h =
     let pairs = pairs_in ds.first zones in
     let P : List ℕ → Type 0 = λ bytes. listing_at (is_between (deck_task limits ds s zones rounds quick)) ds.first s pairs (all_lines bytes) ≡ Ok (map as_listed values) in
-    subst P (sym (whole_text limits ds s zones rounds quick values h)) (again (is_between (deck_task limits ds s zones rounds quick)) ds.first s pairs (map as_listed values) (writable ds s zones readable) (λ p. pairs_small ds.first zones p readable.numbers) (are_listed fits limits ds s zones rounds quick readable.decks readable.numbers start_fits values h))
+    subst P (sym (whole_text limits ds s zones rounds quick values h))
+    (again (is_between (deck_task limits ds s zones rounds quick)) ds.first s pairs (map as_listed values) (writable ds s zones readable) (λ p.
+    pairs_small ds.first zones p readable.numbers) (are_listed fits limits ds s zones rounds quick readable.decks readable.numbers start_fits values h))
 
 -- The listed bounds of a problem's cells, and of all cells of the grid.
 abbrev AreHeads : Bound → Type 0
@@ -120,7 +123,8 @@ module _ (ds : Decks) (at : TimeStep) (heads : List Bound) (p : List Entries) (c
     }
 
 -- The bound of a variable cell's index is the cell's.
-pub variable_listed : (ds : Decks) (at : TimeStep) (heads : List Bound) (c : ℕ) → is_variable ds.first at.period c ≡ true → c < cell_count ds.first.grid → bound_at (variable_bounds ds at heads) (index_of ds.first at.period c) ≡ bound_at heads c
+pub variable_listed : (ds : Decks) (at : TimeStep) (heads : List Bound) (c : ℕ) → is_variable ds.first at.period c ≡ true → c < cell_count ds.first.grid →
+    bound_at (variable_bounds ds at heads) (index_of ds.first at.period c) ≡ bound_at heads c
 variable_listed ds at heads c v lt =
     get_or-map (bound_at heads) (variable_cells ds.first at.period) (index_of ds.first at.period c) 0 no_bound (index_below ds.first at.period c v lt)
     ∙ ap (bound_at heads) (

@@ -36,11 +36,16 @@ cond_fits false x y h k = k
 
 run_fits : (rows : List Row) → Fits (run_in rows)
 run_fits rows =
-    then_fits (first_of (codes "name") rows) _ (λ name a. then_fits (digits_in rows) _ (λ digits b. then_fits (workers_in rows) _ (λ workers c. then_fits (rounds_in rows) _ (λ rounds d. then_fits (watch_in rows) _ (λ turns e. then_fits (quick_if_unwatched turns (flag_in (codes "quick") rows)) _ (λ quick f. tt))))))
+    then_fits (first_of (codes "name") rows) _ (λ name a.
+    then_fits (digits_in rows) _ (λ digits b.
+    then_fits (workers_in rows) _ (λ workers c.
+    then_fits (rounds_in rows) _ (λ rounds d.
+    then_fits (watch_in rows) _ (λ turns e. then_fits (quick_if_unwatched turns (flag_in (codes "quick") rows)) _ (λ quick f. tt))))))
 
 listing_check_fits : (rows : List Row) → Fits (listing_check_in rows)
 listing_check_fits rows =
-    then_fits (first_of (codes "name") rows) _ (λ name a. then_fits (first_of (codes "listing") rows) _ (λ listing b. then_fits (digits_in rows) _ (λ digits c. (few (first_of (codes "digits") rows) digits c))))
+    then_fits (first_of (codes "name") rows) _ (λ name a.
+    then_fits (first_of (codes "listing") rows) _ (λ listing b. then_fits (digits_in rows) _ (λ digits c. (few (first_of (codes "digits") rows) digits c))))
 
 text_check_fits : (rows : List Row) → Fits (text_check_in rows)
 text_check_fits rows =
@@ -56,7 +61,9 @@ check_fits rows = by_flag (flag_in (codes "deck") rows)
 
 make_fits : (rows : List Row) → Fits (make_in rows)
 make_fits rows =
-    then_fits (first_of (codes "seed") rows) _ (λ seed_text a. then_fits (first_of (codes "size") rows) _ (λ size_text b. then_fits (number_in 0 2147483647 seed_text) _ (λ seed c. then_fits (number_in 1 64 size_text) _ (λ size d. tt))))
+    then_fits (first_of (codes "seed") rows) _ (λ seed_text a.
+    then_fits (first_of (codes "size") rows) _ (λ size_text b.
+    then_fits (number_in 0 2147483647 seed_text) _ (λ seed c. then_fits (number_in 1 64 size_text) _ (λ size d. tt))))
 
 batch_fits : (rows : List Row) → Fits (batch_in rows)
 batch_fits rows =

@@ -54,7 +54,8 @@ no_parse low high text r parses none small = no_number low high text (λ t.
     let within = p.2 in
     none (digits_value 10 text) (parse-decimal 32 (digits_value 10 text) text r (omega (arith, within, small)) (omega (arith, within, small)) p.0 parses))
 
-pub other_number : {E : Type 0} (low high n : ℕ) (text : List ℕ) (r : Result ℕ E) → ParsesUnsigned 32 10 text r → r ≡ Ok n → high < 2 ^ 32 → (is_number low high text n ≡ true → ⊥) → None ≡ number_in low high text
+pub other_number : {E : Type 0} (low high n : ℕ) (text : List ℕ) (r : Result ℕ E) → ParsesUnsigned 32 10 text r → r ≡ Ok n → high < 2 ^ 32 →
+    (is_number low high text n ≡ true → ⊥) → None ≡ number_in low high text
 other_number low high n text r parses is small none = no_number low high text (λ t.
     let p = plain low high (digits_value 10 text) text t in
     let within = p.2 in
@@ -84,7 +85,8 @@ usage_at_err words a e same kinds other = by_kind (let P : App → Type 0 = λ a
     by_kind (inl h) = absurd (other h)
     by_kind (inr h) = among_none (kind_of e) (fault_of heads_app words) (subcommand_of heads_app words) h
 
-pub order_at_ok : (words : List Text) (a : App) (m : ArgMatches) → a ≡ heads_app → (is_simple_and_free a ≡ true → fault_of a words ≡ []) → HasMatchesOf a words m → order_of_words words ≡ option_and_then (λ p. command_in p.0 p.1) (subcommand_rows_of m)
+pub order_at_ok : (words : List Text) (a : App) (m : ArgMatches) → a ≡ heads_app → (is_simple_and_free a ≡ true → fault_of a words ≡ []) →
+    HasMatchesOf a words m → order_of_words words ≡ option_and_then (λ p. command_in p.0 p.1) (subcommand_rows_of m)
 order_at_ok words a m same faults matches =
     let none : fault_of heads_app words ≡ [] = (let P : App → Type 0 = λ a. fault_of a words ≡ [] in subst P same (faults (ap is_simple_and_free same ∙ heads_free))) in
     let rows : subcommand_rows_of m ≡ subcommand_of heads_app words = (matches (ap is_simple same ∙ heads_simple)).1 ∙ ap (λ a. subcommand_of a words) same in

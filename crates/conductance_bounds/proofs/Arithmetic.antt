@@ -57,13 +57,16 @@ self_low x = low_near x (reach x) (omega arith)
 self_high : (x : Span) → IsNear x.hi.e (reach x)
 self_high x = high_near x (reach x) (omega arith)
 
-pub product_reach : (a b r : Span) → IsWithin r.lo.e (a.lo.e +ℤ b.lo.e +ℤ pos 17) (a.lo.e +ℤ b.lo.e +ℤ pos 18) → IsWithin r.hi.e (a.hi.e +ℤ b.hi.e +ℤ pos 17) (a.hi.e +ℤ b.hi.e +ℤ pos 18) → reach r ≤ reach a + reach b + 18
+pub product_reach : (a b r : Span) → IsWithin r.lo.e (a.lo.e +ℤ b.lo.e +ℤ pos 17) (a.lo.e +ℤ b.lo.e +ℤ pos 18) →
+    IsWithin r.hi.e (a.hi.e +ℤ b.hi.e +ℤ pos 17) (a.hi.e +ℤ b.hi.e +ℤ pos 18) → reach r ≤ reach a + reach b + 18
 product_reach a b r l h = reach_within r _ (product_near _ _ _ _ _ (self_low a) (self_low b) l) (product_near _ _ _ _ _ (self_high a) (self_high b) h)
 
-pub quotient_reach : (a b r : Span) → IsWithin r.lo.e (a.lo.e -ℤ b.hi.e -ℤ pos 18) (a.lo.e -ℤ b.hi.e -ℤ pos 17) → IsWithin r.hi.e (a.hi.e -ℤ b.lo.e -ℤ pos 18) (a.hi.e -ℤ b.lo.e -ℤ pos 17) → reach r ≤ reach a + reach b + 18
+pub quotient_reach : (a b r : Span) → IsWithin r.lo.e (a.lo.e -ℤ b.hi.e -ℤ pos 18) (a.lo.e -ℤ b.hi.e -ℤ pos 17) →
+    IsWithin r.hi.e (a.hi.e -ℤ b.lo.e -ℤ pos 18) (a.hi.e -ℤ b.lo.e -ℤ pos 17) → reach r ≤ reach a + reach b + 18
 quotient_reach a b r l h = reach_within r _ (quotient_near _ _ _ _ _ (self_low a) (self_high b) l) (quotient_near _ _ _ _ _ (self_high a) (self_low b) h)
 
-pub sum_reach : (a b r : Span) → IsWithin r.lo.e (int_min a.lo.e b.lo.e) (int_max a.lo.e b.lo.e +ℤ pos 1) → IsWithin r.hi.e (int_min a.hi.e b.hi.e) (int_max a.hi.e b.hi.e +ℤ pos 1) → reach r ≤ reach a + reach b + 18
+pub sum_reach : (a b r : Span) → IsWithin r.lo.e (int_min a.lo.e b.lo.e) (int_max a.lo.e b.lo.e +ℤ pos 1) →
+    IsWithin r.hi.e (int_min a.hi.e b.hi.e) (int_max a.hi.e b.hi.e +ℤ pos 1) → reach r ≤ reach a + reach b + 18
 sum_reach a b r l h = reach_within r _ (sum_near _ _ _ _ _ (self_low a) (self_low b) l) (sum_near _ _ _ _ _ (self_high a) (self_high b) h)
 
 -- a number of the input
@@ -101,14 +104,16 @@ sum_bounds t u a b r p q l h = record {
   upper = one_rounded Upper r.hi _ h ∙ (λ i. rounded_decimal Upper (plus (value (p.upper i)) (value (q.upper i))));
 }
 
-pub product_bounds : (t u : Term) (a b r : Span) → AreBounds t a → AreBounds u b → IsDown r.lo (times (value a.lo) (value b.lo)) → IsUp r.hi (times (value a.hi) (value b.hi)) → AreBounds (Product t u) r
+pub product_bounds : (t u : Term) (a b r : Span) → AreBounds t a → AreBounds u b → IsDown r.lo (times (value a.lo) (value b.lo)) →
+    IsUp r.hi (times (value a.hi) (value b.hi)) → AreBounds (Product t u) r
 unfolding bound
 product_bounds t u a b r p q l h = record {
   lower = one_rounded Lower r.lo _ l ∙ (λ i. rounded_decimal Lower (times (value (p.lower i)) (value (q.lower i))));
   upper = one_rounded Upper r.hi _ h ∙ (λ i. rounded_decimal Upper (times (value (p.upper i)) (value (q.upper i))));
 }
 
-pub quotient_bounds : (t u : Term) (a b r : Span) → AreBounds t a → AreBounds u b → IsDown r.lo (over (value a.lo) (value b.hi)) → IsUp r.hi (over (value a.hi) (value b.lo)) → AreBounds (Quotient t u) r
+pub quotient_bounds : (t u : Term) (a b r : Span) → AreBounds t a → AreBounds u b → IsDown r.lo (over (value a.lo) (value b.hi)) →
+    IsUp r.hi (over (value a.hi) (value b.lo)) → AreBounds (Quotient t u) r
 unfolding bound
 quotient_bounds t u a b r p q l h = record {
   lower = one_rounded Lower r.lo _ l ∙ (λ i. rounded_decimal Lower (over (value (p.lower i)) (value (q.upper i))));

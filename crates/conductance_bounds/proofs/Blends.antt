@@ -4,8 +4,16 @@ use Rattle.conductance_bounds.proofs.Common.{ints, clamps, IsNear, IsHeadUnits, 
 use Rattle.std.specs.Prelude.{FitsSigned}
 
 pub share_within : (h : ℤ) (part : ℕ) → IsHeadUnits h → IsNear (h *ℤ pos part) (4000000000000000000 * part)
-share_within (pos n) part h = let k : n * part ≤ 4000000000000000000 * part = mul-le-mul_right part (omega (arith, ints, h.below)) in record { above = omega (arith, ints, k); below = omega (arith, ints, k) }
-share_within (negsuc n) part h = let k : suc n * part ≤ 4000000000000000000 * part = mul-le-mul_right part (omega (arith, ints, h.above)) in record { above = omega (arith, ints, k); below = omega (arith, ints, k) }
+share_within (pos n) part h = let k : n * part ≤ 4000000000000000000 * part = mul-le-mul_right part (omega (arith, ints, h.below)) in record {
+  above =
+      omega (arith, ints, k);
+  below = omega (arith, ints, k);
+}
+share_within (negsuc n) part h = let k : suc n * part ≤ 4000000000000000000 * part = mul-le-mul_right part (omega (arith, ints, h.above)) in record {
+  above =
+      omega (arith, ints, k);
+  below = omega (arith, ints, k);
+}
 
 pub fits_within : (z : ℤ) (b : ℕ) → b < 2 ^ 127 → IsNear z b → FitsSigned w128 z
 fits_within z b h w = omega (arith, ints, h, w.above, w.below)

@@ -49,29 +49,37 @@ module _ (m : FlowModel) where
   unfolding vertical_half vertical_conductance
   vertical_face a p q va vb bedded =
       let b = a + stride m.grid Vertical in
-      layers_give (size (delr_at m a)) (size (delc_at m a)) (is_ratio m a) (size (hk_at m a)) (size (vka_at m a)) (thick_term m a) (is_ratio m b) (size (hk_at m b)) (size (vka_at m b)) (thick_term m b)
+      layers_give (size (delr_at m a)) (size (delc_at m a)) (is_ratio m a) (size (hk_at m a)) (size (vka_at m a)) (thick_term m a) (is_ratio m b)
+      (size (hk_at m b)) (size (vka_at m b)) (thick_term m b)
       (bed_thick_term a) (size (vkcb_at m a)) ((bed_thickness m a).num == 0) (layer_half a p va) (layer_half b q vb) bedded
 
-  bedded_at : IsModel m → (a : ℕ) → a + layer_size m.grid < cell_count m.grid → is_active m a ≡ true → is_active m (a + layer_size m.grid) ≡ true → IsBedded ((bed_thickness m a).num == 0) (bed_thick_term a) (size (vkcb_at m a))
+  bedded_at : IsModel m → (a : ℕ) → a + layer_size m.grid < cell_count m.grid → is_active m a ≡ true → is_active m (a + layer_size m.grid) ≡ true →
+      IsBedded ((bed_thickness m a).num == 0) (bed_thick_term a) (size (vkcb_at m a))
   bedded_at valid a lt x y = elim (cases_Bool (has_bed m a)) [
     | inl e ↦ (elim (valid.beds a lt x y e) [
       | inl same ↦ (let none = no_gap (number (lowest m a)) (number (bottom_at m a)) same in no_bed _ (bed_thick_term a) _ none none)
       | inr k ↦
           let above = bottom_at m a in
           let below = lowest m a in
-          some_bed _ (bed_thick_term a) _ (thick_positive above below k.thick) (size_positive (vkcb_at m a) k.vkcb) (within (span above below).lo (span above below).hi (bed_thickness m a) (span_positive above below k.thick) (thick_between above below k.thick))
+          some_bed _ (bed_thick_term a) _ (thick_positive above below k.thick) (size_positive (vkcb_at m a) k.vkcb)
+          (within (span above below).lo (span above below).hi (bed_thickness m a) (span_positive above below k.thick) (thick_between above below k.thick))
     ])
-    | inr e ↦ (let none : (bed_thickness m a).num ≡ 0 = no_gap (number (lowest m a)) (number (bottom_at m a)) (ap (λ b. number (cond b (dec_at m.grid.bed_bottom a) (dec_at m.grid.bottom a))) e) in no_bed _ (bed_thick_term a) _ none none)
+    | inr e ↦
+        let same = ap (λ b. number (cond b (dec_at m.grid.bed_bottom a) (dec_at m.grid.bottom a))) e in
+        let none : (bed_thickness m a).num ≡ 0 = no_gap (number (lowest m a)) (number (bottom_at m a)) same in
+        no_bed _ (bed_thick_term a) _ none none
   ]
 
   -- the formulas of the faces of a valid model
-  pub face_gives : IsModel m → (axis : Axis) (a : ℕ) → a + stride m.grid axis < cell_count m.grid → is_active m a ≡ true → is_active m (a + stride m.grid axis) ≡ true → Gives (face_term m axis a) (conductance m axis a)
+  pub face_gives : IsModel m → (axis : Axis) (a : ℕ) → a + stride m.grid axis < cell_count m.grid → is_active m a ≡ true →
+      is_active m (a + stride m.grid axis) ≡ true → Gives (face_term m axis a) (conductance m axis a)
   face_gives valid Row a lt x y = row_face a (is_ready m a valid (omega (arith, lt)) x) (is_ready m (a + 1) valid lt y)
   face_gives valid Column a lt x y = column_face a (is_ready m a valid (omega (arith, lt)) x) (is_ready m (a + m.grid.cols) valid lt y)
   face_gives valid Vertical a lt x y =
       let two = layered m.grid.layers (layer_size m.grid) a lt in
       vertical_face a (is_ready m a valid (omega (arith, lt)) x) (is_ready m (a + layer_size m.grid) valid lt y)
-      (size_positive (vka_at m a) ((valid.cells a (omega (arith, lt)) x).vka two)) (size_positive (vka_at m (a + layer_size m.grid)) ((valid.cells (a + layer_size m.grid) lt y).vka two)) (bedded_at valid a lt x y)
+      (size_positive (vka_at m a) ((valid.cells a (omega (arith, lt)) x).vka two))
+      (size_positive (vka_at m (a + layer_size m.grid)) ((valid.cells (a + layer_size m.grid) lt y).vka two)) (bedded_at valid a lt x y)
 
   -- The pairs of the faces enclose its conductances.
   pub faces_enclose : IsModel m → FacesEnclose m

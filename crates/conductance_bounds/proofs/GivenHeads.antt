@@ -39,16 +39,19 @@ abbrev unit : ℕ
 unit = 10 ^ 18
 
 -- the lower bound of the blends is a lower bound at every part between f and g
-step_low : (s e lo : ℤ) (f g w u : ℕ) → f ≤ unit → g ≤ unit → f * w ≤ u * (unit - f) → u * (unit - g) ≤ g * w → (lo *ℤ pos unit) ≤ℤ int_min (blend s e f) (blend s e g) → (lo *ℤ (pos w +ℤ pos u)) ≤ℤ (s *ℤ pos w +ℤ e *ℤ pos u)
+step_low : (s e lo : ℤ) (f g w u : ℕ) → f ≤ unit → g ≤ unit → f * w ≤ u * (unit - f) → u * (unit - g) ≤ g * w →
+    (lo *ℤ pos unit) ≤ℤ int_min (blend s e f) (blend s e g) → (lo *ℤ (pos w +ℤ pos u)) ≤ℤ (s *ℤ pos w +ℤ e *ℤ pos u)
 step_low s e lo f g w u hf hg a b h =
     by_lt_z e s
     (λ lt. finish g hg (falling s e g (unit - g) w u (omega (arith, ints)) b) (omega (arith, ints, clamps, h)))
     (λ le. finish f hf (rising s e f (unit - f) w u le a) (omega (arith, ints, clamps, h)))
   where
-    finish : (k : ℕ) → k ≤ unit → ((s *ℤ pos (unit - k) +ℤ e *ℤ pos k) *ℤ (pos w +ℤ pos u)) ≤ℤ ((pos k +ℤ pos (unit - k)) *ℤ (s *ℤ pos w +ℤ e *ℤ pos u)) → (lo *ℤ pos unit) ≤ℤ blend s e k → (lo *ℤ (pos w +ℤ pos u)) ≤ℤ (s *ℤ pos w +ℤ e *ℤ pos u)
+    finish : (k : ℕ) → k ≤ unit → ((s *ℤ pos (unit - k) +ℤ e *ℤ pos k) *ℤ (pos w +ℤ pos u)) ≤ℤ ((pos k +ℤ pos (unit - k)) *ℤ (s *ℤ pos w +ℤ e *ℤ pos u)) →
+        (lo *ℤ pos unit) ≤ℤ blend s e k → (lo *ℤ (pos w +ℤ pos u)) ≤ℤ (s *ℤ pos w +ℤ e *ℤ pos u)
     finish k hk below bound =
         let whole : pos k +ℤ pos (unit - k) ≡ pos unit = omega (arith, ints, hk) in
-        let right : (pos k +ℤ pos (unit - k)) *ℤ (s *ℤ pos w +ℤ e *ℤ pos u) ≡ (s *ℤ pos w +ℤ e *ℤ pos u) *ℤ pos unit = ap (λ (z : ℤ). z *ℤ (s *ℤ pos w +ℤ e *ℤ pos u)) whole ∙ commuted (pos unit) (s *ℤ pos w +ℤ e *ℤ pos u) in
+        let right : (pos k +ℤ pos (unit - k)) *ℤ (s *ℤ pos w +ℤ e *ℤ pos u) ≡ (s *ℤ pos w +ℤ e *ℤ pos u) *ℤ pos unit =
+        ap (λ (z : ℤ). z *ℤ (s *ℤ pos w +ℤ e *ℤ pos u)) whole ∙ commuted (pos unit) (s *ℤ pos w +ℤ e *ℤ pos u) in
         cancel_right unit (lo *ℤ pos (w + u)) (s *ℤ pos w +ℤ e *ℤ pos u) (omega arith)
         (omega (arith, ints, swap lo (pos (w + u)) (pos unit), mul_mono_right (w + u) (lo *ℤ pos unit) (blend s e k) bound, below, right))
 
@@ -100,9 +103,21 @@ passed_above : (g u w v r : ℕ) → v ≡ w + u → unit ≡ g + r → u * unit
 passed_above g u w v r e k h = above g u w r (subst (λ (x : ℕ). u * (g + r) ≤ g * x) e (subst (λ (x : ℕ). u * x ≤ g * v) k h))
 
 -- The upper side is the lower one with the other signs.
-step_high : (s e hi : ℤ) (f g w u : ℕ) → f ≤ unit → g ≤ unit → f * w ≤ u * (unit - f) → u * (unit - g) ≤ g * w → int_max (blend s e f) (blend s e g) ≤ℤ (hi *ℤ pos unit) → (s *ℤ pos w +ℤ e *ℤ pos u) ≤ℤ (hi *ℤ (pos w +ℤ pos u))
+step_high : (s e hi : ℤ) (f g w u : ℕ) → f ≤ unit → g ≤ unit → f * w ≤ u * (unit - f) → u * (unit - g) ≤ g * w →
+    int_max (blend s e f) (blend s e g) ≤ℤ (hi *ℤ pos unit) → (s *ℤ pos w +ℤ e *ℤ pos u) ≤ℤ (hi *ℤ (pos w +ℤ pos u))
 step_high s e hi f g w u hf hg a b h =
-    let blends : (neg_ℤ hi *ℤ pos unit) ≤ℤ int_min (blend (neg_ℤ s) (neg_ℤ e) f) (blend (neg_ℤ s) (neg_ℤ e) g) = omega (arith, ints, clamps, h, neg_times hi (pos unit), neg_times s (pos (unit - f)), neg_times e (pos f), neg_times s (pos (unit - g)), neg_times e (pos g)) in
+    let blends : (neg_ℤ hi *ℤ pos unit) ≤ℤ int_min (blend (neg_ℤ s) (neg_ℤ e) f) (blend (neg_ℤ s) (neg_ℤ e) g) =
+    omega (
+      arith,
+      ints,
+      clamps,
+      h,
+      neg_times hi (pos unit),
+      neg_times s (pos (unit - f)),
+      neg_times e (pos f),
+      neg_times s (pos (unit - g)),
+      neg_times e (pos g),
+    ) in
     omega (arith, ints, step_low (neg_ℤ s) (neg_ℤ e) (neg_ℤ hi) f g w u hf hg a b blends, neg_times hi (pos w +ℤ pos u), neg_times s (pos w), neg_times e (pos u))
 
 turned_sum : (a b k m t : ℤ) → (neg_ℤ a *ℤ k +ℤ neg_ℤ b *ℤ m) *ℤ t ≡ neg_ℤ ((a *ℤ k +ℤ b *ℤ m) *ℤ t)
@@ -111,11 +126,20 @@ turned_sum a b k m t = rw (as_diff a, as_diff b, as_diff k, as_diff m, as_diff t
 head_high : (a b l s e : ℤ) (x y w u T : ℕ) → (a *ℤ pos T) ≤ℤ (s *ℤ pos x) → (b *ℤ pos T) ≤ℤ (e *ℤ pos y) → (s *ℤ pos w +ℤ e *ℤ pos u) ≤ℤ (l *ℤ (pos w +ℤ pos u)) →
     ((a *ℤ pos (w * (y * x)) +ℤ b *ℤ pos (u * (x * x))) *ℤ pos T) ≤ℤ (l *ℤ (pos x *ℤ ((pos y *ℤ pos x) *ℤ (pos w +ℤ pos u))))
 head_high a b l s e x y w u T hs he h =
-    let low = head_low (neg_ℤ a) (neg_ℤ b) (neg_ℤ l) (neg_ℤ s) (neg_ℤ e) x y w u T (omega (arith, ints, hs, neg_times s (pos x), neg_times a (pos T))) (omega (arith, ints, he, neg_times e (pos y), neg_times b (pos T))) (omega (arith, ints, h, neg_times l (pos w +ℤ pos u), neg_times s (pos w), neg_times e (pos u))) in
+    let low = head_low (neg_ℤ a) (neg_ℤ b) (neg_ℤ l) (neg_ℤ s) (neg_ℤ e) x y w u T (omega (arith, ints, hs, neg_times s (pos x), neg_times a (pos T)))
+    (omega (arith, ints, he, neg_times e (pos y), neg_times b (pos T))) (omega (
+      arith,
+      ints,
+      h,
+      neg_times l (pos w +ℤ pos u),
+      neg_times s (pos w),
+      neg_times e (pos u),
+    )) in
     omega (arith, ints, low, neg_times l (pos x *ℤ ((pos y *ℤ pos x) *ℤ (pos w +ℤ pos u))), turned_sum a b (pos (w * (y * x))) (pos (u * (x * x))) (pos T))
 
 -- the pair of a given head contains it, wherever the part lies between its bounds
-given_within : (x : Given) (F : Ratio) (f g : ℕ) (s e : HeadPair) (lo hi : ℤ) → IsPassed F f g → IsSignedFloor s.lo (number x.shead) 9 → IsSignedCeiling s.hi (number x.shead) 9 → IsSignedFloor e.lo (number x.ehead) 9 → IsSignedCeiling e.hi (number x.ehead) 9 →
+given_within : (x : Given) (F : Ratio) (f g : ℕ) (s e : HeadPair) (lo hi : ℤ) → IsPassed F f g → IsSignedFloor s.lo (number x.shead) 9 →
+    IsSignedCeiling s.hi (number x.shead) 9 → IsSignedFloor e.lo (number x.ehead) 9 → IsSignedCeiling e.hi (number x.ehead) 9 →
     IsFloorOf (int_min (blend s.lo e.lo f) (blend s.lo e.lo g)) lo → IsCeilingOf (int_max (blend s.hi e.hi f) (blend s.hi e.hi g)) hi → EnclosesSigned lo hi 9 (between_heads x F)
 given_within x F f g s e lo hi passed start_floor start_ceiling end_floor end_ceiling floor ceiling =
     let S = number x.shead in
@@ -124,9 +148,12 @@ given_within x F f g s e lo hi passed start_floor start_ceiling end_floor end_ce
     let v : den F ≡ w + F.num = omega (arith, passed.part) in
     let from = passed_below f F.num w (den F) (unit - f) v (omega (arith, passed.low_range)) passed.below in
     let to = passed_above g F.num w (den F) (unit - g) v (omega (arith, passed.high_range)) passed.above in
-    let low = head_low S.num E.num lo s.lo e.lo (denominator S) (denominator E) w F.num (10 ^ 9) start_floor.at_most end_floor.at_most (step_low s.lo e.lo lo f g w F.num passed.low_range passed.high_range from to floor.at_most) in
-    let high = head_high S.num E.num hi s.hi e.hi (denominator S) (denominator E) w F.num (10 ^ 9) start_ceiling.at_least end_ceiling.at_least (step_high s.hi e.hi hi f g w F.num passed.low_range passed.high_range from to ceiling.at_least) in
-    let e₁ : suc ((E.less * S.less + E.less + S.less) * F.less + (E.less * S.less + E.less + S.less) + F.less) ≡ (denominator E * denominator S) * (w + F.num) = middle_den S.less E.less F.less ∙ ap (λ (z : ℕ). (denominator E * denominator S) * z) v in
+    let low = head_low S.num E.num lo s.lo e.lo (denominator S) (denominator E) w F.num (10 ^ 9) start_floor.at_most end_floor.at_most
+    (step_low s.lo e.lo lo f g w F.num passed.low_range passed.high_range from to floor.at_most) in
+    let high = head_high S.num E.num hi s.hi e.hi (denominator S) (denominator E) w F.num (10 ^ 9) start_ceiling.at_least end_ceiling.at_least
+    (step_high s.hi e.hi hi f g w F.num passed.low_range passed.high_range from to ceiling.at_least) in
+    let e₁ : suc ((E.less * S.less + E.less + S.less) * F.less + (E.less * S.less + E.less + S.less) + F.less) ≡ (denominator E * denominator S) * (w + F.num) =
+    middle_den S.less E.less F.less ∙ ap (λ (z : ℕ). (denominator E * denominator S) * z) v in
     let e₂ : denominator (between_heads x F) ≡ denominator S * ((denominator E * denominator S) * (w + F.num)) = whole_den S.less _ ∙ ap (λ (z : ℕ). denominator S * z) e₁ in
     let num = ap (λ (z : ℕ). (S.num *ℤ pos z +ℤ ((E.num *ℤ pos (denominator S) +ℤ neg_ℤ S.num *ℤ pos (denominator E)) *ℤ pos F.num) *ℤ pos (denominator S)) *ℤ pos (10 ^ 9)) e₁ in
     let top = ap (λ (z : ℤ). z *ℤ pos (10 ^ 9)) (top_is S.num E.num (pos (denominator S)) (pos (denominator E)) (pos w) (pos F.num)) in
@@ -141,13 +168,15 @@ given_encloses x F part h =
     given_within x F part.lo part.hi (head_pair x.shead) (head_pair x.ehead) _ _ h (head_floor x.shead) (head_ceiling x.shead) (head_floor x.ehead) (head_ceiling x.ehead) (floor_is _) (ceiling_is _)
 
 -- the same for a pair that is made of the ends, and numbers that are those of an entry
-pub head_encloses : (shead ehead : Dec) (part : Part) (r : HeadPair) → r ≡ given_pair shead ehead part → (x : Given) (F : Ratio) → x.shead ≡ shead → x.ehead ≡ ehead → IsPassed F part.lo part.hi → EnclosesSigned r.lo r.hi 9 (between_heads x F)
+pub head_encloses : (shead ehead : Dec) (part : Part) (r : HeadPair) → r ≡ given_pair shead ehead part → (x : Given) (F : Ratio) → x.shead ≡ shead → x.ehead ≡
+    ehead → IsPassed F part.lo part.hi → EnclosesSigned r.lo r.hi 9 (between_heads x F)
 head_encloses shead ehead part r is x F p q h =
     let e : given_pair x.shead x.ehead part ≡ r = (λ i. given_pair (p i) (q i) part) ∙ sym is in
     subst (λ (k : HeadPair). EnclosesSigned k.lo k.hi 9 (between_heads x F)) e (given_encloses x F part h)
 
 pub given_is : (shead ehead : Dec) (part : Part) (start end : HeadPair) (lo hi : ℤ) → start ≡ head_pair shead → end ≡ head_pair ehead →
-    lo ≡ head_floor_of (int_min (blend start.lo end.lo part.lo) (blend start.lo end.lo part.hi)) → hi ≡ ceiling_of (int_max (blend start.hi end.hi part.lo) (blend start.hi end.hi part.hi)) → pair_of lo hi ≡ given_pair shead ehead part
+    lo ≡ head_floor_of (int_min (blend start.lo end.lo part.lo) (blend start.lo end.lo part.hi)) → hi ≡
+    ceiling_of (int_max (blend start.hi end.hi part.lo) (blend start.hi end.hi part.hi)) → pair_of lo hi ≡ given_pair shead ehead part
 unfolding given_pair
 given_is shead ehead part start end lo hi p q a b =
     let low = a ∙ (λ i. head_floor_of (int_min (blend (p i).lo (q i).lo part.lo) (blend (p i).lo (q i).lo part.hi))) in

@@ -68,7 +68,8 @@ module _ (b : Term) (v : Ratio) (x y : Term) where
   joined_factor true none p q = sum p q
   joined_factor false bed p q = sum (sum p (quotient bed.1 (number v bed.0))) q
 
-pub layers_give : (r d : Ratio) (q₁ : Bool) (h₁ v₁ : Ratio) (t₁ : Term) (q₂ : Bool) (h₂ v₂ : Ratio) (t₂ b : Term) (v : Ratio) (bare : Bool) → IsLayerHalf h₁ v₁ t₁ → IsLayerHalf h₂ v₂ t₂ → IsBedded bare b v →
+pub layers_give : (r d : Ratio) (q₁ : Bool) (h₁ v₁ : Ratio) (t₁ : Term) (q₂ : Bool) (h₂ v₂ : Ratio) (t₂ b : Term) (v : Ratio) (bare : Bool) →
+    IsLayerHalf h₁ v₁ t₁ → IsLayerHalf h₂ v₂ t₂ → IsBedded bare b v →
     Gives (Quotient (area_formula r d) (resistance_sum bare (vertical_term t₁ (vertical_k_term q₁ h₁ v₁)) (Quotient b (Number v)) (vertical_term t₂ (vertical_k_term q₂ h₂ v₂))))
     (over (times r d) (plus (plus (over (over (exact t₁) two) (vertical_k q₁ h₁ v₁)) (over (exact b) v)) (over (over (exact t₂) two) (vertical_k q₂ h₂ v₂))))
 layers_give r d q₁ h₁ v₁ t₁ q₂ h₂ v₂ t₂ b v bare p q bed =

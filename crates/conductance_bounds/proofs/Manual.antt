@@ -49,7 +49,20 @@ regrouped w x k y t z = omega arith
 regroup : (w k t : Ratio) → Same (times (plus w w) (times k t)) (times (times (times two w) k) t)
 unfolding ratio
 regroup w k t = record {
-  cross = rw (num_times (plus w w) (times k t), den_times (plus w w) (times k t), num_times (times (times two w) k) t, den_times (times (times two w) k) t, num_times k t, den_times k t, num_times (times two w) k, den_times (times two w) k, num_times two w, den_times two w, num_plus w w, den_plus w w)
+  cross = rw (
+    num_times (plus w w) (times k t),
+    den_times (plus w w) (times k t),
+    num_times (times (times two w) k) t,
+    den_times (times (times two w) k) t,
+    num_times k t,
+    den_times k t,
+    num_times (times two w) k,
+    den_times (times two w) k,
+    num_times two w,
+    den_times two w,
+    num_plus w w,
+    den_plus w w,
+  )
       (regrouped w.num (den w) k.num (den k) t.num (den t));
 }
 
@@ -98,7 +111,16 @@ halves t dt k dk = omega arith
 pub half_of : (t k : Ratio) → 0 < k.num → Same (over t (plus k k)) (over (over t two) k)
 unfolding ratio
 half_of t k h = record {
-  cross = rw (num_over t (plus k k), den_over t (plus k k) (plus-positive k k h), num_over (over t two) k, den_over (over t two) k h, num_over t two, den_over t two (omega arith), num_plus k k, den_plus k k) (halves t.num (den t) k.num (den k));
+  cross = rw (
+    num_over t (plus k k),
+    den_over t (plus k k) (plus-positive k k h),
+    num_over (over t two) k,
+    den_over (over t two) k h,
+    num_over t two,
+    den_over t two (omega arith),
+    num_plus k k,
+    den_plus k k,
+  ) (halves t.num (den t) k.num (den k));
 }
 
 -- nothing added

@@ -32,7 +32,9 @@ module _ (m : FlowModel) where
   unfolding storage
   storage_at valid p n c timed transient lt active =
       let ready = is_ready m c valid lt active in
-      subst (λ (k : Ratio). Gives (storage_term m p n c) (over (times (times (times k (size (delr_at m c))) (size (delc_at m c))) (geometric (size p.tsmult) p.nstp)) (times (size p.perlen) (power (size p.tsmult) (n - 1))))) (storativity_is c)
+      subst (λ (k : Ratio). Gives (storage_term m p n c)
+      (over (times (times (times k (size (delr_at m c))) (size (delc_at m c))) (geometric (size p.tsmult) p.nstp))
+      (times (size p.perlen) (power (size p.tsmult) (n - 1))))) (storativity_is c)
       (storage_gives (storativity_term (size (dec_at m.ss c)) (cond m.coefficient None (Some (thick_term m c)))) (size (delr_at m c)) (size (delc_at m c)) (size p.tsmult) (size p.perlen) p.nstp n
       timed.nstp.0 (size_positive p.perlen (timed.lasts transient)) (size_positive p.tsmult timed.tsmult) (storativity_holds c ready.thick.holds))
 

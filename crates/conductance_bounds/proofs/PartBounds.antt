@@ -38,7 +38,8 @@ next t m = more_plus (geometric t m) (power t m)
 
 pub geometric_grows : (t : Ratio) (n k : ℕ) → AtMost (geometric t n) (geometric t (n + k))
 geometric_grows t n zero = subst (λ (m : ℕ). AtMost (geometric t n) (geometric t m)) (let e : n ≡ n + 0 = omega arith in e) (AtMost-refl (geometric t n))
-geometric_grows t n (suc k) = AtMost-trans (geometric_grows t n k) (subst (λ (m : ℕ). AtMost (geometric t (n + k)) (geometric t m)) (let e : suc (n + k) ≡ n + suc k = omega arith in e) (next t (n + k)))
+geometric_grows t n (suc k) = AtMost-trans (geometric_grows t n k)
+    (subst (λ (m : ℕ). AtMost (geometric t (n + k)) (geometric t m)) (let e : suc (n + k) ≡ n + suc k = omega arith in e) (next t (n + k)))
 
 least : (c g d top : ℕ) → g ≡ min c (10 ^ 18) → top ≤ c * d → top ≤ d * 10 ^ 18 → top ≤ g * d
 least c g d top e a b = grind (arith, cases_lt)
@@ -110,7 +111,8 @@ pub over_is : (p : Period) (n : ℕ) → is_whole p n ≡ true → whole_part �
 unfolding part
 over_is p n e = sym (cond-true (is_whole p n) whole_part (growing_of p n) e)
 
-pub going_is : (p : Period) (n lo hi : ℕ) (x : Span) → is_whole p n ≡ false → AreBounds (part_term p n) x → IsFloor lo (value x.lo) 18 → hi ≡ min (in_units Upper (value x.hi) 18) (10 ^ 18) → part_of lo hi ≡ part p n
+pub going_is : (p : Period) (n lo hi : ℕ) (x : Span) → is_whole p n ≡ false → AreBounds (part_term p n) x → IsFloor lo (value x.lo) 18 → hi ≡
+    min (in_units Upper (value x.hi) 18) (10 ^ 18) → part_of lo hi ≡ part p n
 unfolding part pair
 going_is p n lo hi x e bounds floor upper =
     let low = one_floor (value x.lo) lo 18 floor ∙ ap (λ (r : Sd). in_units Lower (value r) 18) bounds.lower in

@@ -35,7 +35,18 @@ both_encloses false r a p s k = gain_encloses r a p.lo p.hi s k
 both_encloses true r a p s k = loss_encloses r a p.lo p.hi s k
 
 pub assoc : (a b c : Ratio) → Same (times a (times b c)) (times (times a b) c)
-assoc a b c = record { cross = rw (num_times a (times b c), den_times a (times b c), num_times (times a b) c, den_times (times a b) c, num_times b c, den_times b c, num_times a b, den_times a b) (omega arith) }
+assoc a b c = record {
+  cross = rw (
+    num_times a (times b c),
+    den_times a (times b c),
+    num_times (times a b) c,
+    den_times (times a b) c,
+    num_times b c,
+    den_times b c,
+    num_times a b,
+    den_times a b,
+  ) (omega arith);
+}
 
 -- the bounds of a recharge over a cell of lengths r and d
 pub flow_encloses : (rate : Dec) (r d : Ratio) (s : ℕ) → FlowEncloses (recharge_formula (size rate) r d) rate.neg s (with_area rate.neg (size rate) (times r d))
@@ -47,7 +58,8 @@ pub recharge_encloses : (rate delr delc : Dec) (s : ℕ) → FlowEncloses (recha
 recharge_encloses rate delr delc s = flow_encloses rate (size delr) (size delc) s
 
 -- the bounds of a flow of the input
-signed_encloses : (neg : Bool) (r : Ratio) (p : Pair) (s : ℕ) → Encloses p.lo p.hi s r → EnclosesSigned (signed_pair neg p).lo (signed_pair neg p).hi s (record { num = with_sign neg r.num; less = r.less })
+signed_encloses : (neg : Bool) (r : Ratio) (p : Pair) (s : ℕ) → Encloses p.lo p.hi s r →
+    EnclosesSigned (signed_pair neg p).lo (signed_pair neg p).hi s (record { num = with_sign neg r.num; less = r.less })
 signed_encloses false r p s k = record { lower = omega (arith, ints, k.lower); upper = omega (arith, ints, k.upper) }
 signed_encloses true r p s k = grind (arith, neg_times)
 

@@ -62,7 +62,8 @@ pub thick_positive : (top bottom : Dec) → IsThick top bottom → 0 < (gap (num
 thick_positive top bottom k = abs_positive (gap_num (number top) (number bottom)) (gap_positive top bottom k)
 
 -- and its two decimals contain it
-pub span_between : (top bottom : Dec) → IsThick top bottom → units_at Upper bottom 18 ≤ℤ units_at Lower top 18 → units_at Lower bottom 18 ≤ℤ units_at Upper top 18 → IsBetween (span top bottom).lo (span top bottom).hi (gap (number top) (number bottom))
+pub span_between : (top bottom : Dec) → IsThick top bottom → units_at Upper bottom 18 ≤ℤ units_at Lower top 18 →
+    units_at Lower bottom 18 ≤ℤ units_at Upper top 18 → IsBetween (span top bottom).lo (span top bottom).hi (gap (number top) (number bottom))
 unfolding span
 span_between top bottom thick order wide =
     let a = units_at Lower top 18 in
@@ -77,8 +78,21 @@ span_between top bottom thick order wide =
     let high = abs_high (b -ℤ c) (gap_num (number top) (number bottom)) x y (10 ^ 18) (omega (arith, ints, wide)) (omega (arith, ints, g))
     (above_gap b c (number top).num (number bottom).num x y (10 ^ 18) (units_ceiling top 18).at_least (units_floor bottom 18).at_most) in
     record {
-      lower = AtMost-trans (is_rounded Lower _).at_most (record { cross = rw (num_scaled (unsigned_abs (a -ℤ d)) (neg_ℤ (pos 18)), den_scaled (unsigned_abs (a -ℤ d)) (neg_ℤ (pos 18)), den_gap (number top) (number bottom)) (omega (arith, low)) });
-      upper = AtMost-trans (record { cross = rw (num_scaled (unsigned_abs (b -ℤ c)) (neg_ℤ (pos 18)), den_scaled (unsigned_abs (b -ℤ c)) (neg_ℤ (pos 18)), den_gap (number top) (number bottom)) (omega (arith, high)) }) (is_rounded Upper _).at_least;
+      lower = AtMost-trans (is_rounded Lower _).at_most
+          (record {
+            cross = rw (
+              num_scaled (unsigned_abs (a -ℤ d)) (neg_ℤ (pos 18)),
+              den_scaled (unsigned_abs (a -ℤ d)) (neg_ℤ (pos 18)),
+              den_gap (number top) (number bottom),
+            ) (omega (arith, low));
+          });
+      upper = AtMost-trans (record {
+        cross = rw (
+          num_scaled (unsigned_abs (b -ℤ c)) (neg_ℤ (pos 18)),
+          den_scaled (unsigned_abs (b -ℤ c)) (neg_ℤ (pos 18)),
+          den_gap (number top) (number bottom),
+        ) (omega (arith, high));
+      }) (is_rounded Upper _).at_least;
     }
 
 -- The number 1.
@@ -104,7 +118,10 @@ shift m e = subst (λ (k : ℤ). Same (scaled_ratio (m * 10) (e -ℤ pos 1)) (sc
 padded : (j m : ℕ) (e : ℤ) → m < 10 ^ 18 → 10 ^ 17 ≤ m * 10 ^ j → IsDecimal (scaled_ratio m e)
 padded zero m e few big = record { at = record { m = m; e = e }; decimal = inl (omega (arith, big), few); same = Same-self (scaled_ratio m e) }
 padded (suc j) m e few big = elim (cases_lt m (10 ^ 17)) [
-  | inl lt ↦ (let r = padded j (m * 10) (e -ℤ pos 1) (omega (arith, lt)) (let q : m * 10 ^ suc j ≡ m * (10 ^ j * 10) = ap (λ (z : ℕ). m * z) (pow-suc 10 j) in omega (arith, big, q)) in record { at = r.at; decimal = r.decimal; same = Same-trans r.same (shift m e) })
+  | inl lt ↦
+      let q : m * 10 ^ suc j ≡ m * (10 ^ j * 10) = ap (λ (z : ℕ). m * z) (pow-suc 10 j) in
+      let r = padded j (m * 10) (e -ℤ pos 1) (omega (arith, lt)) (omega (arith, big, q)) in
+      record { at = r.at; decimal = r.decimal; same = Same-trans r.same (shift m e) }
   | inr le ↦ record { at = record { m = m; e = e }; decimal = inl (le, few); same = Same-self (scaled_ratio m e) }
 ]
 
@@ -161,7 +178,8 @@ equal_power side (suc n) =
 pub equal_sums : (t : Dec) (n : ℕ) (x : Sd) → t ≡ number_one → 1 ≤ n → n ≤ 100000 → IsSd x → Same (value x) (scaled_ratio n (pos 0)) → AreBounds (sum_term (size t) (n - 1)) (record { lo = x; hi = x })
 equal_sums t n x e some few d same =
     let whole : Same (value x) (ratio (suc (n - 1)) 1) = subst (λ k. Same (value x) (ratio k 1)) (let q : n ≡ suc (n - 1) = omega (arith, some) in q) (Same-trans same (whole_is n)) in
-    subst (λ k. AreBounds (sum_term (size k) (n - 1)) (record { lo = x; hi = x })) (sym e) (record { lower = equal_sum Lower (n - 1) x (omega (arith, few)) d whole; upper = equal_sum Upper (n - 1) x (omega (arith, few)) d whole })
+    subst (λ k. AreBounds (sum_term (size k) (n - 1)) (record { lo = x; hi = x })) (sym e)
+    (record { lower = equal_sum Lower (n - 1) x (omega (arith, few)) d whole; upper = equal_sum Upper (n - 1) x (omega (arith, few)) d whole })
 
 pub one_bounds : AreBounds (Number one) (record { lo = unity; hi = unity })
 unfolding bound
@@ -170,4 +188,8 @@ one_bounds = record { lower = one_is Lower; upper = one_is Upper }
 pub equal_powers : (t : Dec) (n : ℕ) (x : Span) → t ≡ number_one → AreBounds (Number one) x → AreBounds (power_term (size t) (n - 1)) x
 unfolding bound
 equal_powers t n x e p =
-    subst (λ k. AreBounds (power_term (size k) (n - 1)) x) (sym e) (record { lower = p.lower ∙ sym (one_is Lower) ∙ equal_power Lower (n - 1); upper = p.upper ∙ sym (one_is Upper) ∙ equal_power Upper (n - 1) })
+    subst (λ k. AreBounds (power_term (size k) (n - 1)) x) (sym e) (record {
+      lower = p.lower ∙ sym (one_is Lower) ∙ equal_power Lower (n - 1);
+      upper =
+          p.upper ∙ sym (one_is Upper) ∙ equal_power Upper (n - 1);
+    })

@@ -29,14 +29,18 @@ storativity_holds : (ss : Dec) (thick : Option (Sd × Sd)) (f : Ratio) → LiesW
 storativity_holds ss None f h = tt
 storativity_holds ss (Some (lo, hi)) f h = (tt, h)
 
-pub branch_encloses : (ss : Dec) (thick : Option (Sd × Sd)) (delr delc : Dec) (t : Ratio) (steps n : ℕ) (perlen : Dec) (f : Ratio) (s : ℕ) → IsPositive perlen → 1 ≤ steps → 0 < t.num → LiesWithin thick f →
+pub branch_encloses : (ss : Dec) (thick : Option (Sd × Sd)) (delr delc : Dec) (t : Ratio) (steps n : ℕ) (perlen : Dec) (f : Ratio) (s : ℕ) → IsPositive perlen →
+    1 ≤ steps → 0 < t.num → LiesWithin thick f →
     PairEncloses (storage_of ss thick delr delc t steps n perlen f) s (storage_exact ss thick delr delc t steps n perlen f)
 branch_encloses ss thick delr delc t steps n perlen f s length some growth within =
-    subst (λ k. PairEncloses (storage_of ss thick delr delc t steps n perlen f) s (over (times (times (times k (size delr)) (size delc)) (geometric t steps)) (times (size perlen) (power t (n - 1))))) (storativity_is ss thick f)
-    (encloses s (storage_gives (storativity_term (size ss) (thickness_of thick f)) (size delr) (size delc) t (size perlen) steps n some (size_positive perlen length) growth (storativity_holds ss thick f within)))
+    subst (λ k. PairEncloses (storage_of ss thick delr delc t steps n perlen f) s
+    (over (times (times (times k (size delr)) (size delc)) (geometric t steps)) (times (size perlen) (power t (n - 1))))) (storativity_is ss thick f)
+    (encloses s (storage_gives (storativity_term (size ss) (thickness_of thick f)) (size delr) (size delc) t (size perlen) steps n some
+    (size_positive perlen length) growth (storativity_holds ss thick f within)))
 
 -- the bounds of SS times a thickness
-pub thick_bounds : (ss : Ratio) (thick : Option (Sd × Sd)) (lo hi : Sd) (f : Ratio) (x : Span) → thick ≡ Some (lo, hi) → AreBounds (Product (Number ss) (Within lo hi f)) x → AreBounds (storativity_term ss (thickness_of thick f)) x
+pub thick_bounds : (ss : Ratio) (thick : Option (Sd × Sd)) (lo hi : Sd) (f : Ratio) (x : Span) → thick ≡ Some (lo, hi) →
+    AreBounds (Product (Number ss) (Within lo hi f)) x → AreBounds (storativity_term ss (thickness_of thick f)) x
 thick_bounds ss thick lo hi f x e p = subst (λ k. AreBounds (storativity_term ss (thickness_of k f)) x) (sym e) p
 
 -- the factors of a step, as bounds
@@ -48,6 +52,7 @@ pub grown_power : (t : Ratio) (steps n : ℕ) (f : Factors) → f ≡ factors_of
 unfolding factors_of
 grown_power t steps n f e = record { lower = ap (λ (g : Factors). g.power_lo) e; upper = ap (λ (g : Factors). g.power_hi) e }
 
-pub factors_are : (t : Ratio) (steps n : ℕ) (f : Factors) → AreBounds (sum_term t (steps - 1)) (record { lo = f.sum_lo; hi = f.sum_hi }) → AreBounds (power_term t (n - 1)) (record { lo = f.power_lo; hi = f.power_hi }) → f ≡ factors_of t steps n
+pub factors_are : (t : Ratio) (steps n : ℕ) (f : Factors) → AreBounds (sum_term t (steps - 1)) (record { lo = f.sum_lo; hi = f.sum_hi }) →
+    AreBounds (power_term t (n - 1)) (record { lo = f.power_lo; hi = f.power_hi }) → f ≡ factors_of t steps n
 unfolding factors_of
 factors_are t steps n f p q = λ i. record { sum_lo = p.lower i; sum_hi = p.upper i; power_lo = q.lower i; power_hi = q.upper i }

@@ -90,7 +90,8 @@ pub edges_room : (top bottom : Dec) → IsThick top bottom → HasRoom (units_at
 edges_room top bottom thick =
     let low = floor_units top 18 thick.floor thick.is_floor in
     let high = ceiling_units bottom 18 thick.ceiling thick.is_ceiling in
-    room _ _ _ _ (omega (arith, ints, low, high, thick.room)) (floor_ceiling (number top) _ _ _ (units_floor top 18).at_most (units_ceiling top 18).at_least) (floor_ceiling (number bottom) _ _ _ (units_floor bottom 18).at_most (units_ceiling bottom 18).at_least)
+    room _ _ _ _ (omega (arith, ints, low, high, thick.room)) (floor_ceiling (number top) _ _ _ (units_floor top 18).at_most (units_ceiling top 18).at_least)
+    (floor_ceiling (number bottom) _ _ _ (units_floor bottom 18).at_most (units_ceiling bottom 18).at_least)
 
 -- so the decimals are positive
 pub span_positive : (top bottom : Dec) → IsThick top bottom → 0 < (span top bottom).lo.m
@@ -100,7 +101,8 @@ span_positive top bottom thick =
     rounded_positive (scaled_ratio n (neg_ℤ (pos 18))) (rw (num_scaled n (neg_ℤ (pos 18))) (mul-pos (edges_room top bottom thick).some (ten_pos (up (neg_ℤ (pos 18))))))
 
 -- the decimals of a number of units, rounded to both sides
-pub span_is : (top bottom : Dec) (t : Span) (low high : ℕ) → low ≡ unsigned_abs (units_at Lower top 18 -ℤ units_at Upper bottom 18) → high ≡ unsigned_abs (units_at Upper top 18 -ℤ units_at Lower bottom 18) →
+pub span_is : (top bottom : Dec) (t : Span) (low high : ℕ) → low ≡ unsigned_abs (units_at Lower top 18 -ℤ units_at Upper bottom 18) → high ≡
+    unsigned_abs (units_at Upper top 18 -ℤ units_at Lower bottom 18) →
     IsDown t.lo (scaled_ratio low (neg_ℤ (pos 18))) → IsUp t.hi (scaled_ratio high (neg_ℤ (pos 18))) → t ≡ span top bottom
 unfolding span
 span_is top bottom t low high e f p q =

@@ -31,7 +31,8 @@ diff-*ℤ p q r s =
     let (j, er, es) = spread (diff r s) r s refl in
     same_in _ _ (product_of (diff p q) (diff r s) p q r s k j ep eq er es)
   where
-    product_of : (x y : ℤ) (p q r s k j : ℕ) → p ≡ up x + k → q ≡ down x + k → r ≡ up y + j → s ≡ down y + j → up (x *ℤ y) + down (diff (p * r + q * s) (p * s + q * r)) ≡ up (diff (p * r + q * s) (p * s + q * r)) + down (x *ℤ y)
+    product_of : (x y : ℤ) (p q r s k j : ℕ) → p ≡ up x + k → q ≡ down x + k → r ≡ up y + j → s ≡ down y + j →
+        up (x *ℤ y) + down (diff (p * r + q * s) (p * s + q * r)) ≡ up (diff (p * r + q * s) (p * s + q * r)) + down (x *ℤ y)
     product_of x y p q r s k j ep eq er es = rw (ep, eq, er, es) (omega (arith, product_is, diff_is))
 
 -- the equations that turn sums, products and negatives of differences into one difference

@@ -38,7 +38,8 @@ few_zeros c d z n h lt = elim (cases_lt z n) [
         omega (arith, split, least, h.whole, lt, mul-le-mul_left (10 ^ n) (ten_pos j))
 
 -- past the cap both exponents are out of range
-capped : (neg sign : Bool) (d n z len : ℕ) (e f : ℤ) (r : Result Dec NumFault) → z < 64 → len ≤ 64 → f ≡ with_sign sign n → e ≡ with_sign sign (min n 10000) → IsTested neg d (e -ℤ pos len +ℤ pos z) r → IsTested neg d (f -ℤ pos len +ℤ pos z) r
+capped : (neg sign : Bool) (d n z len : ℕ) (e f : ℤ) (r : Result Dec NumFault) → z < 64 → len ≤ 64 → f ≡ with_sign sign n → e ≡ with_sign sign (min n 10000) →
+    IsTested neg d (e -ℤ pos len +ℤ pos z) r → IsTested neg d (f -ℤ pos len +ℤ pos z) r
 capped neg sign d n z len e f r hz hl hf he t = elim (cases_lt n 10000) [
   | inl k ↦ (let same : e ≡ f = he ∙ ap (with_sign sign) (less k) ∙ sym hf in let Q : ℤ → Type 0 = λ g. IsTested neg d (g -ℤ pos len +ℤ pos z) r in subst Q same t)
   | inr k ↦ past sign k hf he
@@ -66,7 +67,8 @@ canonical_capped neg c len e f r hc hl cap (inl h) = inl h
 canonical_capped neg c len e f r hc hl cap (inr (d, z, h, t)) =
     inr (d, z, h, capped neg cap.is.0 d cap.is.1 z len e f r (few_zeros c d z 64 h hc) hl cap.is.2 cap.is.3 t)
 
-pub coefficient_below : (whole part : List ℕ) → length whole + length part ≤ 64 → ((i : ℕ) → i < length whole → is_digit (get_or whole i 0) ≡ true) → ((i : ℕ) → i < length part → is_digit (get_or part i 0) ≡ true) → number_from (number_from 0 whole) part < 10 ^ 64
+pub coefficient_below : (whole part : List ℕ) → length whole + length part ≤ 64 → ((i : ℕ) → i < length whole → is_digit (get_or whole i 0) ≡ true) →
+    ((i : ℕ) → i < length part → is_digit (get_or part i 0) ≡ true) → number_from (number_from 0 whole) part < 10 ^ 64
 coefficient_below whole part h aw ap_ =
     let w = number_below 0 whole aw in
     let p = number_below (number_from 0 whole) part ap_ in
@@ -80,14 +82,16 @@ coefficient_below whole part h aw ap_ =
         let more : 10 ^ (a + b) ≤ 10 ^ 64 = subst P e (rw (pow-add 10 (a + b) (64 - (a + b))) (omega (arith, mul-le-mul_left (10 ^ (a + b)) (ten_pos (64 - (a + b)))))) in
         omega (arith, pow-add 10 a b, le, more)
 
-pub named : (neg : Bool) (whole part : List ℕ) (X : Option ℤ) (e : ℤ) (r : Result Dec NumFault) → length whole + length part ≤ 64 → ((i : ℕ) → i < length whole → is_digit (get_or whole i 0) ≡ true) → ((i : ℕ) → i < length part → is_digit (get_or part i 0) ≡ true) →
+pub named : (neg : Bool) (whole part : List ℕ) (X : Option ℤ) (e : ℤ) (r : Result Dec NumFault) → length whole + length part ≤ 64 →
+    ((i : ℕ) → i < length whole → is_digit (get_or whole i 0) ≡ true) → ((i : ℕ) → i < length part → is_digit (get_or part i 0) ≡ true) →
     1 ≤ length whole + length part → IsCapped (Some e) X → IsCanonical neg (number_from (number_from 0 whole) part) (e -ℤ pos (length part)) r → IsNumber (spelling neg whole part X) r
 named neg whole part None e r h aw ap_ some near can = absurd near
 named neg whole part (Some f) e r h aw ap_ some near can =
     let ok : nat_le 1 (length whole + length part) ≡ true = le-leb 1 (length whole + length part) some in
     rw ok (canonical_capped neg (number_from (number_from 0 whole) part) (length part) e f r (coefficient_below whole part h aw ap_) (omega arith) near can)
 
-pub joined : (w body whole tail part rest : List ℕ) (neg : Bool) → neg ≡ is_negative w → body ≡ without_sign w → whole ≡ digits_of body → tail ≡ after_digits body → part ≡ digits_after_point tail → rest ≡ behind_part tail → spelling neg whole part (exponent_of rest) ≡ spelling_of w
+pub joined : (w body whole tail part rest : List ℕ) (neg : Bool) → neg ≡ is_negative w → body ≡ without_sign w → whole ≡ digits_of body → tail ≡
+    after_digits body → part ≡ digits_after_point tail → rest ≡ behind_part tail → spelling neg whole part (exponent_of rest) ≡ spelling_of w
 joined w body whole tail part rest neg e₁ e₂ e₃ e₄ e₅ e₆ = rw (e₆, e₅, e₃, e₄, e₂, e₁) refl
 
 -- no digits yet

@@ -116,10 +116,23 @@ exponent_cut [] e h = inr (refl, sym (some_is _ _ h))
 exponent_cut (b ∷ bs) e h = elim (cases_Bool (is_mark b)) [
   | inl k ↦ (let (s, signed, cut) = sign_cut bs in
       let w = whole_cut (is_negative bs) (without_sign bs) e (rw k at h) in
-      inl (record { mark = b; neg = is_negative bs; sign = s; digits = without_sign bs; cut = ap (λ (xs : List ℕ). b ∷ xs) cut; is_mark_byte = k; is_sign = signed; are_digits = w.0; some = w.1.0; value = w.1.1 }))
+      inl (record {
+        mark = b;
+        neg = is_negative bs;
+        sign = s;
+        digits = without_sign bs;
+        cut = ap (λ (xs : List ℕ). b ∷ xs) cut;
+        is_mark_byte = k;
+        is_sign =
+            signed;
+        are_digits = w.0;
+        some = w.1.0;
+        value = w.1.1;
+      }))
   | inr k ↦ absurd (let n : None ≡ Some e = rw k at h in cc)
 ]
 
-pub spelling_cut : (neg : Bool) (whole part : List ℕ) (X : Option ℤ) (n : Spelling) → spelling neg whole part X ≡ Some n → (e : ℤ) × (X ≡ Some e) × (1 ≤ length whole + length part) × (n ≡ record { neg = neg; coefficient = number_from (number_from 0 whole) part; exp = e -ℤ pos (length part) })
+pub spelling_cut : (neg : Bool) (whole part : List ℕ) (X : Option ℤ) (n : Spelling) → spelling neg whole part X ≡ Some n → (e : ℤ) × (X ≡ Some e) ×
+    (1 ≤ length whole + length part) × (n ≡ record { neg = neg; coefficient = number_from (number_from 0 whole) part; exp = e -ℤ pos (length part) })
 spelling_cut neg whole part None n h = absurd cc
 spelling_cut neg whole part (Some e) n h = grind (arith, cases_Bool, nat_le, leb-true, some_is)

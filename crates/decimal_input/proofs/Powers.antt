@@ -36,7 +36,8 @@ sum_balance d e = omega (arith, ints, up_down d, up_down e, up_down (d +ℤ e))
 pub scaled_times : (m n : ℕ) (d e : ℤ) → Same (times (scaled_ratio m d) (scaled_ratio n e)) (scaled_ratio (m * n) (d +ℤ e))
 scaled_times m n d e = record {
   cross = rw (num_times, den_times, num_scaled m d, num_scaled n e, num_scaled (m * n) (d +ℤ e), den_scaled m d, den_scaled n e, den_scaled (m * n) (d +ℤ e))
-      (regroup m n (10 ^ up d) (10 ^ up e) (10 ^ down (d +ℤ e)) (10 ^ up (d +ℤ e)) (10 ^ down d) (10 ^ down e) (pow_three (up d) (up e) (down (d +ℤ e)) (up (d +ℤ e)) (down d) (down e) (sum_balance d e)));
+      (regroup m n (10 ^ up d) (10 ^ up e) (10 ^ down (d +ℤ e)) (10 ^ up (d +ℤ e)) (10 ^ down d) (10 ^ down e)
+      (pow_three (up d) (up e) (down (d +ℤ e)) (up (d +ℤ e)) (down d) (down e) (sum_balance d e)));
 }
   where
     regroup : (m n a b c x y z : ℕ) → a * b * c ≡ x * y * z → (m * a) * (n * b) * c ≡ (m * n) * x * (y * z)
@@ -112,10 +113,12 @@ shifted c d z t n ht h =
     let k : d * t ≡ d * (10 ^ z * 10) = ap (λ (x : ℕ). d * x) e in
     omega (arith, k, h.whole)
 
-pub accepted : (k : Coefficient) (neg : Bool) (n : ℕ) (e g : ℤ) → k.many ≡ false → (k.digits ≡ 0 → ⊥) → k.digits < 10 ^ 18 → IsOf k n → g ≡ e +ℤ pos k.zeros → neg_ℤ (pos 40) ≤ℤ g → g ≤ℤ pos 40 → IsCanonical neg n e (Ok (record { neg = neg; digits = k.digits; exp = g }))
+pub accepted : (k : Coefficient) (neg : Bool) (n : ℕ) (e g : ℤ) → k.many ≡ false → (k.digits ≡ 0 → ⊥) → k.digits < 10 ^ 18 → IsOf k n → g ≡ e +ℤ pos k.zeros →
+    neg_ℤ (pos 40) ≤ℤ g → g ≤ℤ pos 40 → IsCanonical neg n e (Ok (record { neg = neg; digits = k.digits; exp = g }))
 accepted k neg n e g f ne few h hg low high = grind (arith, trimmed)
 
-pub number : (k : Coefficient) (neg : Bool) (n : ℕ) (g : ℤ) → k.many ≡ false → (k.digits ≡ 0 → ⊥) → k.digits < 10 ^ 18 → IsOf k n → neg_ℤ (pos 40) ≤ℤ g → g ≤ℤ pos 40 → IsDec (record { neg = neg; digits = k.digits; exp = g })
+pub number : (k : Coefficient) (neg : Bool) (n : ℕ) (g : ℤ) → k.many ≡ false → (k.digits ≡ 0 → ⊥) → k.digits < 10 ^ 18 → IsOf k n → neg_ℤ (pos 40) ≤ℤ g →
+    g ≤ℤ pos 40 → IsDec (record { neg = neg; digits = k.digits; exp = g })
 number k neg n g f ne few h low high = grind (arith, trimmed)
 
 pub zero_number : IsDec (record { neg = false; digits = 0; exp = pos 0 })

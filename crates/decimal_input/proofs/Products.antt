@@ -76,7 +76,8 @@ if_ok_also (Ok d) f g e h = Same-trans h e
 if_ok_also (Err x) f g e h = _
 
 -- The canonical form of a product has the product's value.
-pub product_is : (a b : Dec) (r : Result Dec NumFault) → IsCanonical (differ a.neg b.neg) (a.digits * b.digits) (a.exp +ℤ b.exp) r → IfOk r (λ d. SameSigned (number d) (times_signed (number a) (number b)))
+pub product_is : (a b : Dec) (r : Result Dec NumFault) → IsCanonical (differ a.neg b.neg) (a.digits * b.digits) (a.exp +ℤ b.exp) r →
+    IfOk r (λ d. SameSigned (number d) (times_signed (number a) (number b)))
 product_is a b r h = if_ok_also r _ _ (product_value a b) (canonical_value _ _ _ r h)
 
 -- What a word names has the value that the word spells.

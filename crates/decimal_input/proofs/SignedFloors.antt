@@ -36,16 +36,20 @@ before (suc n) N d least = elim (cases_lt (n * d) N) [
   | inr h ↦ absurd (let k : suc n ≤ n = least n h in omega (arith, k))
 ]
 
-floor_up : (neg : Bool) (m d p k : ℕ) (z : ℤ) → neg ≡ false → z ≡ pos k → k * d ≤ m * p → m * p < (k + 1) * d → ((z *ℤ pos d) ≤ℤ (with_sign neg m *ℤ pos p)) × ((with_sign neg m *ℤ pos p) <ℤ ((z +ℤ pos 1) *ℤ pos d))
+floor_up : (neg : Bool) (m d p k : ℕ) (z : ℤ) → neg ≡ false → z ≡ pos k → k * d ≤ m * p → m * p < (k + 1) * d → ((z *ℤ pos d) ≤ℤ (with_sign neg m *ℤ pos p)) ×
+    ((with_sign neg m *ℤ pos p) <ℤ ((z +ℤ pos 1) *ℤ pos d))
 floor_up neg m d p k z f e low high = rw (f, e, next_times (pos k) d) (omega (arith, ints, low), omega (arith, ints, high))
 
-floor_down : (neg : Bool) (m d p k : ℕ) (z : ℤ) → 0 < d → neg ≡ true → z ≡ neg_ℤ (pos k) → m * p ≤ k * d → k * d ≤ m * p + d - 1 → ((z *ℤ pos d) ≤ℤ (with_sign neg m *ℤ pos p)) × ((with_sign neg m *ℤ pos p) <ℤ ((z +ℤ pos 1) *ℤ pos d))
+floor_down : (neg : Bool) (m d p k : ℕ) (z : ℤ) → 0 < d → neg ≡ true → z ≡ neg_ℤ (pos k) → m * p ≤ k * d → k * d ≤ m * p + d - 1 →
+    ((z *ℤ pos d) ≤ℤ (with_sign neg m *ℤ pos p)) × ((with_sign neg m *ℤ pos p) <ℤ ((z +ℤ pos 1) *ℤ pos d))
 floor_down neg m d p k z pd f e low high = rw (f, e, next_times (neg_ℤ (pos k)) d, neg_times (pos k) (pos d), neg_times (pos m) (pos p)) (omega (arith, ints, low), omega (arith, ints, high))
 
-ceiling_up : (neg : Bool) (m d p k : ℕ) (z : ℤ) → 0 < d → neg ≡ false → z ≡ pos k → m * p ≤ k * d → k * d ≤ m * p + d - 1 → ((with_sign neg m *ℤ pos p) ≤ℤ (z *ℤ pos d)) × (((z +ℤ neg_ℤ (pos 1)) *ℤ pos d) <ℤ (with_sign neg m *ℤ pos p))
+ceiling_up : (neg : Bool) (m d p k : ℕ) (z : ℤ) → 0 < d → neg ≡ false → z ≡ pos k → m * p ≤ k * d → k * d ≤ m * p + d - 1 →
+    ((with_sign neg m *ℤ pos p) ≤ℤ (z *ℤ pos d)) × (((z +ℤ neg_ℤ (pos 1)) *ℤ pos d) <ℤ (with_sign neg m *ℤ pos p))
 ceiling_up neg m d p k z pd f e low high = rw (f, e, last_times (pos k) d) (omega (arith, ints, low), omega (arith, ints, high))
 
-ceiling_down : (neg : Bool) (m d p k : ℕ) (z : ℤ) → neg ≡ true → z ≡ neg_ℤ (pos k) → k * d ≤ m * p → m * p < (k + 1) * d → ((with_sign neg m *ℤ pos p) ≤ℤ (z *ℤ pos d)) × (((z +ℤ neg_ℤ (pos 1)) *ℤ pos d) <ℤ (with_sign neg m *ℤ pos p))
+ceiling_down : (neg : Bool) (m d p k : ℕ) (z : ℤ) → neg ≡ true → z ≡ neg_ℤ (pos k) → k * d ≤ m * p → m * p < (k + 1) * d →
+    ((with_sign neg m *ℤ pos p) ≤ℤ (z *ℤ pos d)) × (((z +ℤ neg_ℤ (pos 1)) *ℤ pos d) <ℤ (with_sign neg m *ℤ pos p))
 ceiling_down neg m d p k z f e low high = rw (f, e, last_times (neg_ℤ (pos k)) d, neg_times (pos k) (pos d), neg_times (pos m) (pos p)) (omega (arith, ints, low), omega (arith, ints, high))
 
 -- The floor of a number that isn't negative is that of its magnitude.
@@ -129,7 +133,8 @@ pub signed_are : (up : Bool) (a : Dec) (s : ℕ) (g : ℤ) (r : Option ℕ) → 
 signed_are up a s g r e h = grind (arith, units_are, signs_differ)
 
 -- what is known of a whole number k with a sign, of which small ones are kept
-kept : (P : ℤ → Type 0) (Q : Type 0) (neg : Bool) (k : ℕ) (r : Option ℤ) → r ≡ option_map (with_sign neg) (small k) → P (with_sign neg k) → (2 ^ 126 ≤ k → Q) → IfSome r P × IfSome r (λ z. unsigned_abs z < 2 ^ 126) × IfNone r Q
+kept : (P : ℤ → Type 0) (Q : Type 0) (neg : Bool) (k : ℕ) (r : Option ℤ) → r ≡ option_map (with_sign neg) (small k) → P (with_sign neg k) → (2 ^ 126 ≤ k → Q) →
+    IfSome r P × IfSome r (λ z. unsigned_abs z < 2 ^ 126) × IfNone r Q
 kept P Q neg k r e p q =
     let R : Option ℤ → Type 0 = λ r. IfSome r P × IfSome r (λ z. unsigned_abs z < 2 ^ 126) × IfNone r Q in
     elim (cases_lt k (2 ^ 126)) as (λ _. R r) [
@@ -155,7 +160,8 @@ pub number_units : (up : Bool) (a : Dec) (s : ℕ) → (k : ℕ) × IsSignedUnit
 unfolding units_of
 number_units up a s = by up a.neg refl
   where
-    by : (up neg : Bool) → a.neg ≡ neg → (k : ℕ) × IsSignedUnits up (with_sign neg k) (number a) s × (option_map (with_sign neg) (units_of (differ up neg) (size a) s) ≡ option_map (with_sign neg) (small k))
+    by : (up neg : Bool) → a.neg ≡ neg → (k : ℕ) × IsSignedUnits up (with_sign neg k) (number a) s ×
+        (option_map (with_sign neg) (units_of (differ up neg) (size a) s) ≡ option_map (with_sign neg) (small k))
     by false false f = let (k, w) = a_floor (size a) s in (k, floor_of_floor a s k (pos k) f refl w, ap (λ (n : ℕ). option_map (with_sign false) (small n)) (floor_is k s (size a) w))
     by false true f = let (k, w) = a_ceiling (size a) s in (k, floor_of_ceiling a s k (neg_ℤ (pos k)) f refl w, ap (λ (n : ℕ). option_map (with_sign true) (small n)) (ceiling_is k s (size a) w))
     by true false f = let (k, w) = a_ceiling (size a) s in (k, ceiling_of_ceiling a s k (pos k) f refl w, ap (λ (n : ℕ). option_map (with_sign false) (small n)) (ceiling_is k s (size a) w))
@@ -164,5 +170,6 @@ number_units up a s = by up a.neg refl
 pub floor_means : (a : Dec) (s : ℕ) (r : Option ℤ) → r ≡ floor a s → IfSome r (λ z. IsSignedFloor z (number a) s) × IfSome r (λ z. unsigned_abs z < 2 ^ 126) × IfNone r (IsFloorPast (number a) s)
 floor_means a s r e = let (k, w, is) = number_units false a s in kept _ _ a.neg k r (e ∙ is) w (λ h. record { floor = with_sign a.neg k; is = w; past = large a.neg k h })
 
-pub ceiling_means : (a : Dec) (s : ℕ) (r : Option ℤ) → r ≡ ceiling a s → IfSome r (λ z. IsSignedCeiling z (number a) s) × IfSome r (λ z. unsigned_abs z < 2 ^ 126) × IfNone r (IsCeilingPast (number a) s)
+pub ceiling_means : (a : Dec) (s : ℕ) (r : Option ℤ) → r ≡ ceiling a s → IfSome r (λ z. IsSignedCeiling z (number a) s) ×
+    IfSome r (λ z. unsigned_abs z < 2 ^ 126) × IfNone r (IsCeilingPast (number a) s)
 ceiling_means a s r e = let (k, w, is) = number_units true a s in kept _ _ a.neg k r (e ∙ is) w (λ h. record { ceiling = with_sign a.neg k; is = w; past = large a.neg k h })

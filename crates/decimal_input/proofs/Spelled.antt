@@ -16,7 +16,8 @@ body_first [] part point after_digits all (inl (e, _)) h = rw e (refl, refl)
 body_first [] part point after_digits all (inr (_, e)) h = absurd (let k : length part ≡ 0 = ap length e in omega (arith, k, h))
 body_first (b ∷ bs) part point after_digits all p h = digit_first b (bs ++ (point ++ after_digits)) (all 0 0 (omega arith))
 
-spelling_is : (neg : Bool) (whole part : List ℕ) (e : ℤ) (n : Spelling) → n.neg ≡ neg → 1 ≤ length whole + length part → n.coefficient ≡ number_from 0 (whole ++ part) → n.exp ≡ e -ℤ pos (length part) → spelling neg whole part (Some e) ≡ Some n
+spelling_is : (neg : Bool) (whole part : List ℕ) (e : ℤ) (n : Spelling) → n.neg ≡ neg → 1 ≤ length whole + length part → n.coefficient ≡
+    number_from 0 (whole ++ part) → n.exp ≡ e -ℤ pos (length part) → spelling neg whole part (Some e) ≡ Some n
 spelling_is neg whole part e n sign h c x = grind (arith, le-leb, number_append)
 
 -- A word that spells a number is read as that number.
@@ -28,7 +29,8 @@ reads_spelt w n s =
     let rest = part_read s.part s.point s.behind s.power s.is_part s.is_exponent in
     let neg_is : n.neg ≡ is_negative w = sym (ap is_negative s.cut ∙ sign.0) in
     let body_is : body ≡ without_sign w = sym (ap without_sign s.cut ∙ sign.1) in
-    let word = joined w body s.whole tail s.part s.behind n.neg neg_is body_is (sym (digits_front s.whole tail s.are_digits rest.0)) (sym (behind_front s.whole tail s.are_digits rest.0)) (sym rest.1.0) (sym rest.1.1) in
+    let word = joined w body s.whole tail s.part s.behind n.neg neg_is body_is (sym (digits_front s.whole tail s.are_digits rest.0))
+    (sym (behind_front s.whole tail s.are_digits rest.0)) (sym rest.1.0) (sym rest.1.1) in
     sym word ∙ ap (λ (X : Option ℤ). spelling n.neg s.whole s.part X) (exponent_read s.power s.behind s.is_exponent) ∙ spelling_is n.neg s.whole s.part s.power n refl s.some s.coefficient s.exp
 
 -- A word that is read as a number spells it.

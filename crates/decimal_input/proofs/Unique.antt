@@ -94,11 +94,13 @@ zero_times m k h = rw h (omega arith)
 pub one_number : (a b : Dec) → IsDec a → IsDec b → SameSigned (number a) (number b) → a ≡ b
 one_number a b p q h = by p.form q.form
   where
-    by : ((a.digits ≡ 0) × (a.neg ≡ false) × (a.exp ≡ pos 0)) ⊎ ((0 < a.digits) × (0 < a.digits % 10)) → ((b.digits ≡ 0) × (b.neg ≡ false) × (b.exp ≡ pos 0)) ⊎ ((0 < b.digits) × (0 < b.digits % 10)) → a ≡ b
+    by : ((a.digits ≡ 0) × (a.neg ≡ false) × (a.exp ≡ pos 0)) ⊎ ((0 < a.digits) × (0 < a.digits % 10)) → ((b.digits ≡ 0) × (b.neg ≡ false) × (b.exp ≡ pos 0)) ⊎
+        ((0 < b.digits) × (0 < b.digits % 10)) → a ≡ b
     by (inl (d, n, e)) (inl (f, m, g)) = dec_same a b (n ∙ sym m) (d ∙ sym f) (e ∙ sym g)
     by (inl (d, _, _)) (inr (f, _)) = absurd (no_value a.neg b.neg _ _ (zero_times a.digits (up a.exp + down b.exp) d) (positive b.digits (up b.exp + down a.exp) f) (crossed a b h))
     by (inr (d, _)) (inl (f, _, _)) = absurd (no_value b.neg a.neg _ _ (zero_times b.digits (up b.exp + down a.exp) f) (positive a.digits (up a.exp + down b.exp) d) (sym (crossed a b h)))
     by (inr (d, last)) (inr (f, last')) =
         let s = signs_same a.neg b.neg _ _ (positive a.digits (up a.exp + down b.exp) d) (positive b.digits (up b.exp + down a.exp) f) (crossed a b h) in
-        let one = trimmed_one (a.digits * 10 ^ (up a.exp + down b.exp)) a.digits b.digits (up a.exp + down b.exp) (up b.exp + down a.exp) (record { whole = refl; last = last }) (record { whole = s.1; last = last' }) in
+        let one = trimmed_one (a.digits * 10 ^ (up a.exp + down b.exp)) a.digits b.digits (up a.exp + down b.exp) (up b.exp + down a.exp)
+        (record { whole = refl; last = last }) (record { whole = s.1; last = last' }) in
         dec_same a b s.0 one.0 (omega (arith, ints, up_down a.exp, up_down b.exp, one.1))

@@ -44,8 +44,12 @@ floor_cut f m n s t ht h least most = record {
 -- where a unit is 10 ^ 18 at most, since 10 ^ 18 is above each m
 pub floor_quotient : (f : Ratio) (m s k t : ℕ) → m < 10 ^ 18 → t ≡ 10 ^ min k 18 → (f.num * 10 ^ s) * 10 ^ k ≡ m * suc f.less → IsFloor (m / t) f s
 floor_quotient f m s k t few ht h = elim (cases_lt k 18) [
-  | inl lt ↦ (let same : min k 18 ≡ k = omega (arith, lt) in let e : t ≡ 10 ^ k = ht ∙ ap (λ (n : ℕ). 10 ^ n) same in let positive : 0 < t = omega (arith, e, ten_pos k) in floor_cut f m (m / t) s t positive (rw e h) (div-mul-le_self m t) (omega (arith, lt-mul-div-succ m positive)))
-  | inr ge ↦ (let same : min k 18 ≡ 18 = omega (arith, ge) in let e : t ≡ 10 ^ 18 = ht ∙ ap (λ (n : ℕ). 10 ^ n) same in let none : m / t ≡ 0 = rw e (omega (arith, few)) in rw none (floor_cut f m 0 s (10 ^ k) (ten_pos k) h (omega arith) (omega (arith, below_ten m k (k - 18) few (omega (arith, ge))))))
+  | inl lt ↦ (let same : min k 18 ≡ k = omega (arith, lt) in let e : t ≡ 10 ^ k = ht ∙ ap (λ (n : ℕ). 10 ^ n) same in
+      let positive : 0 < t = omega (arith, e, ten_pos k) in floor_cut f m (m / t) s t positive (rw e h) (div-mul-le_self m t)
+      (omega (arith, lt-mul-div-succ m positive)))
+  | inr ge ↦ (let same : min k 18 ≡ 18 = omega (arith, ge) in let e : t ≡ 10 ^ 18 = ht ∙ ap (λ (n : ℕ). 10 ^ n) same in
+      let none : m / t ≡ 0 = rw e (omega (arith, few)) in rw none
+      (floor_cut f m 0 s (10 ^ k) (ten_pos k) h (omega arith) (omega (arith, below_ten m k (k - 18) few (omega (arith, ge))))))
 ]
 
 floor_zero : (f : Ratio) (s : ℕ) → f.num ≡ 0 → IsFloor 0 f s
@@ -73,7 +77,8 @@ ceiling_cut f m n s t ht h reach least = record {
 pub ceiling_quotient : (f : Ratio) (m s k t : ℕ) → m < 10 ^ 18 → 0 < m → t ≡ 10 ^ min k 18 → (f.num * 10 ^ s) * 10 ^ k ≡ m * suc f.less → IsCeiling ((m - 1) / t + 1) f s
 ceiling_quotient f m s k t few hm ht h = elim (cases_lt k 18) [
   | inl lt ↦ (let same : min k 18 ≡ k = omega (arith, lt) in let e : t ≡ 10 ^ k = ht ∙ ap (λ (n : ℕ). 10 ^ n) same in let positive : 0 < t = omega (arith, e, ten_pos k) in
-      ceiling_cut f m ((m - 1) / t + 1) s t positive (rw e h) (omega (arith, lt-mul-div-succ (m - 1) positive)) (λ j le. let below : (m - 1) / t < j = (div-lt_iff_lt-mul positive).1 (omega (arith, le, hm)) in omega arith))
+      ceiling_cut f m ((m - 1) / t + 1) s t positive (rw e h) (omega (arith, lt-mul-div-succ (m - 1) positive)) (λ j le.
+      let below : (m - 1) / t < j = (div-lt_iff_lt-mul positive).1 (omega (arith, le, hm)) in omega arith))
   | inr ge ↦ (let same : min k 18 ≡ 18 = omega (arith, ge) in let e : t ≡ 10 ^ 18 = ht ∙ ap (λ (n : ℕ). 10 ^ n) same in let one : (m - 1) / t + 1 ≡ 1 = rw e (omega (arith, few)) in
       rw one (ceiling_cut f m 1 s (10 ^ k) (ten_pos k) h (omega (arith, below_ten m k (k - 18) few (omega (arith, ge)))) (λ j le. some j le)))
 ]

@@ -6,7 +6,8 @@ use Rattle.deck_problems.proofs.OneProblem.{hull_parts}
 model_count : (m : FlowModel) (s : ℕ) (at : TimeStep) (old : List Bound) (p : List Entries) → IsProblemOf m s at old p → length p ≡ length (variable_cells m at.period)
 model_count m s at old p h = ap length (cells_of m s at old p h).each ∙ length-map (variable_cells m at.period) (whole_cell m s at old)
 
-count_by : (a : FlowModel) (o : Option FlowModel) (s : ℕ) (at : TimeStep) (old : List Bound) (p : List Entries) → IsModel a → IfSome o (IsSecond a) → IsProblemBy a o s at old p → length p ≡ length (variable_cells a at.period)
+count_by : (a : FlowModel) (o : Option FlowModel) (s : ℕ) (at : TimeStep) (old : List Bound) (p : List Entries) → IsModel a → IfSome o (IsSecond a) →
+    IsProblemBy a o s at old p → length p ≡ length (variable_cells a at.period)
 count_by a None s at old p valid second h = model_count a s at old p h
 count_by a (Some b) s at old p valid second h = let k = hull_parts a b s at old p valid second.alike h in hull_count k.first k.second p k.hull ∙ model_count a s at old k.first k.is_first
 

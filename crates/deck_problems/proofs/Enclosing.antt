@@ -57,15 +57,18 @@ module _ (a b : FlowModel) (at : TimeStep) (first : IsModel a) (second : IsSecon
     hull_holds lo hi h m between before =
         let x = heads a at first (time_of a at first time) c in
         let y = heads b at second.model (time_of b at second.model second_time) c in
-        hull_of_numbers _ _ _ _ lo hi 9 (constant_head a at.period at.step c) (constant_head m at.period at.step c) (constant_head b at.period at.step c) h x y (constants_between a m b between at.period at.step few before c)
+        hull_of_numbers _ _ _ _ lo hi 9 (constant_head a at.period at.step c) (constant_head m at.period at.step c) (constant_head b at.period at.step c) h x y
+        (constants_between a m b between at.period at.step few before c)
 
 -- Of one model, or of two.
 
-encloses_by : (a : FlowModel) (o : Option FlowModel) (s : ℕ) (at : TimeStep) (old : List Bound) (p : List Entries) → IsModel a → IfSome o (IsSecond a) → Contains (times a) at → IsProblemBy a o s at old p → HoldsOf a o (EnclosesSteps s at old p)
+encloses_by : (a : FlowModel) (o : Option FlowModel) (s : ℕ) (at : TimeStep) (old : List Bound) (p : List Entries) → IsModel a → IfSome o (IsSecond a) →
+    Contains (times a) at → IsProblemBy a o s at old p → HoldsOf a o (EnclosesSteps s at old p)
 encloses_by a None s at old p first second time h = model_encloses a s at old p first time h
 encloses_by a (Some b) s at old p first second time h = hull_encloses_between a b at first second time s old p (hull_parts a b s at old p first second.alike h)
 
-fits_by : ModelProblemFits → (a : FlowModel) (o : Option FlowModel) (s : ℕ) (at : TimeStep) (old : List Bound) (p : List Entries) → IsModel a → IfSome o (IsSecond a) → Contains (times a) at → AreGridHeads a old → IsProblemBy a o s at old p → IsProblem p
+fits_by : ModelProblemFits → (a : FlowModel) (o : Option FlowModel) (s : ℕ) (at : TimeStep) (old : List Bound) (p : List Entries) → IsModel a →
+    IfSome o (IsSecond a) → Contains (times a) at → AreGridHeads a old → IsProblemBy a o s at old p → IsProblem p
 fits_by law a None s at old p first second time heads h = law a s at old p first time heads h
 fits_by law a (Some b) s at old p first second time heads h = hull_fits a b at first second time law s old p heads (hull_parts a b s at old p first second.alike h)
 
@@ -73,11 +76,13 @@ pair_by : (a : FlowModel) (o : Option FlowModel) (at : TimeStep) (c : ℕ) (lo h
 pair_by a None at c lo hi low high h k = (h.0 ∙ sym k.0, h.1 ∙ sym k.1)
 pair_by a (Some b) at c lo hi low high h k = (h.low ∙ sym k.low, h.high ∙ sym k.high)
 
-range_by : (a : FlowModel) (o : Option FlowModel) (at : TimeStep) (c : ℕ) (lo hi : ℤ) → IsModel a → IfSome o (IsSecond a) → Contains (times a) at → c < cell_count a.grid → is_constant a at.period c ≡ true → IsPairOf a o at c lo hi → IsHead lo × IsHead hi
+range_by : (a : FlowModel) (o : Option FlowModel) (at : TimeStep) (c : ℕ) (lo hi : ℤ) → IsModel a → IfSome o (IsSecond a) → Contains (times a) at →
+    c < cell_count a.grid → is_constant a at.period c ≡ true → IsPairOf a o at c lo hi → IsHead lo × IsHead hi
 range_by a None at c lo hi first second time lt k h = model_pair_fits a at c lo hi first time lt k h
 range_by a (Some b) at c lo hi first second time lt k h = hull_range a b at first second time c lt k lo hi h
 
-holds_by : (a : FlowModel) (o : Option FlowModel) (at : TimeStep) (c : ℕ) (lo hi : ℤ) → IsModel a → IfSome o (IsSecond a) → Contains (times a) at → c < cell_count a.grid → is_constant a at.period c ≡ true → IsPairOf a o at c lo hi → (before : ℕ → Fraction) →
+holds_by : (a : FlowModel) (o : Option FlowModel) (at : TimeStep) (c : ℕ) (lo hi : ℤ) → IsModel a → IfSome o (IsSecond a) → Contains (times a) at →
+    c < cell_count a.grid → is_constant a at.period c ≡ true → IsPairOf a o at c lo hi → (before : ℕ → Fraction) →
     HoldsOf a o (λ m. EnclosesSigned lo hi 9 (constant_head m at.period at.step c))
 holds_by a None at c lo hi first second time lt k h before = model_pair_encloses a at c lo hi first time lt k h
 holds_by a (Some b) at c lo hi first second time lt k h before = λ m between. hull_holds a b at first second time c lt k lo hi h m between before

@@ -29,8 +29,15 @@ hull_named p q r h c (k, lt, by) =
     let here = hull_at p q r h k in
     let inside : k < length p = omega (arith, lt, hull_count p q r h) in
     let within : k < length q = omega (arith, inside, same_lengths cell_shape p q h.alike) in
-    let same = same_lengths fixed_shape (entries_at p k).fixed (entries_at q k).fixed (ap (λ (e : Entries). e.fixed) (shape_at p q k inside within h.alike)) in
-    (k, inside, elim by [ inl e ↦ inl (e ∙ ap (λ (x : Entries). x.id) here) | inr f ↦ inr (named_fixed _ _ same c (subst (λ (xs : List Fixed). (x : Fixed) × Contains xs x × (c ≡ x.source)) (ap (λ (x : Entries). x.fixed) here) f)) ])
+    let same = same_lengths fixed_shape (entries_at p k).fixed (entries_at q k).fixed (ap (λ (e : Entries). e.fixed) (shape_at p q k inside within h.alike)) in (
+      k,
+      inside,
+      elim by [
+        | inl e ↦ inl (e ∙ ap (λ (x : Entries). x.id) here)
+        | inr f ↦ inr
+            (named_fixed _ _ same c (subst (λ (xs : List Fixed). (x : Fixed) × Contains xs x × (c ≡ x.source)) (ap (λ (x : Entries). x.fixed) here) f))
+      ],
+    )
   where
     shape_at : (p q : List Entries) (k : ℕ) → k < length p → k < length q → map cell_shape q ≡ map cell_shape p → cell_shape (entries_at q k) ≡ cell_shape (entries_at p k)
     shape_at p q k lt below e = sym (get_or-map cell_shape q k no_entries no_entries below) ∙ ap (λ l. get_or l k no_entries) e ∙ get_or-map cell_shape p k no_entries no_entries lt
@@ -41,13 +48,15 @@ hull_cells m at p q r h k = record { cells = hull_keeps p q r h (λ e. e.id) (λ
 -- The constant heads of one deck, and of two.
 
 -- the item of a cell, if its head is constant and if it isn't
-known_at : (m : FlowModel) (at : TimeStep) (xs : List Bound) → AreConstantHeads m at xs → (c : ℕ) → c < cell_count m.grid → (b : Bool) → is_constant m at.period c ≡ b → bound_at xs c ≡ cond b (constant_bound m at c) no_bound
+known_at : (m : FlowModel) (at : TimeStep) (xs : List Bound) → AreConstantHeads m at xs → (c : ℕ) → c < cell_count m.grid → (b : Bool) →
+    is_constant m at.period c ≡ b → bound_at xs c ≡ cond b (constant_bound m at c) no_bound
 known_at m at xs h c lt b e = item_is (known_bound m at) no_bound (cell_count m.grid) xs h c lt ∙ ap (λ q. cond q (constant_bound m at c) no_bound) e
 
 heads_count : (m : FlowModel) (at : TimeStep) (xs : List Bound) → AreConstantHeads m at xs → length xs ≡ cell_count m.grid
 heads_count m at xs h = ap length h ∙ length-map-range_with_len (known_bound m at) 0 (cell_count m.grid)
 
-pub constants_alone : (a : FlowModel) (o : Option FlowModel) (at : TimeStep) (heads : List Bound) → ((b : FlowModel) → o ≡ Some b → ⊥) → AreConstantHeads a at heads → AreConstantHeadsFor (record { first = a; second = o }) at heads
+pub constants_alone : (a : FlowModel) (o : Option FlowModel) (at : TimeStep) (heads : List Bound) → ((b : FlowModel) → o ≡ Some b → ⊥) →
+    AreConstantHeads a at heads → AreConstantHeadsFor (record { first = a; second = o }) at heads
 constants_alone a None at heads alone h = record {
   count = heads_count a at heads h;
   each = λ c lt. record {
@@ -57,7 +66,8 @@ constants_alone a None at heads alone h = record {
 }
 constants_alone a (Some b) at heads alone h = absurd (alone b refl)
 
-constants_hulled : (a b : FlowModel) (at : TimeStep) (xs ys rs : List Bound) → IsSecond a b → AreConstantHeads a at xs → AreConstantHeads b at ys → AreHullBounds xs ys rs → AreConstantHeadsFor (record { first = a; second = Some b }) at rs
+constants_hulled : (a b : FlowModel) (at : TimeStep) (xs ys rs : List Bound) → IsSecond a b → AreConstantHeads a at xs → AreConstantHeads b at ys →
+    AreHullBounds xs ys rs → AreConstantHeadsFor (record { first = a; second = Some b }) at rs
 constants_hulled a b at xs ys rs second h k r =
     let cells = second_cells a b second in
     record {

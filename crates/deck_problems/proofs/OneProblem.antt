@@ -27,7 +27,15 @@ hull_parts a b s at old r valid alike = parts (problem_of a s at old) (problem_o
     parts (Ok p) (Err n) i j e = absurd cc
     parts (Ok p) (Ok q) i j e =
         let (is, none) = unless_parts (option_to_list (first_refusal (zip_with cell_hull p q))) (zip_with cell_hull p q) r e in
-        record { first = p; is_first = i; second = q; is_second = j; hull = record { alike = problems_alike a b s at old p q valid alike i j; is = is }; sound = ap first_refusal is ∙ none_listed _ none }
+        record {
+          first = p;
+          is_first = i;
+          second = q;
+          is_second = j;
+          hull = record { alike = problems_alike a b s at old p q valid alike i j; is = is };
+          sound =
+              ap first_refusal is ∙ none_listed _ none;
+        }
 
 -- The members of decks, and what they share with the first deck.
 -- one valid deck meets the conditions on decks

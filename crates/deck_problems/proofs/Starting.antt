@@ -11,7 +11,8 @@ same_hull : (a b x y : Bound) → IsHullBound a b x → IsHullBound a b y → x 
 same_hull a b x y h k = grind (arith)
 
 one_hulls : (xs ys rs us : List Bound) → AreHullBounds xs ys rs → AreHullBounds xs ys us → rs ≡ us
-one_hulls xs ys rs us h k = ext_get_or no_bound rs us (h.whole ∙ sym k.whole) (λ c lt. let r : c < length xs = omega (arith, lt, h.whole) in same_hull (bound_at xs c) (bound_at ys c) (bound_at rs c) (bound_at us c) (h.each c r) (k.each c r))
+one_hulls xs ys rs us h k = ext_get_or no_bound rs us (h.whole ∙ sym k.whole) (λ c lt.
+    let r : c < length xs = omega (arith, lt, h.whole) in same_hull (bound_at xs c) (bound_at ys c) (bound_at rs c) (bound_at us c) (h.each c r) (k.each c r))
 
 module _ (a b : FlowModel) (valid : IsModel a) (second : IsSecond a b) (x : List Bound) (h : AreStartHulls a b x) where
   abbrev xs : List Bound

@@ -20,7 +20,9 @@ fractions : (f g : Fraction) → Both IsFractionBetween f g
 fractions f g = grind (arith, both_between, least, by_lt_z)
 
 ratios : (f g : Ratio) → Both IsRatioBetween f g
-ratios f g = both_between IsRatioAtMost AtMost-refl f g (elim (cases_lt (f.num * ratio_den g) (g.num * ratio_den f)) [ inl h ↦ inl (record { cross = omega (arith, h) }) | inr h ↦ inr (record { cross = omega (arith, h) }) ])
+ratios f g = both_between IsRatioAtMost AtMost-refl f g
+    (elim (cases_lt (f.num * ratio_den g) (g.num * ratio_den f))
+    [ inl h ↦ inl (record { cross = omega (arith, h) }) | inr h ↦ inr (record { cross = omega (arith, h) }) ])
 
 decs : (x y : Dec) → Both IsDecBetween x y
 decs x y = fractions (number x) (number y)

@@ -87,7 +87,8 @@ module _ (a b : FlowModel) where
   }
 
   pub shared_alike : All (λ x. Shares x a b) reading_order → AreAlike a b
-  shared_alike h = alike_of (h 0 Dis (lit< tt)) (h 1 Dis (lit< tt)) (h 2 Dis (lit< tt)) (h 3 Dis (lit< tt)) (h 4 Dis (lit< tt)) (h 5 Dis (lit< tt)) (h 6 Dis (lit< tt)) (h 7 Dis (lit< tt)) (h 8 Dis (lit< tt)) (h 9 Dis (lit< tt))
+  shared_alike h = alike_of (h 0 Dis (lit< tt)) (h 1 Dis (lit< tt)) (h 2 Dis (lit< tt)) (h 3 Dis (lit< tt)) (h 4 Dis (lit< tt)) (h 5 Dis (lit< tt))
+      (h 6 Dis (lit< tt)) (h 7 Dis (lit< tt)) (h 8 Dis (lit< tt)) (h 9 Dis (lit< tt))
 
   -- one package of models that are alike
   periods_of : (x : Package) → AreAlike a b → ((p q : Period) → ArePeriodsAlike p q → SharesIn x p q) → AllZip (SharesIn x) a.periods b.periods
@@ -119,7 +120,11 @@ module _ (a b : FlowModel) where
   alike_shares Drn h = record { head = tt; periods = periods_of Drn h (λ p q k. k.drains) }
   alike_shares Ghb h = record { head = tt; periods = periods_of Ghb h (λ p q k. k.generals) }
   alike_shares Chd h = record { head = tt; periods = periods_of Chd h (λ p q k. k.given) }
-  alike_shares Rch h = record { head = ap (λ (m : FlowModel). m.nrchop) h.same; periods = periods_of Rch h (λ p q k. record { recharge = k.recharge; irch = ap (λ (r : Period). r.stresses.irch) k.same }) }
+  alike_shares Rch h = record {
+    head = ap (λ (m : FlowModel). m.nrchop) h.same;
+    periods =
+        periods_of Rch h (λ p q k. record { recharge = k.recharge; irch = ap (λ (r : Period). r.stresses.irch) k.same });
+  }
   alike_shares Evt h = record { head = ap (λ (m : FlowModel). m.nevtop) h.same; periods = periods_of Evt h evaporation_shared }
 
   -- each of these packages

@@ -24,7 +24,8 @@ zip_same xs ys e = subst (λ zs. AllZip AreSame xs zs) (sym e) (self xs)
     self (z ∷ zs) = (refl, self zs)
 
 module _ {X : Type 0} (R : X → X → Type 0) (cells : ℕ) (xs ys : List X) where
-  pub list_found : (number : ℕ → X → ℕ) (k n : ℕ) (y : X) (cell : Option CellId) → length ys ≡ length xs → IsFirst R xs ys k → y ≡ get_or ys k y → n ≡ number k y → cell ≡ cell_in_grid cells n → Finds (AllZip R xs ys) (IsListCell R number cells xs ys) (Err cell)
+  pub list_found : (number : ℕ → X → ℕ) (k n : ℕ) (y : X) (cell : Option CellId) → length ys ≡ length xs → IsFirst R xs ys k → y ≡ get_or ys k y → n ≡
+      number k y → cell ≡ cell_in_grid cells n → Finds (AllZip R xs ys) (IsListCell R number cells xs ys) (Err cell)
   list_found number k n y cell e h is by names =
       let same : y ≡ h.second = is ∙ get_or_from_slice_get ys k h.second y h.of_second in
       (first_not_all R xs ys k h, inr (e, record { place = k; first = h; names = names ∙ ap (cell_in_grid cells) by ∙ ap (λ z. cell_in_grid cells (number k z)) same }))
@@ -48,10 +49,12 @@ module _ (kind : Package) (cells : ℕ) (ps qs : List Period) where
       (first_not_all (SharesIn kind) ps qs i first, inr (e, record { period = i; first = first; names = h.1 }))
 
 -- the cell of arrays that are read layer by layer
-layer_cell : (size cells n m : ℕ) (xss yss : List (List Dec)) (k : ℕ) (cell : Option CellId) → n ≡ size → m ≡ cells → cell ≡ cell_in_grid m k → IsFirstOfLayers n xss yss k → IsLayerCell size cells xss yss cell
+layer_cell : (size cells n m : ℕ) (xss yss : List (List Dec)) (k : ℕ) (cell : Option CellId) → n ≡ size → m ≡ cells → cell ≡ cell_in_grid m k →
+    IsFirstOfLayers n xss yss k → IsLayerCell size cells xss yss cell
 layer_cell size cells n m xss yss k cell by_size by_cells names h = grind (arith)
 
-pub layers_found : (size cells n m : ℕ) (xss yss : List (List Dec)) (p : Option ℕ) (r : Result (Unit {0}) (Option CellId)) → n ≡ size → m ≡ cells → r ≡ apart m p → IsFound n xss yss p → Finds (AreArraysSame xss yss) (IsLayerCell size cells xss yss) r
+pub layers_found : (size cells n m : ℕ) (xss yss : List (List Dec)) (p : Option ℕ) (r : Result (Unit {0}) (Option CellId)) → n ≡ size → m ≡ cells → r ≡
+    apart m p → IsFound n xss yss p → Finds (AreArraysSame xss yss) (IsLayerCell size cells xss yss) r
 layers_found size cells n m xss yss None r by_size by_cells is h = subst (Finds (AreArraysSame xss yss) (IsLayerCell size cells xss yss)) (sym is) h
 layers_found size cells n m xss yss (Some k) r by_size by_cells is h =
     subst (Finds (AreArraysSame xss yss) (IsLayerCell size cells xss yss)) (sym is)

@@ -28,7 +28,9 @@ module _ (F : Ratio) (part : F.num ≤ size_den F) where
       let k = size_den F in
       le_over (d * k) (between_heads x F) (between_heads z F) (o.a *ℤ pos k +ℤ (o.b +ℤ neg_ℤ o.a) *ℤ pos F.num) (o.p *ℤ pos k +ℤ (o.q +ℤ neg_ℤ o.p) *ℤ pos F.num) (mul-pos o.some (omega arith))
       (between_over x F d k F.num o.a o.b (own_share F) o.f_over o.g_over) (between_over z F d k F.num o.p o.q (own_share F) o.h_over o.k_over)
-      (rw (split o.a o.b k F.num part, split o.p o.q k F.num part) (le-add _ _ _ _ (mul_mono_right (k - F.num) o.a o.p (over_le d s u o.a o.p o.f_over o.h_over h.start)) (mul_mono_right F.num o.b o.q (over_le d e v o.b o.q o.g_over o.k_over h.end))))
+      (rw (split o.a o.b k F.num part, split o.p o.q k F.num part)
+      (le-add _ _ _ _ (mul_mono_right (k - F.num) o.a o.p (over_le d s u o.a o.p o.f_over o.h_over h.start))
+      (mul_mono_right F.num o.b o.q (over_le d e v o.b o.q o.g_over o.k_over h.end))))
 
   pub heads_between : (x y z : Given) → IsGivenBetween x y z → IsFractionBetween (between_heads x F) (between_heads y F) (between_heads z F)
   heads_between x y z h = between_image IsGivenAtMost AtMost (λ a. between_heads a F) keeps x y z h.heads
@@ -41,7 +43,8 @@ more g h = record { cross = rw (num_plus g h, den_plus g h) (omega arith) }
 grows : (t : Ratio) (n k : ℕ) → IsRatioAtMost (geometric t n) (geometric t (k + n))
 unfolding geometric
 grows t n zero = subst (λ (j : ℕ). IsRatioAtMost (geometric t n) (geometric t j)) (let e : n ≡ zero + n = omega arith in e) (AtMost-refl (geometric t n))
-grows t n (suc k) = subst (λ (j : ℕ). IsRatioAtMost (geometric t n) (geometric t j)) (let e : suc (k + n) ≡ suc k + n = omega arith in e) (AtMost-trans (grows t n k) (more (geometric t (k + n)) (power t (k + n))))
+grows t n (suc k) = subst (λ (j : ℕ). IsRatioAtMost (geometric t n) (geometric t j)) (let e : suc (k + n) ≡ suc k + n = omega arith in e)
+    (AtMost-trans (grows t n k) (more (geometric t (k + n)) (power t (k + n))))
 
 grown : (t : Ratio) (n m : ℕ) → n ≤ m → IsRatioAtMost (geometric t n) (geometric t m)
 grown t n m h = subst (λ (j : ℕ). IsRatioAtMost (geometric t n) (geometric t j)) (let e : (m - n) + n ≡ m = omega (arith, h) in e) (grows t n (m - n))
@@ -58,6 +61,7 @@ pub part_of : (p : Period) (n : ℕ) → n ≤ p.nstp → (part_passed p n).num 
 unfolding part_passed
 part_of p n h = by (n == p.nstp || p.perlen.digits == 0)
   where
-    by : (b : Bool) → (cond b one (size_over (geometric (multiplier p) n) (geometric (multiplier p) p.nstp))).num ≤ size_den (cond b one (size_over (geometric (multiplier p) n) (geometric (multiplier p) p.nstp)))
+    by : (b : Bool) → (cond b one (size_over (geometric (multiplier p) n) (geometric (multiplier p) p.nstp))).num ≤ size_den
+        (cond b one (size_over (geometric (multiplier p) n) (geometric (multiplier p) p.nstp)))
     by true = one_whole
     by false = share (geometric (multiplier p) n) (geometric (multiplier p) p.nstp) (grown (multiplier p) n p.nstp h)

@@ -78,7 +78,8 @@ plus_keeps k f g h =
 
 -- the rate over an area and a depth
 pub rate_keeps : (area depth : Ratio) → 0 < depth.num → (f g : Ratio) → IsRatioAtMost f g → IsRatioAtMost (size_over (size_times f area) depth) (size_over (size_times g area) depth)
-rate_keeps area depth some f g h = over-AtMost {a = size_times f area} {b = size_times g area} {c = depth} {d = depth} some some (times-AtMost {a = f} {b = g} {c = area} {d = area} h (AtMost-refl area)) (AtMost-refl depth)
+rate_keeps area depth some f g h = over-AtMost {a = size_times f area} {b = size_times g area} {c = depth} {d = depth} some some
+    (times-AtMost {a = f} {b = g} {c = area} {d = area} h (AtMost-refl area)) (AtMost-refl depth)
 
 -- a lower bound goes down, an upper one up
 lower_down : (lo l : ℤ) (e : ℕ) (z : ℤ) → lo ≤ℤ l → (l *ℤ pos e) ≤ℤ z → (lo *ℤ pos e) ≤ℤ z
@@ -122,5 +123,6 @@ sizes_enclose {a} {b} {c} {d} s f g h p q m =
     let second : EnclosesSigned (pos c) (pos d) s (as_fraction h) = record { lower = omega (arith, ints, q.lower); upper = omega (arith, ints, q.upper) } in
     let low : pos (min a c) ≡ int_min (pos a) (pos c) = omega (arith, ints, clamps) in
     let high : pos (max b d) ≡ int_max (pos b) (pos d) = omega (arith, ints, clamps) in
-    let e : EnclosesSigned (pos (min a c)) (pos (max b d)) s (as_fraction g) = rw (low, high) (numbers_enclose s (as_fraction f) (as_fraction g) (as_fraction h) first second (signed_between f g h m)) in
+    let e : EnclosesSigned (pos (min a c)) (pos (max b d)) s (as_fraction g) =
+    rw (low, high) (numbers_enclose s (as_fraction f) (as_fraction g) (as_fraction h) first second (signed_between f g h m)) in
     record { lower = omega (arith, ints, e.lower); upper = omega (arith, ints, e.upper) }

@@ -105,10 +105,12 @@ found_none : (size : ℕ) → IsFound size [] [] None
 found_none size = λ i. tt
 
 -- one array more, where the code names it otherwise
-pub found_step : (size : ℕ) (xs ys us vs : List Dec) (xss yss : List (List Dec)) (p q r : Option ℕ) → us ≡ xs → vs ≡ ys → r ≡ earlier size p q → MatchOption p (AllZip AreSame us vs) (IsFirst AreSame us vs) → IsFound size xss yss q → IsFound size (xs ∷ xss) (ys ∷ yss) r
+pub found_step : (size : ℕ) (xs ys us vs : List Dec) (xss yss : List (List Dec)) (p q r : Option ℕ) → us ≡ xs → vs ≡ ys → r ≡ earlier size p q →
+    MatchOption p (AllZip AreSame us vs) (IsFirst AreSame us vs) → IsFound size xss yss q → IsFound size (xs ∷ xss) (ys ∷ yss) r
 found_step size xs ys us vs xss yss p q r e d is h rest =
     subst (IsFound size (xs ∷ xss) (ys ∷ yss)) (sym is)
-    (found_more size xs ys xss yss p q (subst (λ ws. MatchOption p (AllZip AreSame xs ws) (IsFirst AreSame xs ws)) d (subst (λ ws. MatchOption p (AllZip AreSame ws vs) (IsFirst AreSame ws vs)) e h)) rest)
+    (found_more size xs ys xss yss p q (subst (λ ws. MatchOption p (AllZip AreSame xs ws) (IsFirst AreSame xs ws)) d
+    (subst (λ ws. MatchOption p (AllZip AreSame ws vs) (IsFirst AreSame ws vs)) e h)) rest)
 
 -- one array
 pub found_one : (size : ℕ) (xs ys us vs : List Dec) (p : Option ℕ) → us ≡ xs → vs ≡ ys → MatchOption p (AllZip AreSame us vs) (IsFirst AreSame us vs) → IsFound size (xs ∷ []) (ys ∷ []) p

@@ -45,17 +45,33 @@ powers d e p h = omega (arith, ints, up_down d, up_down e, h)
 
 module _ (a b : Dec) (p : ℕ) where
   -- the first number has the greater exponent
-  pub order_above : (r : Bool) → a.exp ≡ b.exp +ℤ pos p → MatchBool r (a.digits * 10 ^ p ≤ b.digits) (a.digits * 10 ^ p ≤ b.digits → ⊥) → MatchBool r (IsRatioAtMost (size a) (size b)) (IsRatioAtMost (size a) (size b) → ⊥)
+  pub order_above : (r : Bool) → a.exp ≡ b.exp +ℤ pos p → MatchBool r (a.digits * 10 ^ p ≤ b.digits) (a.digits * 10 ^ p ≤ b.digits → ⊥) →
+      MatchBool r (IsRatioAtMost (size a) (size b)) (IsRatioAtMost (size a) (size b) → ⊥)
   order_above r e h =
       let w = up b.exp + down a.exp in
-      turned_to r _ _ (λ k. record { cross = rw (cross_of a.digits b.digits a.exp b.exp, cross_of b.digits a.digits b.exp a.exp, powers a.exp b.exp p e, regrouped a.digits p w) (mul-le-mul_right (10 ^ w) k) })
+      turned_to r _ _ (λ k. record {
+        cross = rw (
+          cross_of a.digits b.digits a.exp b.exp,
+          cross_of b.digits a.digits b.exp a.exp,
+          powers a.exp b.exp p e,
+          regrouped a.digits p w,
+        ) (mul-le-mul_right (10 ^ w) k);
+      })
       (λ k. le_cancel (10 ^ w) _ _ (ten_pos w) (rw (cross_of a.digits b.digits a.exp b.exp, cross_of b.digits a.digits b.exp a.exp, powers a.exp b.exp p e, regrouped a.digits p w) at k.cross)) h
 
   -- the second number has the greater exponent
-  pub order_within : (r : Bool) → b.exp ≡ a.exp +ℤ pos p → MatchBool r (a.digits ≤ b.digits * 10 ^ p) (a.digits ≤ b.digits * 10 ^ p → ⊥) → MatchBool r (IsRatioAtMost (size a) (size b)) (IsRatioAtMost (size a) (size b) → ⊥)
+  pub order_within : (r : Bool) → b.exp ≡ a.exp +ℤ pos p → MatchBool r (a.digits ≤ b.digits * 10 ^ p) (a.digits ≤ b.digits * 10 ^ p → ⊥) →
+      MatchBool r (IsRatioAtMost (size a) (size b)) (IsRatioAtMost (size a) (size b) → ⊥)
   order_within r e h =
       let w = up a.exp + down b.exp in
-      turned_to r _ _ (λ k. record { cross = rw (cross_of a.digits b.digits a.exp b.exp, cross_of b.digits a.digits b.exp a.exp, powers b.exp a.exp p e, regrouped b.digits p w) (mul-le-mul_right (10 ^ w) k) })
+      turned_to r _ _ (λ k. record {
+        cross = rw (
+          cross_of a.digits b.digits a.exp b.exp,
+          cross_of b.digits a.digits b.exp a.exp,
+          powers b.exp a.exp p e,
+          regrouped b.digits p w,
+        ) (mul-le-mul_right (10 ^ w) k);
+      })
       (λ k. le_cancel (10 ^ w) _ _ (ten_pos w) (rw (cross_of a.digits b.digits a.exp b.exp, cross_of b.digits a.digits b.exp a.exp, powers b.exp a.exp p e, regrouped b.digits p w) at k.cross)) h
 
 -- The order of two numbers with their signs, from the order of their magnitudes.
@@ -81,15 +97,18 @@ module _ (m n : ℕ) (d e : ℤ) where
           absurd (omega (arith, most, e))
 
 module _ (a b : Dec) where
-  pub order_plain : (r : Bool) → a.neg ≡ false → b.neg ≡ false → MatchBool r (IsRatioAtMost (size a) (size b)) (IsRatioAtMost (size a) (size b) → ⊥) → MatchBool r (AtMost (number a) (number b)) (AtMost (number a) (number b) → ⊥)
+  pub order_plain : (r : Bool) → a.neg ≡ false → b.neg ≡ false → MatchBool r (IsRatioAtMost (size a) (size b)) (IsRatioAtMost (size a) (size b) → ⊥) →
+      MatchBool r (AtMost (number a) (number b)) (AtMost (number a) (number b) → ⊥)
   order_plain r p q h = rw (p, q) (turned_to r _ _ (λ k. record { at_most = omega (arith, ints, k.cross) }) (λ k. record { cross = omega (arith, ints, k.at_most) }) h)
 
   -- below 0 the order is the other one
-  pub order_below : (r : Bool) → a.neg ≡ true → b.neg ≡ true → MatchBool r (IsRatioAtMost (size b) (size a)) (IsRatioAtMost (size b) (size a) → ⊥) → MatchBool r (AtMost (number a) (number b)) (AtMost (number a) (number b) → ⊥)
+  pub order_below : (r : Bool) → a.neg ≡ true → b.neg ≡ true → MatchBool r (IsRatioAtMost (size b) (size a)) (IsRatioAtMost (size b) (size a) → ⊥) →
+      MatchBool r (AtMost (number a) (number b)) (AtMost (number a) (number b) → ⊥)
   order_below r p q h =
       rw (p, q) (turned_to r _ _ (λ k. record { at_most = rw (neg_times, neg_times) (omega (arith, ints, k.cross)) })
       (λ k. let less = rw (neg_times, neg_times) at k.at_most in record { cross = omega (arith, ints, less) }) h)
 
   -- 0 with a minus sign is 0
-  pub order_not_across : (r : Bool) → a.neg ≡ false → b.neg ≡ true → MatchBool r ((a.digits ≡ 0) × (b.digits ≡ 0)) (((a.digits ≡ 0) × (b.digits ≡ 0)) → ⊥) → MatchBool r (AtMost (number a) (number b)) (AtMost (number a) (number b) → ⊥)
+  pub order_not_across : (r : Bool) → a.neg ≡ false → b.neg ≡ true → MatchBool r ((a.digits ≡ 0) × (b.digits ≡ 0)) (((a.digits ≡ 0) × (b.digits ≡ 0)) → ⊥) →
+      MatchBool r (AtMost (number a) (number b)) (AtMost (number a) (number b) → ⊥)
   order_not_across r p q h = rw (p, q) (turned_to r _ _ (zeros a.digits b.digits a.exp b.exp) (zeros_back a.digits b.digits a.exp b.exp) h)

@@ -47,7 +47,8 @@ layer_one size cells xss yss c d f g = f.names ∙ ap (cell_in_grid cells) (laye
 -- The cell of a package.
 
 head_one : (kind : Package) (a b : FlowModel) (c d : Option CellId) → IsHeadCell kind a b c → IsHeadCell kind a b d → c ≡ d
-head_one Dis a b c d f g = in_order (none_one c d) (in_order (list_one AreSame (λ place y. place) (cell_count b.grid) a.grid.top b.grid.top c d) (layer_one (layer_size b.grid) (cell_count b.grid) (bottoms a.grid) (bottoms b.grid) c d)) f g
+head_one Dis a b c d f g = in_order (none_one c d) (in_order (list_one AreSame (λ place y. place) (cell_count b.grid) a.grid.top b.grid.top c d)
+    (layer_one (layer_size b.grid) (cell_count b.grid) (bottoms a.grid) (bottoms b.grid) c d)) f g
 head_one Bas a b c d f g = in_order (list_one AreSame (λ place y. place) (cell_count b.grid) a.ibound b.ibound c d) (none_one c d) f g
 head_one Lpf a b c d f g = in_order (none_one c d) (layer_one (layer_size b.grid) (cell_count b.grid) (properties a) (properties b) c d) f g
 head_one Rch a b c d f g = none_one c d f g
@@ -71,7 +72,9 @@ in_one Evt cells p q c d f g =
 period_one : (kind : Package) (cells : ℕ) (ps qs : List Period) (c d : Option CellId) → IsPeriodCell kind cells ps qs c → IsPeriodCell kind cells ps qs d → c ≡ d
 period_one kind cells ps qs c d f g =
     let seconds = second_one (SharesIn kind) ps qs f.period g.period f.first g.first in
-    let firsts : f.first.first ≡ g.first.first = same_some f.first.first g.first.first (sym f.first.of_first ∙ ap (slice_get ps) (first_is_one (SharesIn kind) ps qs f.period g.period f.first g.first) ∙ g.first.of_first) in
+    let firsts : f.first.first ≡ g.first.first =
+    same_some f.first.first g.first.first (sym f.first.of_first ∙ ap (slice_get ps)
+    (first_is_one (SharesIn kind) ps qs f.period g.period f.first g.first) ∙ g.first.of_first) in
     let P : Period → Type 0 = λ p. IsCellIn kind cells p f.first.second c in
     let Q : Period → Type 0 = λ q. IsCellIn kind cells g.first.first q c in
     in_one kind cells g.first.first g.first.second c d (subst Q seconds (subst P firsts f.names)) g.names

@@ -54,11 +54,13 @@ named c x y z h = (ap (λ (k : CellId). k.0 == c) h.cell, ap (λ (k : CellId). k
 
 pub given_three : (c : ℕ) (xs ys zs : List Given) → AllThree IsGivenBetween xs ys zs → OptionThree IsGivenBetween (given_in xs c) (given_in ys c) (given_in zs c)
 unfolding given_in
-given_three c xs ys zs h = three_find IsGivenBetween (λ x. x.cell.0 == c) (λ x. x.cell.0 == c) (λ x. x.cell.0 == c) (named c) (reverse xs) (reverse ys) (reverse zs) (three_reverse IsGivenBetween xs ys zs h)
+given_three c xs ys zs h = three_find IsGivenBetween (λ x. x.cell.0 == c) (λ x. x.cell.0 == c) (λ x. x.cell.0 == c) (named c) (reverse xs) (reverse ys)
+    (reverse zs) (three_reverse IsGivenBetween xs ys zs h)
 
 pub last_three : (c k : ℕ) (ps qs rs : List Period) → AllThree IsPeriodBetween ps qs rs → OptionThree IsGivenBetween (last_given (take k ps) c) (last_given (take k qs) c) (last_given (take k rs) c)
 last_three c k ps qs rs h =
-    given_three c _ _ _ (three_flat_map IsPeriodBetween IsGivenBetween (λ p. p.stresses.given) (λ p. p.stresses.given) (λ p. p.stresses.given) (λ x y z b. b.given) (take k ps) (take k qs) (take k rs) (three_take IsPeriodBetween k ps qs rs h))
+    given_three c _ _ _ (three_flat_map IsPeriodBetween IsGivenBetween (λ p. p.stresses.given) (λ p. p.stresses.given) (λ p. p.stresses.given) (λ x y z b.
+    b.given) (take k ps) (take k qs) (take k rs) (three_take IsPeriodBetween k ps qs rs h))
 
 -- entries of lists
 
@@ -94,7 +96,8 @@ by_general x y z (generals h k) = something (general h k)
 by_general x y z h = nothing
 
 -- what stands under one test
-pub under : {X Y Z : Type 0} (R : X → Y → Z → Type 0) (a m b : Bool) (x : X) (y : Y) (z : Z) → m ≡ a → b ≡ a → (a ≡ true → R x y z) → OptionThree R (cond a (Some x) None) (cond m (Some y) None) (cond b (Some z) None)
+pub under : {X Y Z : Type 0} (R : X → Y → Z → Type 0) (a m b : Bool) (x : X) (y : Y) (z : Z) → m ≡ a → b ≡ a → (a ≡ true → R x y z) →
+    OptionThree R (cond a (Some x) None) (cond m (Some y) None) (cond b (Some z) None)
 under R a m b x y z e d h = rw (e, d) (by a h)
   where
     by : (a : Bool) → (a ≡ true → R x y z) → OptionThree R (cond a (Some x) None) (cond a (Some y) None) (cond a (Some z) None)
@@ -149,7 +152,8 @@ module _ (f : FlowModel) (s₁ s₂ s₃ : List Dec) (ps qs rs : List Period) (p
   local : (p c : ℕ) → AllThree IsEntryBetween (local_entries A p c) (local_entries M p c) (local_entries B p c)
   local p c = three_entries c _ _ _ (period_entries _ _ _ (at_period p))
 
-  chosen : (p c : ℕ) → (is_chosen f f.nrchop (period_at M p).stresses.irch c ≡ is_chosen f f.nrchop (period_at A p).stresses.irch c) × (is_chosen f f.nrchop (period_at B p).stresses.irch c ≡ is_chosen f f.nrchop (period_at A p).stresses.irch c)
+  chosen : (p c : ℕ) → (is_chosen f f.nrchop (period_at M p).stresses.irch c ≡ is_chosen f f.nrchop (period_at A p).stresses.irch c) ×
+      (is_chosen f f.nrchop (period_at B p).stresses.irch c ≡ is_chosen f f.nrchop (period_at A p).stresses.irch c)
   chosen p c = (ap (λ (x : Period). is_chosen f f.nrchop x.stresses.irch c) (at_period p).same, ap (λ (x : Period). is_chosen f f.nrchop x.stresses.irch c) (at_period p).alike)
 
   recharge : (p c : ℕ) → OptionThree IsDecBetween (recharge_at A p c) (recharge_at M p c) (recharge_at B p c)

@@ -59,7 +59,8 @@ passed_is p q n e = ap (λ (x : Period). part_passed x n) e
 size_same : (f g h : Ratio) → g ≡ f → h ≡ f → IsRatioBetween f g h
 size_same f g h e d = rw (e, d) (size_itself f)
 
-module _ (f : FlowModel) (s₁ s₂ s₃ : List Dec) (ps qs rs : List Period) (starts : AllThree IsDecBetween s₁ s₂ s₃) (periods : AllThree IsPeriodBetween ps qs rs) (p n : ℕ) (few : n ≤ (period_at (framed f s₁ ps) p).nstp) (old : ℕ → Fraction) where
+module _ (f : FlowModel) (s₁ s₂ s₃ : List Dec) (ps qs rs : List Period) (starts : AllThree IsDecBetween s₁ s₂ s₃) (periods : AllThree IsPeriodBetween ps qs rs)
+    (p n : ℕ) (few : n ≤ (period_at (framed f s₁ ps) p).nstp) (old : ℕ → Fraction) where
   abbrev A : FlowModel
   A = framed f s₁ ps
 
@@ -88,7 +89,8 @@ module _ (f : FlowModel) (s₁ s₂ s₃ : List Dec) (ps qs rs : List Period) (s
   given_or_kept c o q r nothing = kept c _ _ _ (last_three c (p - 1) ps qs rs periods)
   given_or_kept c o q r (something {x = x} {y = y} {z = z} h) =
       subst (λ (F : Ratio). IsFractionBetween (between_heads x (part_passed (period_at A p) n)) (between_heads y F) (between_heads z (part_passed (period_at B p) n))) (sym (passed_is _ _ n here.same))
-      (subst (λ (F : Ratio). IsFractionBetween (between_heads x (part_passed (period_at A p) n)) (between_heads y (part_passed (period_at A p) n)) (between_heads z F)) (sym (passed_is _ _ n here.alike))
+      (subst (λ (F : Ratio). IsFractionBetween (between_heads x (part_passed (period_at A p) n)) (between_heads y (part_passed (period_at A p) n))
+      (between_heads z F)) (sym (passed_is _ _ n here.alike))
       (heads_between (part_passed (period_at A p) n) (part_of (period_at A p) n few) x y z h))
 
   pub constant_between : (c : ℕ) → IsFractionBetween (constant_head A p n c) (constant_head M p n c) (constant_head B p n c)
@@ -101,7 +103,8 @@ module _ (f : FlowModel) (s₁ s₂ s₃ : List Dec) (ps qs rs : List Period) (s
   flow c x y z (pumped h) = record { kind = refl; flow = h }
   flow c x y z (received {q₁ = a} {q₂ = m} {q₃ = b} h) = record {
     kind = refl;
-    flow = rw (area_is f s₁ ps c, area_is f s₂ qs c, area_is f s₃ rs c) (between_image AtMost AtMost (λ r. times r (as_fraction (area f c))) (times_keeps (area f c)) (number a) (number m) (number b) h);
+    flow = rw (area_is f s₁ ps c, area_is f s₂ qs c, area_is f s₃ rs c)
+        (between_image AtMost AtMost (λ r. times r (as_fraction (area f c))) (times_keeps (area f c)) (number a) (number m) (number b) h);
   }
 
   through_face : (x : Face) → IsRatioBetween (conductance A x.axis x.first) (conductance M x.axis x.first) (conductance B x.axis x.first)
@@ -122,7 +125,8 @@ module _ (f : FlowModel) (s₁ s₂ s₃ : List Dec) (ps qs rs : List Period) (s
     conductance = rw (area_is f s₁ ps c, area_is f s₂ qs c, area_is f s₃ rs c, h.depth, h.ends)
         (between_image IsRatioAtMost IsRatioAtMost (λ r. over (size_times r (area f c)) (size x.depth)) (rate_keeps (area f c) (size x.depth) some) (size x.rate) (size y.rate) (size z.rate) h.rate);
     surface = h.surface;
-    extinction = rw (h.depth, h.ends) (between_image AtMost AtMost (λ r. plus r (opposite (number x.depth))) (plus_keeps (opposite (number x.depth))) (number x.surface) (number y.surface) (number z.surface) h.surface);
+    extinction = rw (h.depth, h.ends) (between_image AtMost AtMost (λ r. plus r (opposite (number x.depth))) (plus_keeps (opposite (number x.depth)))
+        (number x.surface) (number y.surface) (number z.surface) h.surface);
   }
 
   link : (x : Face) → exact_link M p n old x ≡ exact_link A p n old x
@@ -145,14 +149,16 @@ module _ (f : FlowModel) (s₁ s₂ s₃ : List Dec) (ps qs rs : List Period) (s
 
 -- Evapotranspirations, whose depths are above 0 in a valid model.
 
-sources_between : (R : EvapSource → EvapSource → EvapSource → Type 0) (S : ExactEvap → ExactEvap → ExactEvap → Type 0) (u v w : EvapSource → ExactEvap) → ((x y z : EvapSource) → R x y z → 0 < (size x.depth).num → S (u x) (v y) (w z)) →
+sources_between : (R : EvapSource → EvapSource → EvapSource → Type 0) (S : ExactEvap → ExactEvap → ExactEvap → Type 0) (u v w : EvapSource → ExactEvap) →
+    ((x y z : EvapSource) → R x y z → 0 < (size x.depth).num → S (u x) (v y) (w z)) →
     (xs ys zs : List EvapSource) → AllThree R xs ys zs → All IsEvapValid xs → AllThree S (map u xs) (map v ys) (map w zs)
 sources_between R S u v w each xs ys zs none h = none
 sources_between R S u v w each xs ys zs (next {x = x} {y = y} {z = z} {xs = us} r rs) h =
     next (each x y z r (size_positive x.depth (All-head IsEvapValid x us h).depth)) (sources_between R S u v w each _ _ _ rs (All-tail IsEvapValid x us h))
 
 -- three images of one list, of whose elements a fact holds
-images_of : {X U V W : Type 0} (P : X → Type 0) (S : U → V → W → Type 0) (f : X → U) (g : X → V) (h : X → W) → ((x : X) → P x → S (f x) (g x) (h x)) → (xs : List X) → All P xs → AllThree S (map f xs) (map g xs) (map h xs)
+images_of : {X U V W : Type 0} (P : X → Type 0) (S : U → V → W → Type 0) (f : X → U) (g : X → V) (h : X → W) → ((x : X) → P x → S (f x) (g x) (h x)) →
+    (xs : List X) → All P xs → AllThree S (map f xs) (map g xs) (map h xs)
 images_of P S f g h each [] k = none
 images_of P S f g h each (x ∷ xs) k = next (each x (All-head P x xs k)) (images_of P S f g h each xs (All-tail P x xs k))
 
@@ -162,7 +168,8 @@ unfolding variable_below
 each_variable m p n k d lt =
     rw (get_or_default (passing (is_variable m p) n) k d 0 lt) (let h = is_at (is_variable m p) n k lt in (h.within, h.passes))
 
-pub framed_steps : (f : FlowModel) (s₁ s₂ s₃ : List Dec) (ps qs rs : List Period) (p n : ℕ) (old : ℕ → Fraction) → AllThree IsDecBetween s₁ s₂ s₃ → AllThree IsPeriodBetween ps qs rs → n ≤ (period_at (framed f s₁ ps) p).nstp → IsModel (framed f s₁ ps) →
+pub framed_steps : (f : FlowModel) (s₁ s₂ s₃ : List Dec) (ps qs rs : List Period) (p n : ℕ) (old : ℕ → Fraction) → AllThree IsDecBetween s₁ s₂ s₃ →
+    AllThree IsPeriodBetween ps qs rs → n ≤ (period_at (framed f s₁ ps) p).nstp → IsModel (framed f s₁ ps) →
     IsStepBetween (exact_step (framed f s₁ ps) p n old) (exact_step (framed f s₂ qs) p n old) (exact_step (framed f s₃ rs) p n old)
 framed_steps f s₁ s₂ s₃ ps qs rs p n old starts periods few valid =
     rw ((cells_are f s₁ s₂ s₃ ps qs rs periods p (cell_count f.grid)).0, (cells_are f s₁ s₂ s₃ ps qs rs periods p (cell_count f.grid)).1)
@@ -175,7 +182,8 @@ framed_steps f s₁ s₂ s₃ ps qs rs p n old starts periods few valid =
 pub framed_is : (a m : FlowModel) → frame m ≡ frame a → framed a m.strt m.periods ≡ m
 framed_is a m e = ap (λ (x : FlowModel). framed x m.strt m.periods) (sym e)
 
-pub steps_between : (a m b : FlowModel) (p n : ℕ) (old : ℕ → Fraction) → IsModel a → n ≤ (period_at a p).nstp → IsBetween a m b → IsStepBetween (exact_step a p n old) (exact_step m p n old) (exact_step b p n old)
+pub steps_between : (a m b : FlowModel) (p n : ℕ) (old : ℕ → Fraction) → IsModel a → n ≤ (period_at a p).nstp → IsBetween a m b →
+    IsStepBetween (exact_step a p n old) (exact_step m p n old) (exact_step b p n old)
 steps_between a m b p n old valid few h =
     subst (λ (x : FlowModel). IsStepBetween (exact_step a p n old) (exact_step m p n old) (exact_step x p n old)) (framed_is a b h.alike)
     (subst (λ (x : FlowModel). IsStepBetween (exact_step a p n old) (exact_step x p n old) (exact_step (framed a b.strt b.periods) p n old)) (framed_is a m h.same)

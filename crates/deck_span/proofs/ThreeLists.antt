@@ -8,12 +8,14 @@ three_lengths R xs ys zs none = (refl, refl)
 three_lengths R xs ys zs (next h hs) = let (e, d) = three_lengths R _ _ _ hs in (ap suc e, ap suc d)
 
 -- what holds at each place holds at a place past the end, if it holds of the items that stand there
-pub three_at : {X Y Z : Type 0} (R : X → Y → Z → Type 0) (xs : List X) (ys : List Y) (zs : List Z) (i : ℕ) (d : X) (e : Y) (f : Z) → AllThree R xs ys zs → R d e f → R (get_or xs i d) (get_or ys i e) (get_or zs i f)
+pub three_at : {X Y Z : Type 0} (R : X → Y → Z → Type 0) (xs : List X) (ys : List Y) (zs : List Z) (i : ℕ) (d : X) (e : Y) (f : Z) → AllThree R xs ys zs →
+    R d e f → R (get_or xs i d) (get_or ys i e) (get_or zs i f)
 three_at R xs ys zs i d e f none k = k
 three_at R xs ys zs zero d e f (next h hs) k = h
 three_at R xs ys zs (suc i) d e f (next h hs) k = three_at R _ _ _ i d e f hs k
 
-pub three_append : {X Y Z : Type 0} (R : X → Y → Z → Type 0) (xs : List X) (ys : List Y) (zs : List Z) (us : List X) (vs : List Y) (ws : List Z) → AllThree R xs ys zs → AllThree R us vs ws → AllThree R (xs ++ us) (ys ++ vs) (zs ++ ws)
+pub three_append : {X Y Z : Type 0} (R : X → Y → Z → Type 0) (xs : List X) (ys : List Y) (zs : List Z) (us : List X) (vs : List Y) (ws : List Z) →
+    AllThree R xs ys zs → AllThree R us vs ws → AllThree R (xs ++ us) (ys ++ vs) (zs ++ ws)
 three_append R xs ys zs us vs ws none k = k
 three_append R xs ys zs us vs ws (next h hs) k = next h (three_append R _ _ _ us vs ws hs k)
 
@@ -45,7 +47,8 @@ three_take R zero xs ys zs k = none
 three_take R (suc n) xs ys zs none = none
 three_take R (suc n) xs ys zs (next h hs) = next h (three_take R n _ _ _ hs)
 
-pub three_flat_map : {X Y Z U V W : Type 0} (R : X → Y → Z → Type 0) (S : U → V → W → Type 0) (f : X → List U) (g : Y → List V) (h : Z → List W) → ((x : X) (y : Y) (z : Z) → R x y z → AllThree S (f x) (g y) (h z)) →
+pub three_flat_map : {X Y Z U V W : Type 0} (R : X → Y → Z → Type 0) (S : U → V → W → Type 0) (f : X → List U) (g : Y → List V) (h : Z → List W) →
+    ((x : X) (y : Y) (z : Z) → R x y z → AllThree S (f x) (g y) (h z)) →
     (xs : List X) (ys : List Y) (zs : List Z) → AllThree R xs ys zs → AllThree S (flat_map f xs) (flat_map g ys) (flat_map h zs)
 three_flat_map R S f g h each xs ys zs none = none
 three_flat_map R S f g h each xs ys zs (next r rs) = three_append S _ _ _ _ _ _ (each _ _ _ r) (three_flat_map R S f g h each _ _ _ rs)
@@ -79,11 +82,13 @@ module _ {X Y Z : Type 0} (R : X → Y → Z → Type 0) (f : X → Bool) (g : Y
   three_find xs ys zs (next {x = x} {y = y} {z = z} r rs) =
       found x y z _ _ _ (f x) refl (agree x y z r).0 (agree x y z r).1 r (three_find _ _ _ rs)
 
-cons_three : {U V W : Type 0} (S : U → V → W → Type 0) (o : Option U) (q : Option V) (r : Option W) (us : List U) (vs : List V) (ws : List W) → OptionThree S o q r → AllThree S us vs ws → AllThree S (cons_option o us) (cons_option q vs) (cons_option r ws)
+cons_three : {U V W : Type 0} (S : U → V → W → Type 0) (o : Option U) (q : Option V) (r : Option W) (us : List U) (vs : List V) (ws : List W) →
+    OptionThree S o q r → AllThree S us vs ws → AllThree S (cons_option o us) (cons_option q vs) (cons_option r ws)
 cons_three S o q r us vs ws nothing k = k
 cons_three S o q r us vs ws (something h) k = next h k
 
-pub three_filter_map : {X Y Z U V W : Type 0} (R : X → Y → Z → Type 0) (S : U → V → W → Type 0) (f : X → Option U) (g : Y → Option V) (h : Z → Option W) → ((x : X) (y : Y) (z : Z) → R x y z → OptionThree S (f x) (g y) (h z)) →
+pub three_filter_map : {X Y Z U V W : Type 0} (R : X → Y → Z → Type 0) (S : U → V → W → Type 0) (f : X → Option U) (g : Y → Option V) (h : Z → Option W) →
+    ((x : X) (y : Y) (z : Z) → R x y z → OptionThree S (f x) (g y) (h z)) →
     (xs : List X) (ys : List Y) (zs : List Z) → AllThree R xs ys zs → AllThree S (filter_map f xs) (filter_map g ys) (filter_map h zs)
 three_filter_map R S f g h each xs ys zs none = none
 three_filter_map R S f g h each xs ys zs (next r rs) = cons_three S _ _ _ _ _ _ (each _ _ _ r) (three_filter_map R S f g h each _ _ _ rs)

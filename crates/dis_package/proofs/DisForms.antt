@@ -19,7 +19,8 @@ growing t e = grind (arith, and_parts, nat_le, leb-true, at_least_thousandth, at
 grown : (t : Time) → is_growth t ≡ true → (t.tsmult ≡ number_one) ⊎ IsGrowing (period_of t)
 grown t e = by_case (is_one t.tsmult) refl e
   where
-    by_case : (b : Bool) → is_one t.tsmult ≡ b → (b || (nat_le t.nstp 1000 && (is_at_least 3 (size t.tsmult) && is_at_most 1000 (size t.tsmult)))) ≡ true → (t.tsmult ≡ number_one) ⊎ IsGrowing (period_of t)
+    by_case : (b : Bool) → is_one t.tsmult ≡ b → (b || (nat_le t.nstp 1000 && (is_at_least 3 (size t.tsmult) && is_at_most 1000 (size t.tsmult)))) ≡ true →
+        (t.tsmult ≡ number_one) ⊎ IsGrowing (period_of t)
     by_case true is so = inl (one_of t.tsmult is)
     by_case false is so = inr (growing t so)
 

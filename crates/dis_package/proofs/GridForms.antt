@@ -52,7 +52,8 @@ module _ (files : FileSet) (file : List ℕ) (size : Size) (laycbd : List ℤ) w
       counted_gives (bottom_at files file size laycbd) (AreBottoms size laycbd) one_bottom count _
       (record { layers = (omega arith, All-nil IsDec); decimals = All-nil IsDec; beds = no_layers (size.rows * size.cols) (IsBedLayer laycbd (size.rows * size.cols)) })
 
-  pub grid_is : (limits : Limits) (left : Left) → IsSize size → IsSizeWithin limits size → AreBeds size.layers laycbd → GivesOnly (λ x. IsReadGrid limits laycbd x.0) (grid_of files file size laycbd left)
+  pub grid_is : (limits : Limits) (left : Left) → IsSize size → IsSizeWithin limits size → AreBeds size.layers laycbd →
+      GivesOnly (λ x. IsReadGrid limits laycbd x.0) (grid_of files file size laycbd left)
   unfolding grid_of
   grid_is limits left sizes w beds =
       then_ _ (widths_are files file size.cols left) (λ delr a. then_ _ (widths_are files file size.rows delr.1) (λ delc b. then_ _ (layer_is files file size.rows size.cols delc.1)

@@ -5,7 +5,8 @@ use Rattle.outside.specs.declared.inputs.TextFault.{TextFault}
 use Rattle.outside.specs.declared.inputs.TextFault.TheVariants.{Refused, Memory}
 
 -- the first line and LAYCBD
-pub head_read : (limits : Limits) (file : List ℕ) (left rest after : Left) (line : Numbered) (ws : List (List ℕ)) (frame : Frame) (laycbd : List ℤ) → line_at file left ≡ Ok (line, rest) → ws ≡ words line.bytes
+pub head_read : (limits : Limits) (file : List ℕ) (left rest after : Left) (line : Numbered) (ws : List (List ℕ)) (frame : Frame) (laycbd : List ℤ) →
+    line_at file left ≡ Ok (line, rest) → ws ≡ words line.bytes
     → frame_of limits file line.number ws ≡ Ok frame → beds_of file frame.size.layers rest ≡ Ok (laycbd, after) → head_of limits file left ≡ Ok ((frame, laycbd), after)
 unfolding head_of
 head_read limits file left rest after line ws frame laycbd a w b d = rw (a, ← w, b, d) refl

@@ -7,7 +7,8 @@ use Rattle.engine.proofs.DeckEnds.{run_map}
 use Rattle.run_puts.specs.declared.puts.Status.TheVariants as status
 
 -- puts of which this holds, and then puts of which that holds
-pub puts_then : {S : Type 0} {old mid new : S} {P Q R : List Put → Type 0} (leads : S → List Put → S → Type 0) → PutsMore leads old mid P → PutsMore leads mid new Q → ((first more : List Put) → P first → Q more → R (first ++ more)) → PutsMore leads old new R
+pub puts_then : {S : Type 0} {old mid new : S} {P Q R : List Put → Type 0} (leads : S → List Put → S → Type 0) → PutsMore leads old mid P →
+    PutsMore leads mid new Q → ((first more : List Put) → P first → Q more → R (first ++ more)) → PutsMore leads old new R
 puts_then {S} {old} {mid} {new} leads first second joins = λ start puts h.
     let a = first start puts h in
     let b = second start (puts ++ a.0) a.1 in

@@ -21,7 +21,8 @@ refusal_text refusal before e is text = record {
 }
 
 -- an end of the run of what was read, after the line of the name
-pub end_of_read : {E : Type 0} (job : Job) (text : Text) (read : Result Task Refusal) (r : Result JobEnd E) → job.read ≡ read → text ≡ model_line job.name → IfOk r (IsRunText read text) → IfOk r (IsJobEnd job)
+pub end_of_read : {E : Type 0} (job : Job) (text : Text) (read : Result Task Refusal) (r : Result JobEnd E) → job.read ≡ read → text ≡ model_line job.name →
+    IfOk r (IsRunText read text) → IfOk r (IsJobEnd job)
 end_of_read job text read (Ok e) is named end =
     let P : Result Task Refusal → Text → Type 0 = λ c t. IsRunText c t e in
     let Q : Text → Type 0 = λ t. P job.read t in
@@ -77,7 +78,8 @@ module _ (may : List ℕ → Type 0) where
   files_may Words h = tt
 
   -- the files of the order that was read
-  pub order_may : (words : Option Wanted) (read : Result Order WordsFault) → WordsMay may (files_if words) → IfOk read (λ o. words ≡ Some (wanted_by o)) → IfOk read (λ o. WordsMay may (files_of (wanted_by o)))
+  pub order_may : (words : Option Wanted) (read : Result Order WordsFault) → WordsMay may (files_if words) → IfOk read (λ o. words ≡ Some (wanted_by o)) →
+      IfOk read (λ o. WordsMay may (files_of (wanted_by o)))
   order_may words read h is = IfOk-weaker read (λ o. words ≡ Some (wanted_by o)) _ (λ o e. subst (λ (w : Option Wanted). WordsMay may (files_if w)) e h) is
 
   pub may_do : (read : Result Order WordsFault) (o p : Order) → IfOk read (λ o. WordsMay may (files_of (wanted_by o))) → read ≡ Ok o → o ≡ p → MayDo (wanted_by p)
@@ -87,7 +89,8 @@ module _ (may : List ℕ → Type 0) where
 pub is_order : (words : Option Wanted) (read : Result Order WordsFault) → IfOk read (λ o. words ≡ Some (wanted_by o)) → (read ≡ Err fault.Usage → words ≡ None) → IsOrder read (but_batch words)
 is_order words read is none = (IfOk-weaker read (λ o. words ≡ Some (wanted_by o)) _ (λ o e. ap but_batch e) is, λ e. ap but_batch (none e))
 
-pub order_read : (one : Option Wanted) (read : Result Order WordsFault) (o p : Order) → IfOk read (λ o. one ≡ but_batch (Some (wanted_by o))) → read ≡ Ok o → o ≡ p → one ≡ but_batch (Some (wanted_by p))
+pub order_read : (one : Option Wanted) (read : Result Order WordsFault) (o p : Order) → IfOk read (λ o. one ≡ but_batch (Some (wanted_by o))) → read ≡ Ok o →
+    o ≡ p → one ≡ but_batch (Some (wanted_by p))
 order_read one read o p h is same = IfOk-at_ok (λ o. one ≡ but_batch (Some (wanted_by o))) is h ∙ ap (λ (x : Order). but_batch (Some (wanted_by x))) same
 
 -- an order that is for no batch
@@ -96,6 +99,7 @@ not_a_batch (order.Batch b) other = absurd (other b refl)
 not_a_batch o other = refl
 
 -- a file that might be asked for may still be
-pub file_still : (may more : List ℕ → Type 0) (file : Option Text) → ((name : List ℕ) → may name → more name) → IfSome file (λ name. may (folder_name name)) → IfSome file (λ name. more (folder_name name))
+pub file_still : (may more : List ℕ → Type 0) (file : Option Text) → ((name : List ℕ) → may name → more name) → IfSome file (λ name. may (folder_name name)) →
+    IfSome file (λ name. more (folder_name name))
 file_still may more None still h = tt
 file_still may more (Some name) still h = still _ h

@@ -35,7 +35,9 @@ asked_views leads k watch h j e = let P : Option ℕ → Type 0 = λ o. IfSome o
 
 module _ {n m : ℕ} {failed : Type 0} {leads : List Put → Type 0} {end : Status} {puts : List Put} where
   -- an order that is this one
-  pub of_order : (files : FileSet) (order asked : Option Wanted) → order ≡ asked → AnswersBeside (case_of asked files) (views_in asked) n m failed leads end puts → AnswersBeside (case_of order files) (views_in order) n m failed leads end puts
+  pub of_order : (files : FileSet) (order asked : Option Wanted) → order ≡ asked →
+      AnswersBeside (case_of asked files) (views_in asked) n m failed leads end puts →
+      AnswersBeside (case_of order files) (views_in order) n m failed leads end puts
   of_order files order asked is a =
       let P : Option Wanted → Type 0 = λ o. AnswersBeside (case_of o files) (views_in o) n m failed leads end puts in
       subst P (sym is) a
@@ -45,14 +47,18 @@ module _ {n m : ℕ} {failed : Type 0} {leads : List Put → Type 0} {end : Stat
   unseen case views silent a never =
       record { run = run_alone (Rose n m) failed case end puts a.run; valid = a.valid; watched = λ e j v. absurd (never e j v); side = quiet leads case views silent }
 
-  pub without_views : (files : FileSet) (order asked : Option Wanted) → leads [] → order ≡ asked → views_in asked ≡ None → Answers (case_of asked files) n m end puts → AnswersBeside (case_of order files) (views_in order) n m failed leads end puts
-  without_views files order asked silent is none a = of_order files order asked is (unseen (case_of asked files) (views_in asked) silent a (λ e j v. let bad : Path (Option ℕ) None (Some j) = sym none ∙ v in cc))
+  pub without_views : (files : FileSet) (order asked : Option Wanted) → leads [] → order ≡ asked → views_in asked ≡ None →
+      Answers (case_of asked files) n m end puts → AnswersBeside (case_of order files) (views_in order) n m failed leads end puts
+  without_views files order asked silent is none a =
+      of_order files order asked is (unseen (case_of asked files) (views_in asked) silent a (λ e j v.
+      let bad : Path (Option ℕ) None (Some j) = sym none ∙ v in cc))
 
   pub not_ok : (case : Case) (views : Option ℕ) → leads [] → Answers case n m end puts → (end ≡ status.Ok → ⊥) → AnswersBeside case views n m failed leads end puts
   not_ok case views silent a bad = unseen case views silent a (λ e j v. bad e)
 
   -- a run of a case that lists a task, beside which views were put
-  pub of_listing : (k : Task) (c : Case) → IsListingOf k c → IsValid c → (watch : Option ℕ) → IsRunOf (Rose n m) failed c end puts → (end ≡ status.Ok → IfSome watch (λ j. IsWatched true k j leads)) → ViewPutsOf k leads watch → AnswersBeside c watch n m failed leads end puts
+  pub of_listing : (k : Task) (c : Case) → IsListingOf k c → IsValid c → (watch : Option ℕ) → IsRunOf (Rose n m) failed c end puts →
+      (end ≡ status.Ok → IfSome watch (λ j. IsWatched true k j leads)) → ViewPutsOf k leads watch → AnswersBeside c watch n m failed leads end puts
   of_listing k c has valid watch run w views = record {
     run = run;
     valid = inr valid;

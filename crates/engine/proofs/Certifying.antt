@@ -39,7 +39,9 @@ pub check_is_no_fault : (limits : Limits) (m : Decks) (s : ℕ) (listing : Zoned
 check_is_no_fault limits m s listing end pieces c h = verdict_is_no_fault c.verdict (subst IsFault c.status h)
 
 module _ (files : FileSet) (old new : Seen) (puts : List Put) (pieces : List Text) (asked : AskedCheck) (written : puts ≡ map whole_put pieces) (makes : PutsMake old puts new) where
-  pub certified_and_one : (f : FlowModel) (listing : ZonedListing) → IsModel f → read_by_name asked.name (reads asked.limits files) ≡ Ok f → listing_read false files asked f ≡ Ok listing → Defines (Checking asked.limits (one_deck f) asked.digits listing) status.Ok pieces → OneVerdict asked files old.written new.written
+  pub certified_and_one : (f : FlowModel) (listing : ZonedListing) → IsModel f → read_by_name asked.name (reads asked.limits files) ≡ Ok f →
+      listing_read false files asked f ≡ Ok listing → Defines (Checking asked.limits (one_deck f) asked.digits listing) status.Ok pieces →
+      OneVerdict asked files old.written new.written
   certified_and_one f listing model read listed d =
       let parts = zoned_parts (zones_read files asked.zones f) (steps_read false files asked f) listing listed in
       let is = named_read asked.name (reads asked.limits files) f read in
@@ -70,7 +72,8 @@ module _ (limits : Limits) (m : Decks) (s : ℕ) (listing : ZonedListing) where
   one_end law model listed meant end p q x y = y.status ∙ ap verdict_status (law limits m s listing.zones listing.steps y.verdict x.verdict model listed.steps y.is x.is) ∙ sym x.status
 
   -- where the verdict is that the listing is certified, its end is Ok
-  pub certifies : VerdictIsOne → AreDecks m → IsListed m.first listing → IsVerdict limits m s listing.zones listing.steps Holds → (end : Status) (q : List Text) → IsCheck limits m s listing end q → end ≡ status.Ok
+  pub certifies : VerdictIsOne → AreDecks m → IsListed m.first listing → IsVerdict limits m s listing.zones listing.steps Holds →
+      (end : Status) (q : List Text) → IsCheck limits m s listing end q → end ≡ status.Ok
   certifies law model listed verdict end q y = y.status ∙ ap verdict_status (law limits m s listing.zones listing.steps y.verdict Holds model listed.steps y.is verdict)
 
 -- The jobs of a batch, name by name, and what the reading of its list gives.
@@ -78,11 +81,13 @@ abbrev made_job : Text → Result Task Refusal → Job
 made_job name read = record { name = name; read = read }
 
 -- a job whose files were read as these: a model, or a refusal
-pub job_read : (b : AskedBatch) (fs : FileSet) (name text copy : Text) (r : Result FlowModel Refusal) → text ≡ name → copy ≡ name → reads b.limits fs text ≡ r → made_job copy (r >>= λ m. Ok (job_task b m)) ≡ job_of b fs name
+pub job_read : (b : AskedBatch) (fs : FileSet) (name text copy : Text) (r : Result FlowModel Refusal) → text ≡ name → copy ≡ name → reads b.limits fs text ≡ r →
+    made_job copy (r >>= λ m. Ok (job_task b m)) ≡ job_of b fs name
 job_read b fs name text copy r same copied h = rw (copied, ← h, same) refl
 
 -- one more job
-pub jobs_read_more : (f : Text → Job) (names : List Text) (i : ℕ) (name : Text) (jobs : List Job) (job : Job) → i < length names → name ≡ get_or names i name → jobs ≡ map f (take i names) → job ≡ f name → jobs ++ (job ∷ []) ≡ map f (take (i + 1) names)
+pub jobs_read_more : (f : Text → Job) (names : List Text) (i : ℕ) (name : Text) (jobs : List Job) (job : Job) → i < length names → name ≡ get_or names i name →
+    jobs ≡ map f (take i names) → job ≡ f name → jobs ++ (job ∷ []) ≡ map f (take (i + 1) names)
 jobs_read_more f names i name jobs job h at was is =
     let more : take (i + 1) names ≡ take i names ++ (name ∷ []) = take_more names i name h ∙ ap (λ n. take i names ++ (n ∷ [])) (sym at) in
     rw (was, is, more) (sym (map-append f (take i names) (name ∷ [])))

@@ -40,7 +40,8 @@ pub case_within : (limits : Limits) (name : Text) (to : Option Text) (files : Fi
     within d.first p.last (come d) ≡ case_named files limits name to come
 case_within limits name to files come d p = sym ((λ i. case_decks (p.is_first i) (p.is_second i) come) ∙ decks_within d.first p.last d.second come p.are)
 
-pub within_defines : (a : FlowModel) (last : Option Second) (case : Case) (end : Status) (pieces : List Text) → IfSome last (λ b. AreAlike a b.model) → Defines case end pieces → Defines (within a last case) end pieces
+pub within_defines : (a : FlowModel) (last : Option Second) (case : Case) (end : Status) (pieces : List Text) → IfSome last (λ b. AreAlike a b.model) →
+    Defines case end pieces → Defines (within a last case) end pieces
 within_defines a None case end pieces alike d = d
 within_defines a (Some b) case end pieces alike d = inr (alike, d)
 
@@ -56,26 +57,31 @@ pub within_valid : (a : FlowModel) (last : Option Second) (case : Case) → IsVa
 within_valid a None case h = h
 within_valid a (Some b) case h = inr h
 
-due_within : (failed beside : Type 0) (a : FlowModel) (last : Option Second) (case : Case) → IfSome last (λ b. AreAlike a b.model) → (end : Status) (pieces : List Text) → Due failed beside case end pieces → Due failed beside (within a last case) end pieces
+due_within : (failed beside : Type 0) (a : FlowModel) (last : Option Second) (case : Case) → IfSome last (λ b. AreAlike a b.model) →
+    (end : Status) (pieces : List Text) → Due failed beside case end pieces → Due failed beside (within a last case) end pieces
 due_within failed beside a None case alike end pieces d = d
 due_within failed beside a (Some b) case alike end pieces (defined meant all d) = defined meant all (inr (alike, d))
 due_within failed beside a (Some b) case alike end pieces (unread (f, worded)) = unread (f, tt)
 due_within failed beside a (Some b) case alike end pieces (broken_off all f c) = broken_off all f (alike, c)
 
 -- a run under weaker conditions on its pieces
-begins_map : {P Q : Status → List Text → Type 0} {C D : List Text → Type 0} → ((end : Status) (pieces : List Text) → P end pieces → Q end pieces) → ((pieces : List Text) → C pieces → D pieces) → (before after : List Text) → Begins P C before after → Begins Q D before after
+begins_map : {P Q : Status → List Text → Type 0} {C D : List Text → Type 0} → ((end : Status) (pieces : List Text) → P end pieces → Q end pieces) →
+    ((pieces : List Text) → C pieces → D pieces) → (before after : List Text) → Begins P C before after → Begins Q D before after
 begins_map f g before after nothing = nothing
 begins_map f g before after (all_due end some next rest d) = all_due end some next rest (f _ _ d)
 begins_map f g before after (cut some rest c) = cut some rest (g _ c)
 
-pub run_map : {P Q : Status → List Text → Type 0} {C D : List Text → Type 0} → ((end : Status) (pieces : List Text) → P end pieces → Q end pieces) → ((pieces : List Text) → C pieces → D pieces) → (end : Status) (puts : List Put) → IsRun P C end puts → IsRun Q D end puts
+pub run_map : {P Q : Status → List Text → Type 0} {C D : List Text → Type 0} → ((end : Status) (pieces : List Text) → P end pieces → Q end pieces) →
+    ((pieces : List Text) → C pieces → D pieces) → (end : Status) (puts : List Put) → IsRun P C end puts → IsRun Q D end puts
 run_map f g end puts (whole meant pieces due) = whole meant pieces (f _ _ due)
 run_map f g end puts (early meant before after tail b t) = early meant before after tail (begins_map f g before after b) t
 
-pub run_within : (failed beside : Type 0) (a : FlowModel) (last : Option Second) (case : Case) → IfSome last (λ b. AreAlike a b.model) → (end : Status) (puts : List Put) → IsRunOf failed beside case end puts → IsRunOf failed beside (within a last case) end puts
+pub run_within : (failed beside : Type 0) (a : FlowModel) (last : Option Second) (case : Case) → IfSome last (λ b. AreAlike a b.model) →
+    (end : Status) (puts : List Put) → IsRunOf failed beside case end puts → IsRunOf failed beside (within a last case) end puts
 run_within failed beside a last case alike = run_map (due_within failed beside a last case alike) (within_cut a last case alike)
 
-pub within_ends : {n m : ℕ} {end : Status} {puts : List Put} (a : FlowModel) (last : Option Second) (case : Case) → IfSome last (λ b. AreAlike a b.model) → Answers case n m end puts → Answers (within a last case) n m end puts
+pub within_ends : {n m : ℕ} {end : Status} {puts : List Put} (a : FlowModel) (last : Option Second) (case : Case) → IfSome last (λ b. AreAlike a b.model) →
+    Answers case n m end puts → Answers (within a last case) n m end puts
 within_ends {n} {m} {end} {puts} a last case alike x = record {
   run = run_within (Rose n m) ⊥ a last case alike end puts x.run;
   valid = elim (x.valid) [ inl stops ↦ inl stops | inr h ↦ inr (within_valid a last case h) ];
@@ -86,7 +92,9 @@ module _ (limits : Limits) (name : Text) (to : Option Text) (files : FileSet) (c
   Here = case_named files limits name to come
 
   module _ {n m : ℕ} {end : Status} {puts : List Put} where
-    refused_by : (refusal : Refusal) → IsDecksRefusal (read_by_name name (reads limits files)) (option_map (λ last. read_by_name last (second_in limits files)) to) refusal → IsEnd (refused_line refusal) (status.Refused refusal) end puts → Answers Here n m end puts
+    refused_by : (refusal : Refusal) → IsDecksRefusal (read_by_name name (reads limits files))
+        (option_map (λ last. read_by_name last (second_in limits files)) to) refusal → IsEnd (refused_line refusal) (status.Refused refusal) end puts →
+        Answers Here n m end puts
     refused_by refusal (of_first h) e = of_case (Refuses refusal) (sym (ap (λ x. case_decks x (option_map (λ last. read_by_name last (second_in limits files)) to) come) h)) (refused refusal e)
     refused_by refusal (of_second a h k) e = of_case (Refuses refusal) (sym (λ i. case_decks (h i) (k i) come)) (refused refusal e)
     refused_by refusal (of_both a b d h k first never same) e =
@@ -94,9 +102,11 @@ module _ (limits : Limits) (name : Text) (to : Option Text) (files : FileSet) (c
         (inl (record { difference = d; first = first; unlike = never; status = ap status.Refused same; are = ap (λ (x : Refusal). refused_line x ∷ []) same })) (inl never) e)
 
     -- no decks were read
-    pub ends_undecked : ((d : Decks) → ReadsFolder (come d)) → (fault : InputFault) → AreDecksAs limits name to files (Err fault) → InputCounts {T = Decks} n m (Err fault) → IsReadingEnd fault end puts → Answers Here n m end puts
+    pub ends_undecked : ((d : Decks) → ReadsFolder (come d)) → (fault : InputFault) → AreDecksAs limits name to files (Err fault) →
+        InputCounts {T = Decks} n m (Err fault) → IsReadingEnd fault end puts → Answers Here n m end puts
     ends_undecked all (input.Refused refusal) p counts h = refused_by refusal p h
-    ends_undecked all input.ReadFault p counts h = unreadable (decks_reads (read_by_name name (reads limits files)) (option_map (λ last. read_by_name last (second_in limits files)) to) come all) counts h
+    ends_undecked all input.ReadFault p counts h =
+        unreadable (decks_reads (read_by_name name (reads limits files)) (option_map (λ last. read_by_name last (second_in limits files)) to) come all) counts h
     ends_undecked all input.Memory p counts h = ends_without_words h
 
     -- decks were read

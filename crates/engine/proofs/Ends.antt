@@ -15,7 +15,8 @@ pub puts_more : {S : Type 0} {old new : S} {P Q : List Put → Type 0} (leads : 
 puts_more leads put holds = λ start puts h. let m = put start puts h in (m.0, m.1, holds m.0 m.2)
 
 pub wanting_stops : (end : Status) (puts : List Put) → EndsOutOfMemory end puts → IsStopped end
-wanting_stops end puts (answer, s, t) = let P : Status → Type 0 = IsStopped in subst P (sym s) (late_stops (status_after answer) (tail_late [] (status_after answer) (memory_put answer ∷ []) (wanting [] answer)))
+wanting_stops end puts (answer, s, t) = let P : Status → Type 0 = IsStopped in subst P (sym s)
+    (late_stops (status_after answer) (tail_late [] (status_after answer) (memory_put answer ∷ []) (wanting [] answer)))
 
 pub read_stops : (end : Status) (puts : List Put) → IsLast read_fault_line status.ReadFault end puts → IsStopped end
 read_stops end puts (inl (e, t)) = inl e
@@ -56,7 +57,8 @@ module _ {n m : ℕ} {end : Status} {puts : List Put} where
     pub ends_read : (x : T) → r ≡ Ok x → Answers (come x) n m end puts → Answers (case_read r come) n m end puts
     ends_read x is a = let P : Result T Refusal → Type 0 = λ y. Answers (case_read y come) n m end puts in subst P (sym is) a
 
-    pub ends_unread : {V : Type 0} (view : V → T) → ((x : T) → ReadsFolder (come x)) → (fault : InputFault) → IsReading view r (Err fault) → InputCounts {T = V} n m (Err fault) → IsReadingEnd fault end puts → Answers (case_read r come) n m end puts
+    pub ends_unread : {V : Type 0} (view : V → T) → ((x : T) → ReadsFolder (come x)) → (fault : InputFault) → IsReading view r (Err fault) →
+        InputCounts {T = V} n m (Err fault) → IsReadingEnd fault end puts → Answers (case_read r come) n m end puts
     ends_unread view reads (input.Refused refusal) is counts h = let P : Result T Refusal → Type 0 = λ y. Answers (case_read y come) n m end puts in subst P (sym is) (refused refusal h)
     ends_unread view reads input.ReadFault is counts h = unreadable (read_reads come reads r) counts h
     ends_unread view reads input.Memory is counts h = ends_without_words h
@@ -66,17 +68,20 @@ module _ (seed size : ℕ) where
   abbrev Made : Case
   Made = Making seed size (made_model seed size)
 
-  alone : (read : Result FlowModel Refusal) → made_model seed size ≡ read → IfOk read IsModel → (line : Text) (meant end : Status) (puts : List Put) → IsMade seed size read meant (line ∷ []) → IsEnd line meant end puts → (n : ℕ) → Answers Made n n end puts
+  alone : (read : Result FlowModel Refusal) → made_model seed size ≡ read → IfOk read IsModel → (line : Text) (meant end : Status) (puts : List Put) →
+      IsMade seed size read meant (line ∷ []) → IsEnd line meant end puts → (n : ℕ) → Answers Made n n end puts
   alone read is valid line meant end puts due h n =
       let A : Result FlowModel Refusal → Type 0 = λ r. Answers (Making seed size r) n n end puts in
       subst A (sym is) (lone_defined line meant due valid h)
 
   -- what a folder of these files reads as
-  pub made_reading : (files : FileSet) (answer : Result FlowModel InputFault) → files ≡ with_limit (most_bytes Plain) (made_files seed size) → IsReading (λ m. m) (read_by_name made_name (reads Plain files)) answer → IsReading (λ m. m) (made_model seed size) answer
+  pub made_reading : (files : FileSet) (answer : Result FlowModel InputFault) → files ≡ with_limit (most_bytes Plain) (made_files seed size) →
+      IsReading (λ m. m) (read_by_name made_name (reads Plain files)) answer → IsReading (λ m. m) (made_model seed size) answer
   made_reading files answer is h = subst (λ (fs : FileSet). IsReading (λ m. m) (read_by_name made_name (reads Plain fs)) answer) is h
 
   -- a listing of the made model ended so, of which this is the summary
-  pub made_ended : (m : FlowModel) (s : Summary) (last : ListingEnd) (end : Status) (puts : List Put) → made_model seed size ≡ Ok m → IsModel m → IsSummarized (made_task m) s last → IsEnd (summed_text seed size m.grid s last) (status_of last) end puts → (n : ℕ) → Answers Made n n end puts
+  pub made_ended : (m : FlowModel) (s : Summary) (last : ListingEnd) (end : Status) (puts : List Put) → made_model seed size ≡ Ok m → IsModel m →
+      IsSummarized (made_task m) s last → IsEnd (summed_text seed size m.grid s last) (status_of last) end puts → (n : ℕ) → Answers Made n n end puts
   made_ended m s last end puts is valid h line =
       let one : IsMade seed size (Ok m) (status_of last) (summed_text seed size m.grid s last ∷ []) = record {
         all = listing (made_task m) h.values (last_line m.grid last);
@@ -85,7 +90,8 @@ module _ (seed size : ℕ) where
       } in
       alone (Ok m) is valid (summed_text seed size m.grid s last) (status_of last) end puts one line
 
-  pub made_unread : (fault : InputFault) (end : Status) (puts : List Put) → IsReading {T = FlowModel} (λ m. m) (made_model seed size) (Err fault) → IsReadingEnd (made_fault fault) end puts → (n : ℕ) → Answers Made n n end puts
+  pub made_unread : (fault : InputFault) (end : Status) (puts : List Put) → IsReading {T = FlowModel} (λ m. m) (made_model seed size) (Err fault) →
+      IsReadingEnd (made_fault fault) end puts → (n : ℕ) → Answers Made n n end puts
   made_unread (input.Refused refusal) end puts is h n = alone (Err refusal) is tt (refused_line refusal) (status.Refused refusal) end puts (refl, refl) h n
   made_unread input.ReadFault end puts is h n = ends_without_words h
   made_unread input.Memory end puts is h n = ends_without_words h

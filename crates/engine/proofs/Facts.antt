@@ -15,7 +15,9 @@ use Rattle.run_puts.specs.declared.puts.Status.TheVariants as status
 -- The headline of a batch whose jobs ran.
 module _ (laws : Laws) (b : AskedBatch) (files : FileSet) where
   -- the text of a job that ended Ok
-  job_listing : (name : Text) (e : JobEnd) (r : Result FlowModel Refusal) → reads b.limits files name ≡ r → IfOk (r >>= λ m. Ok (job_task b m)) (λ k. AreDecks k.decks) → IsRunText (r >>= λ m. Ok (job_task b m)) (model_line name) e → e.status ≡ status.Ok → IsJobListing b files name e.text.items
+  job_listing : (name : Text) (e : JobEnd) (r : Result FlowModel Refusal) → reads b.limits files name ≡ r →
+      IfOk (r >>= λ m. Ok (job_task b m)) (λ k. AreDecks k.decks) → IsRunText (r >>= λ m. Ok (job_task b m)) (model_line name) e → e.status ≡ status.Ok →
+      IsJobListing b files name e.text.items
   job_listing name e (Err refusal) is valid h ok = absurd (let bad : status.Refused refusal ≡ status.Ok = sym h.defined.0 ∙ ok in cc)
   job_listing name e (Ok m) is valid h ok = of_whole (whole_listing (job_task b m) h.pieces (let P : Status → Type 0 = λ s. IsListing (job_task b m) s h.pieces in subst P ok h.defined))
     where
@@ -39,10 +41,18 @@ module _ (laws : Laws) (b : AskedBatch) (files : FileSet) where
   all_ended [] [] valid h = tt
   all_ended [] (e ∷ ends) valid h = absurd h
   all_ended (name ∷ names) [] valid h = absurd h
-  all_ended (name ∷ names) (e ∷ ends) valid (x, h) = (record { end = x; listing = job_listing name e (reads b.limits files name) refl (All-head IsValidJob (job_of b files name) (map (job_of b files) names) valid) x }, all_ended names ends (All-tail IsValidJob (job_of b files name) (map (job_of b files) names) valid) h)
+  all_ended (name ∷ names) (e ∷ ends) valid (x, h) = (
+    record {
+      end = x;
+      listing = job_listing name e (reads b.limits files name) refl
+          (All-head IsValidJob (job_of b files name) (map (job_of b files) names) valid) x;
+    },
+    all_ended names ends (All-tail IsValidJob (job_of b files name) (map (job_of b files) names) valid) h,
+  )
 
   module _ (end : Status) (old new : Seen) (puts : List Put) (makes : PutsMake old puts new) where
-    of_names : (names : List Text) → names_read files b ≡ Ok names → All IsValidJob (map (job_of b files) names) → Delivers (Defines (Jobs (map (job_of b files) names))) end puts → Batched b files end old.written new.written
+    of_names : (names : List Text) → names_read files b ≡ Ok names → All IsValidJob (map (job_of b files) names) →
+        Delivers (Defines (Jobs (map (job_of b files) names))) end puts → Batched b files end old.written new.written
     of_names names read valid d = record {
       names = names;
       read = read;
@@ -59,14 +69,17 @@ module _ (laws : Laws) (b : AskedBatch) (files : FileSet) where
     of_list (Ok names) read valid d = inr (of_names names read valid d)
     of_list (Err refusal) read valid d = inl (refusal, read, d.defines.0)
 
-    pub batched : (order : Option Wanted) → order ≡ Some (Batch b) → IsValid (case_of order files) → Delivers (Defines (case_of order files)) end puts → HasNoList b files end ⊎ Batched b files end old.written new.written
+    pub batched : (order : Option Wanted) → order ≡ Some (Batch b) → IsValid (case_of order files) → Delivers (Defines (case_of order files)) end puts →
+        HasNoList b files end ⊎ Batched b files end old.written new.written
     batched order wanted valid d =
         let P : Option Wanted → Type 0 = λ o. IsValid (case_of o files) × Delivers (Defines (case_of o files)) end puts in
         let x = subst P wanted (valid, d) in
         of_list (names_read files b) refl x.0 x.1
 
-module _ (order : Option Wanted) (agrees : FileSet → Type 0) (n m : ℕ) (failed : Type 0) (side leads : List Put → Type 0) (end : Status) (old new : Seen) (puts : List Put) (makes : PutsMake old puts new)
-    (laws : Laws) (on : leads puts) (some : (files : FileSet) × agrees files) (all : (files : FileSet) → agrees files → AnswersBeside (case_of order files) (views_in order) n m failed side end puts) where
+module _ (order : Option Wanted) (agrees : FileSet → Type 0) (n m : ℕ) (failed : Type 0) (side leads : List Put → Type 0) (end : Status) (old new : Seen)
+    (puts : List Put) (makes : PutsMake old puts new)
+    (laws : Laws) (on : leads puts) (some : (files : FileSet) × agrees files) (all : (files : FileSet) → agrees files →
+    AnswersBeside (case_of order files) (views_in order) n m failed side end puts) where
   was_valid : (IsStopped end → ⊥) → (files : FileSet) → agrees files → IsValid (case_of order files)
   was_valid goes files agree = valid_of (case_of order files) end goes (all files agree).valid
 

@@ -72,7 +72,8 @@ abbrev IsPlainEnd : Job → JobEnd → Type 0
 IsPlainEnd job e = IsPlainJob job × (IsValidJob job × IsJobEnd job e)
 
 module _ (laws : Laws) where
-  read_agree : (read : Result Task Refusal) (line : Text) (a c : JobEnd) → IfOk read (λ k. k.quick ≡ false) → IfOk read (λ k. AreDecks k.decks) → IsRunText read line a → IsRunText read line c → Agree a.status c.status
+  read_agree : (read : Result Task Refusal) (line : Text) (a c : JobEnd) → IfOk read (λ k. k.quick ≡ false) → IfOk read (λ k. AreDecks k.decks) →
+      IsRunText read line a → IsRunText read line c → Agree a.status c.status
   read_agree (Ok k) line a c plain valid x y = agree laws k valid plain a.status c.status x.pieces y.pieces x.defined y.defined
   read_agree (Err refusal) line a c plain valid x y = inr (inl (y.defined.0 ∙ sym x.defined.0))
 
@@ -84,7 +85,8 @@ module _ (laws : Laws) where
 
   pub jobs_agree : (jobs : List Job) (meant end : Status) (p q : List Text) → All IsPlainJob jobs → All IsValidJob jobs → IsBatch IsJobEnd jobs meant p → IsBatch IsJobEnd jobs end q → Agree meant end
   jobs_agree jobs meant end p q plain valid x y =
-      let both : Agree (first_not_ok x.ends) (first_not_ok y.ends) = batches_agree IsPlainEnd job_agree jobs x.ends y.ends (plain_ends jobs x.ends plain valid x.each) (plain_ends jobs y.ends plain valid y.each) in
+      let both : Agree (first_not_ok x.ends) (first_not_ok y.ends) =
+      batches_agree IsPlainEnd job_agree jobs x.ends y.ends (plain_ends jobs x.ends plain valid x.each) (plain_ends jobs y.ends plain valid y.each) in
       let P : Status → Type 0 = λ s. Agree s (first_not_ok y.ends) in
       let Q : Status → Type 0 = λ s. Agree meant s in
       subst Q (sym y.ended.status_is) (subst P (sym x.ended.status_is) both)

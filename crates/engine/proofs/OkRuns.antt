@@ -61,7 +61,8 @@ module _ (laws : Laws) (old new : Seen) (puts : List Put) (pieces : List Text) (
       let T : ListingEnd → Type 0 = λ last. pieces ≡ summed_text seed size m.grid (summary_of m values) last ∷ [] in
       let text : pieces ≡ summary_text seed size (summary_of m values) ∷ [] = subst T whole x.are in
       let P : List ℕ → Type 0 = λ t. Appends old.written new.written t in
-      let all = subst P (append-nil (summary_text seed size (summary_of m values))) (all_written (summary_text seed size (summary_of m values) ∷ []) old new puts (written ∙ ap (map whole_put) text) makes) in
+      let all = subst P (append-nil (summary_text seed size (summary_of m values)))
+      (all_written (summary_text seed size (summary_of m values) ∷ []) old new puts (written ∙ ap (map whole_put) text) makes) in
       let read = named_read made_name (reads Plain (with_limit (most_bytes Plain) (made_files seed size))) m is in
       record {
         made = record {
@@ -83,8 +84,10 @@ module _ (laws : Laws) (old new : Seen) (puts : List Put) (pieces : List Text) (
     appended : (all : List Text) → pieces ≡ all → Appends old.written new.written (concat all)
     appended all are = all_written all old new puts (written ∙ ap (map whole_put) are) makes
 
-    abbrev listing_of : (asked : ListingOrder) (m : FlowModel) (zones : Option (List ℕ)) → read_by_name asked.name (reads asked.limits files) ≡ Ok m → zones_read files asked.zones m ≡ Ok zones → AreDecks (one_deck m) →
-        (listed : List Text) (v : IsWhole (task_of asked m zones) listed) (before after : Option (List ℕ)) → Appends before after (concat (listing (task_of asked m zones) v.values end_line)) → OneListing asked files before after
+    abbrev listing_of : (asked : ListingOrder) (m : FlowModel) (zones : Option (List ℕ)) → read_by_name asked.name (reads asked.limits files) ≡ Ok m →
+        zones_read files asked.zones m ≡ Ok zones → AreDecks (one_deck m) →
+        (listed : List Text) (v : IsWhole (task_of asked m zones) listed) (before after : Option (List ℕ)) →
+        Appends before after (concat (listing (task_of asked m zones) v.values end_line)) → OneListing asked files before after
     listing_of asked m zones read zoned valid listed v before after text = record {
       headline = record {
         model = m;
@@ -104,7 +107,8 @@ module _ (laws : Laws) (old new : Seen) (puts : List Put) (pieces : List Text) (
     }
 
     -- a listing, after the text of its deck where that is asked for
-    module _ (asked : ListingOrder) (m : FlowModel) (zones : Option (List ℕ)) (read : read_by_name asked.name (reads asked.limits files) ≡ Ok m) (zoned : zones_read files asked.zones m ≡ Ok zones) where
+    module _ (asked : ListingOrder) (m : FlowModel) (zones : Option (List ℕ)) (read : read_by_name asked.name (reads asked.limits files) ≡ Ok m)
+        (zoned : zones_read files asked.zones m ≡ Ok zones) where
       abbrev Whole : List Text → Type 0
       Whole listed = IsWhole (task_of asked m zones) listed
 
@@ -130,12 +134,14 @@ module _ (laws : Laws) (old new : Seen) (puts : List Put) (pieces : List Text) (
             values = one.values;
           }
 
-      of_listing : (deck : Bool) → AreDecks (one_deck m) → Defines (after_text deck (decks_text (one_deck m) zones) (Listing (task_of asked m zones))) status.Ok pieces → OneRun deck asked files old new
+      of_listing : (deck : Bool) → AreDecks (one_deck m) →
+          Defines (after_text deck (decks_text (one_deck m) zones) (Listing (task_of asked m zones))) status.Ok pieces → OneRun deck asked files old new
       of_listing true valid d = of_deck_first valid d.others d.are (whole_listing (task_of asked m zones) d.others d.then)
       of_listing false valid d = of_plain valid (whole_listing (task_of asked m zones) pieces d)
 
     -- the same of two decks
-    module _ (asked : ListingOrder) (to : Text) (a : FlowModel) (b : Second) (first : read_by_name asked.name (reads asked.limits files) ≡ Ok a) (second : read_by_name to (second_in asked.limits files) ≡ Ok b)
+    module _ (asked : ListingOrder) (to : Text) (a : FlowModel) (b : Second) (first : read_by_name asked.name (reads asked.limits files) ≡ Ok a)
+        (second : read_by_name to (second_in asked.limits files) ≡ Ok b)
         (zones : Option (List ℕ)) (zoned : zones_read files asked.zones a ≡ Ok zones) where
       abbrev k : Task
       k = span_task_of asked a b.model zones
@@ -160,7 +166,8 @@ module _ (laws : Laws) (old new : Seen) (puts : List Put) (pieces : List Text) (
               decks = first_part old.written decks;
               again = deck_reads asked.limits files asked.name a one.headline.decks.read;
               again_to = deck_reads asked.limits files to b.model one.headline.decks.read_to;
-              stated = span_stated asked to files old.written between mid new.written one.headline (first_part old.written one_part) (last_part old.written mid one_part other_part (first_part old.written decks));
+              stated = span_stated asked to files old.written between mid new.written one.headline (first_part old.written one_part)
+                  (last_part old.written mid one_part other_part (first_part old.written decks));
             };
             values = one.values;
           }
@@ -172,7 +179,8 @@ module _ (laws : Laws) (old new : Seen) (puts : List Put) (pieces : List Text) (
     of_words : IsSaid words_text status.Ok pieces → Said old new
     of_words d = let P : List ℕ → Type 0 = λ t. Appends old.written new.written t in subst P (append-nil words_text) (appended (words_text ∷ []) d.1)
 
-    of_deck : (limits : Limits) (name : Text) (m : FlowModel) → read_by_name name (reads limits files) ≡ Ok m → IsModel m → IsDeck m status.Ok pieces → OneDeck limits name files old.written new.written
+    of_deck : (limits : Limits) (name : Text) (m : FlowModel) → read_by_name name (reads limits files) ≡ Ok m → IsModel m → IsDeck m status.Ok pieces →
+        OneDeck limits name files old.written new.written
     of_deck limits name m is valid d =
         let P : List ℕ → Type 0 = λ t. Appends old.written new.written t in
         let read = named_read name (reads limits files) m is in
@@ -202,15 +210,18 @@ module _ (laws : Laws) (old new : Seen) (puts : List Put) (pieces : List Text) (
     of_alike a b case holds (inl never) (inr (alike, d)) = absurd (never alike)
     of_alike a b case holds (inr valid) (inr (alike, d)) = holds valid d
 
-    of_two : {Holds : Type 0} (r : Result FlowModel Refusal) (s : Result Second Refusal) (come : Decks → Case) → ((a : FlowModel) (b : Second) → r ≡ Ok a → s ≡ Ok b → AfterOk (come (two a b.model)) Holds) → AfterOk (case_decks r (Some s) come) Holds
+    of_two : {Holds : Type 0} (r : Result FlowModel Refusal) (s : Result Second Refusal) (come : Decks → Case) →
+        ((a : FlowModel) (b : Second) → r ≡ Ok a → s ≡ Ok b → AfterOk (come (two a b.model)) Holds) → AfterOk (case_decks r (Some s) come) Holds
     of_two (Ok a) s come holds = of_read s (λ b. Comparing a b (come (two a b.model))) (λ b is. of_alike a b (come (two a b.model)) (holds a b refl is))
     of_two (Err refusal) s come holds = λ valid d. absurd (let bad : status.Ok ≡ status.Refused refusal = d.0 in cc)
 
     -- a text: its decks, and the listing after them
     module _ (asked : AskedText) (bytes : List ℕ) (read : read_by_name asked.text (file_at files) ≡ Ok bytes) where
-      of_rest : (d : Decks) (zones : Option (List ℕ)) (line : ℕ) (rest : List ℕ) → bytes ≡ decks_text d zones ++ rest → AfterOk (case_rest asked d zones line rest) (OneTextVerdict asked files old.written new.written)
+      of_rest : (d : Decks) (zones : Option (List ℕ)) (line : ℕ) (rest : List ℕ) → bytes ≡ decks_text d zones ++ rest →
+          AfterOk (case_rest asked d zones line rest) (OneTextVerdict asked files old.written new.written)
       of_rest d zones line rest is =
-          of_read (steps_after (is_some d.second) d.first asked.digits (pairs_in d.first zones) asked.text line rest) (λ steps. Checking asked.limits d asked.digits (record { zones = zones; steps = steps }))
+          of_read (steps_after (is_some d.second) d.first asked.digits (pairs_in d.first zones) asked.text line rest) (λ steps.
+          Checking asked.limits d asked.digits (record { zones = zones; steps = steps }))
           (λ steps listed valid c.
           let holds = is_certified c.verdict c.status in
           let L : ListingVerdict → Type 0 = λ v. pieces ≡ verdict_line d.first.grid v ∷ [] in
@@ -236,28 +247,41 @@ module _ (laws : Laws) (old new : Seen) (puts : List Put) (pieces : List Text) (
             verdict = subst V holds c.is;
           })
 
-      of_parts : (a : Part) (second : Option Part) → StandsIn bytes a.model (option_map (λ b. b.model) second) a.zones (unwrap_or second a).rest → AfterOk (case_parts asked a second) (OneTextVerdict asked files old.written new.written)
+      of_parts : (a : Part) (second : Option Part) → StandsIn bytes a.model (option_map (λ b. b.model) second) a.zones (unwrap_or second a).rest →
+          AfterOk (case_parts asked a second) (OneTextVerdict asked files old.written new.written)
       of_parts a None is = of_rest (one_deck a.model) a.zones a.line a.rest (is ∙ ap (λ (t : List ℕ). t ++ a.rest) (text_is (one_deck a.model) a.zones))
       of_parts a (Some b) is = of_alike a.model (record { model = b.model; unlike = unlike asked.text b }) (case_rest asked (two a.model b.model) a.zones b.line b.rest)
           (of_rest (two a.model b.model) a.zones b.line b.rest (is ∙ ap (λ (t : List ℕ). t ++ b.rest) (text_is (two a.model b.model) a.zones)))
 
-    one_by : (order : Option Wanted) (end : Status) → ((b : AskedBatch) → order ≡ Some (Batch b) → Batched b files end old.written new.written) → AfterOk (case_of order files) (OneOf order files end old new)
+    one_by : (order : Option Wanted) (end : Status) → ((b : AskedBatch) → order ≡ Some (Batch b) → Batched b files end old.written new.written) →
+        AfterOk (case_of order files) (OneOf order files end old new)
     one_by None end batched = λ valid d. absurd (let bad : status.Ok ≡ status.Usage = d.0 in cc)
-    one_by (Some (Run asked None)) end batched = of_one (read_by_name asked.name (reads asked.limits files)) (to_list files asked) (λ m read. of_read (zones_read files asked.zones m) (case_listed asked (one_deck m))
+    one_by (Some (Run asked None)) end batched = of_one (read_by_name asked.name (reads asked.limits files)) (to_list files asked) (λ m read.
+        of_read (zones_read files asked.zones m) (case_listed asked (one_deck m))
         (λ zones zoned valid d. of_listing asked m zones read zoned asked.deck (valid_after asked.deck (decks_text (one_deck m) zones) (Listing (task_of asked m zones)) valid) d))
-    one_by (Some (Run asked (Some to))) end batched = of_two (read_by_name asked.name (reads asked.limits files)) (read_by_name to (second_in asked.limits files)) (to_list files asked) (λ a b first second. of_read (zones_read files asked.zones a) (case_listed asked (two a b.model))
-        (λ zones zoned valid d. of_span asked to a b first second zones zoned asked.deck (valid_after asked.deck (decks_text (two a b.model) zones) (Listing (span_task_of asked a b.model zones)) valid) d))
+    one_by (Some (Run asked (Some to))) end batched =
+        of_two (read_by_name asked.name (reads asked.limits files)) (read_by_name to (second_in asked.limits files)) (to_list files asked) (λ a b first second.
+        of_read (zones_read files asked.zones a) (case_listed asked (two a b.model))
+        (λ zones zoned valid d. of_span asked to a b first second zones zoned asked.deck
+        (valid_after asked.deck (decks_text (two a b.model) zones) (Listing (span_task_of asked a b.model zones)) valid) d))
     one_by (Some (Make seed size)) end batched = of_made seed size (made_model seed size) refl
-    one_by (Some (Check asked None)) end batched = of_one (read_by_name asked.name (reads asked.limits files)) (to_check files asked None) (λ m read. of_read (listing_read false files asked m) (Checking asked.limits (one_deck m) asked.digits)
+    one_by (Some (Check asked None)) end batched = of_one (read_by_name asked.name (reads asked.limits files)) (to_check files asked None) (λ m read.
+        of_read (listing_read false files asked m) (Checking asked.limits (one_deck m) asked.digits)
         (λ listing listed valid d. certified_and_one files old new puts pieces asked written makes m listing valid.0.first read listed d))
-    one_by (Some (Check asked (Some to))) end batched = of_two (read_by_name asked.name (reads asked.limits files)) (read_by_name to (second_in asked.limits files)) (to_check files asked (Some to)) (λ a b first second. of_read (listing_read true files asked a) (Checking asked.limits (two a b.model) asked.digits)
+    one_by (Some (Check asked (Some to))) end batched =
+        of_two (read_by_name asked.name (reads asked.limits files)) (read_by_name to (second_in asked.limits files)) (to_check files asked (Some to))
+        (λ a b first second. of_read (listing_read true files asked a) (Checking asked.limits (two a b.model) asked.digits)
         (λ listing listed valid d. span_checked laws.one files a b old new puts pieces written makes asked to first second listing listed valid.0 d))
     one_by (Some (Batch b)) end batched = λ valid d. batched b refl
-    one_by (Some (CheckText asked)) end batched = of_read (read_by_name asked.text (file_at files)) _ (λ bytes read. of_read (parts_in asked.limits asked.text bytes) (λ p. case_parts asked p.first p.second) (λ p parts. of_parts asked bytes read p.first p.second (stands asked.limits asked.text bytes p parts)))
+    one_by (Some (CheckText asked)) end batched =
+        of_read (read_by_name asked.text (file_at files)) _ (λ bytes read.
+        of_read (parts_in asked.limits asked.text bytes) (λ p. case_parts asked p.first p.second) (λ p parts.
+        of_parts asked bytes read p.first p.second (stands asked.limits asked.text bytes p parts)))
     one_by (Some Words) end batched = λ valid d. of_words d
     one_by (Some (Write limits name)) end batched = of_one (read_by_name name (reads limits files)) to_write (λ m read valid d. of_deck limits name m read valid d)
 
-pub one_of : (laws : Laws) (order : Option Wanted) (files : FileSet) (end : Status) (puts : List Put) (old new : Seen) → PutsMake old puts new → end ≡ status.Ok → IsValid (case_of order files) → Delivers (Defines (case_of order files)) end puts →
+pub one_of : (laws : Laws) (order : Option Wanted) (files : FileSet) (end : Status) (puts : List Put) (old new : Seen) → PutsMake old puts new → end ≡
+    status.Ok → IsValid (case_of order files) → Delivers (Defines (case_of order files)) end puts →
     ((b : AskedBatch) → order ≡ Some (Batch b) → Batched b files end old.written new.written) → OneOf order files end old new
 one_of laws order files end puts old new makes ok valid d batched =
     let D : Status → Type 0 = λ s. Defines (case_of order files) s d.pieces in

@@ -25,7 +25,9 @@ decides laws (Listing k) meant end p q plain valid x y = agree laws k valid plai
 decides laws (Making seed size (Ok m)) meant end p q plain valid x y = agree laws (made_task m) (one_valid m valid) refl meant end x.all y.all x.listed y.listed
 decides laws (Checking limits m s steps) meant end p q plain (model, listed) x y = inr (inl (one_end limits m s steps laws.verdict model listed meant end p q x y))
 decides laws (Jobs jobs) meant end p q plain valid x y = jobs_agree laws jobs meant end p q plain valid x y
-decides laws (Comparing a b c) meant end p q plain valid (inl x) (inl y) = inr (inl (y.status ∙ ap (λ (d : Difference). status.Refused (b.unlike d)) (laws.difference a b.model y.difference x.difference y.first x.first) ∙ sym x.status))
+decides laws (Comparing a b c) meant end p q plain valid (inl x) (inl y) =
+    inr (inl (y.status ∙ ap (λ (d : Difference). status.Refused (b.unlike d))
+    (laws.difference a b.model y.difference x.difference y.first x.first) ∙ sym x.status))
 decides laws (Comparing a b c) meant end p q plain valid (inl x) (inr (alike, y)) = absurd (x.unlike alike)
 decides laws (Comparing a b c) meant end p q plain valid (inr (alike, x)) (inl y) = absurd (y.unlike alike)
 decides laws (Comparing a b c) meant end p q plain (inl never) (inr (alike, x)) (inr (also, y)) = absurd (never alike)
@@ -48,7 +50,8 @@ ends_well laws (Comparing a b case) (alike, goes) (inr valid) end q (inr (also, 
 ends_well laws other goes valid end q y = absurd goes
 
 -- The end of a run, beside which a write failed or none did.
-module _ (read_fault beside : Type 0) (order : Option Wanted) (files : FileSet) (end : Status) (puts : List Put) (old new : Seen) (makes : PutsMake old puts new) (run : IsRunOf read_fault beside (case_of order files) end puts) where
+module _ (read_fault beside : Type 0) (order : Option Wanted) (files : FileSet) (end : Status) (puts : List Put) (old new : Seen)
+    (makes : PutsMake old puts new) (run : IsRunOf read_fault beside (case_of order files) end puts) where
   abbrev case : Case
   case = case_of order files
 

@@ -43,7 +43,8 @@ reading_of view r (Err (input.Refused refusal)) h = h
 reading_of view r (Err other) h = tt
 
 -- a reading that ended with the error of a call
-pub passed_reading : {T V : Type 0} (view : V → T) (r : Result T Refusal) (answer : Result V InputFault) (fault : InputFault) → IsErrAnd answer (λ f. f ≡ fault) → IsReading view r (Err fault) → IsReading view r answer
+pub passed_reading : {T V : Type 0} (view : V → T) (r : Result T Refusal) (answer : Result V InputFault) (fault : InputFault) →
+    IsErrAnd answer (λ f. f ≡ fault) → IsReading view r (Err fault) → IsReading view r answer
 passed_reading view r answer fault is h = let p = err_from_is_err_and answer is in subst (IsReading view r) (sym (p.1 ∙ ap Err p.2)) h
 
 -- two readings in a row: the first one stopped, or the second one gave this
@@ -102,14 +103,16 @@ module _ (limits : Limits) (files : FileSet) (name : Text) where
       by_model pairs (Ok m) = refl
       by_model pairs (Err refusal) = refl
 
-      by_names : (r : Result Pairs Refusal) → (r >>= model_of limits files) ≡ model_by (r >>= λ pairs. model_of limits files pairs >>= λ m. Ok (record { model = m; unlike = not_alike name pairs m.grid }))
+      by_names : (r : Result Pairs Refusal) → (r >>= model_of limits files) ≡
+          model_by (r >>= λ pairs. model_of limits files pairs >>= λ m. Ok (record { model = m; unlike = not_alike name pairs m.grid }))
       by_names (Ok pairs) = by_model pairs (model_of limits files pairs)
       by_names (Err refusal) = refl
 
   named_by : read_by_name name (reads limits files) ≡ model_by (read_by_name name (second_in limits files))
   named_by = by_test (is_good_name name)
     where
-      by_test : (good : Bool) → (if good then reads limits files name else Err (file_refusal BadName (codes "-"))) ≡ model_by (if good then second_in limits files name else Err (file_refusal BadName (codes "-")))
+      by_test : (good : Bool) → (if good then reads limits files name else Err (file_refusal BadName (codes "-"))) ≡
+          model_by (if good then second_in limits files name else Err (file_refusal BadName (codes "-")))
       by_test true = reads_by
       by_test false = refl
 
@@ -119,14 +122,16 @@ module _ (limits : Limits) (files : FileSet) (name : Text) where
   named_second : (b : FlowModel) → read_by_name name (reads limits files) ≡ Ok b → (last : Second) × (read_by_name name (second_in limits files) ≡ Ok last) × (last.model ≡ b)
   named_second b h = by_second (read_by_name name (second_in limits files)) refl (sym named_by ∙ h)
     where
-      by_second : (r : Result Second Refusal) → read_by_name name (second_in limits files) ≡ r → model_by r ≡ Ok b → (last : Second) × (read_by_name name (second_in limits files) ≡ Ok last) × (last.model ≡ b)
+      by_second : (r : Result Second Refusal) → read_by_name name (second_in limits files) ≡ r → model_by r ≡ Ok b → (last : Second) ×
+          (read_by_name name (second_in limits files) ≡ Ok last) × (last.model ≡ b)
       by_second (Ok last) is e = (last, is, (let same : Path (Result FlowModel Refusal) (Ok last.model) (Ok b) = e in cc))
       by_second (Err refusal) is e = absurd (let bad : Path (Result FlowModel Refusal) (Err refusal) (Ok b) = e in cc)
 
 -- The decks.
 
 -- the first deck's fault
-pub unread_first : (limits : Limits) (name : Text) (to : Option Text) (fs : FileSet) (fault : InputFault) → IsReading {T = FlowModel} (λ m. m) (read_by_name name (reads limits fs)) (Err fault) → AreDecksAs limits name to fs (Err fault)
+pub unread_first : (limits : Limits) (name : Text) (to : Option Text) (fs : FileSet) (fault : InputFault) →
+    IsReading {T = FlowModel} (λ m. m) (read_by_name name (reads limits fs)) (Err fault) → AreDecksAs limits name to fs (Err fault)
 unread_first limits name to fs (input.Refused refusal) h = of_first h
 unread_first limits name to fs other h = tt
 
@@ -141,7 +146,8 @@ module _ (limits : Limits) (name : Text) (fs : FileSet) (a : FlowModel) (h : rea
   unread_second to other k = tt
 
   -- two were compared
-  pub compared_decks : (to : Text) (b : SecondBy) → read_by_name to (second_in limits fs) ≡ Ok (second_by b) → (r : Result Decks InputFault) → IfOk r (AreDecksOf a b.model) → IfErr r (IsNoSecond a (second_by b)) → AreDecksAs limits name (Some to) fs r
+  pub compared_decks : (to : Text) (b : SecondBy) → read_by_name to (second_in limits fs) ≡ Ok (second_by b) → (r : Result Decks InputFault) →
+      IfOk r (AreDecksOf a b.model) → IfErr r (IsNoSecond a (second_by b)) → AreDecksAs limits name (Some to) fs r
   compared_decks to b k (Ok d) (is, alike) e =
       let P : Decks → Type 0 = λ x. AreDecksAs limits name (Some to) fs (Ok x) in
       subst P (sym is) (record { last = Some (second_by b); is_first = h; is_second = ap (λ x. Some x) k; are = refl; alike = alike })
@@ -154,7 +160,14 @@ pub decks_read : (limits : Limits) (name : Text) (to : Option Text) (fs : FileSe
 decks_read limits name None fs a None h k valid = one_read limits name fs a h
 decks_read limits name (Some to) fs a (Some b) h k valid =
     let (last, is, same) = named_second limits fs to b (let same : Path (Option (Result FlowModel Refusal)) (Some (read_by_name to (reads limits fs))) (Some (Ok b)) = k in cc) in
-    record { last = Some last; is_first = h; is_second = ap (λ (r : Result Second Refusal). Some r) is; are = ap (λ (m : FlowModel). Some m) (sym same); alike = subst (AreAlike a) (sym same) valid.alike }
+    record {
+      last = Some last;
+      is_first = h;
+      is_second = ap (λ (r : Result Second Refusal). Some r) is;
+      are = ap (λ (m : FlowModel). Some m) (sym same);
+      alike =
+          subst (AreAlike a) (sym same) valid.alike;
+    }
 decks_read limits name None fs a (Some b) h k valid = absurd (let bad : Path (Option (Result FlowModel Refusal)) None (Some (Ok b)) = k in cc)
 decks_read limits name (Some to) fs a None h k valid = absurd (let bad : Path (Option (Result FlowModel Refusal)) (Some (read_by_name to (reads limits fs))) None = k in cc)
 
@@ -173,19 +186,23 @@ stops_alike : {S T U : Type 0} (F : FolderOf S) (old new : S) (fault : InputFaul
 stops_alike {T = T} {U = U} F old new fault h = record { since = h.since; counts = same_fault T U (F.faults old) (F.faults new) fault h.counts; still = h.still }
 
 -- what a reading does to its folder whose fault is passed on
-pub stops_as : {S T U : Type 0} (F : FolderOf S) (old new : S) (fault : InputFault) (result : Result U InputFault) → IsErrAnd result (λ f. f ≡ fault) → ReadsOn {T = T} F old new (Err fault) → ReadsOn F old new result
+pub stops_as : {S T U : Type 0} (F : FolderOf S) (old new : S) (fault : InputFault) (result : Result U InputFault) → IsErrAnd result (λ f. f ≡ fault) →
+    ReadsOn {T = T} F old new (Err fault) → ReadsOn F old new result
 stops_as F old new fault result is h = let p = err_from_is_err_and result is in subst (ReadsOn F old new) (sym (p.1 ∙ ap Err p.2)) (stops_alike F old new fault h)
 
 -- and one that doesn't stop, with a result that no read fault is
-pub reads_as : {S T U : Type 0} (F : FolderOf S) (old new : S) (x : T) (result : Result U InputFault) → ReadsOn {T = T} F old new (Ok x) → InputCounts (F.faults old) (F.faults old) result → ReadsOn F old new result
+pub reads_as : {S T U : Type 0} (F : FolderOf S) (old new : S) (x : T) (result : Result U InputFault) → ReadsOn {T = T} F old new (Ok x) →
+    InputCounts (F.faults old) (F.faults old) result → ReadsOn F old new result
 reads_as F old new x result h is = record { since = h.since; counts = subst (λ n. InputCounts (F.faults old) n result) (sym h.counts) is; still = h.still }
 
 -- what two readings in a row do to their folder, of which the second one stops
-pub stops_after : {S T U V : Type 0} (F : FolderOf S) (old mid new : S) (x : T) (fault : InputFault) → ReadsOn {T = T} F old mid (Ok x) → ReadsOn {T = U} F mid new (Err fault) → ReadsOn {T = V} F old new (Err fault)
+pub stops_after : {S T U V : Type 0} (F : FolderOf S) (old mid new : S) (x : T) (fault : InputFault) → ReadsOn {T = T} F old mid (Ok x) →
+    ReadsOn {T = U} F mid new (Err fault) → ReadsOn {T = V} F old new (Err fault)
 stops_after F old mid new x fault first second = in_a_row first (stops_alike F mid new fault second)
 
 -- and where neither stops, with a result that no read fault is
-pub reads_both : {S T U V : Type 0} (F : FolderOf S) (old mid new : S) (x : T) (y : U) (result : Result V InputFault) → ReadsOn {T = T} F old mid (Ok x) → ReadsOn {T = U} F mid new (Ok y) → InputCounts (F.faults old) (F.faults old) result → ReadsOn {T = V} F old new result
+pub reads_both : {S T U V : Type 0} (F : FolderOf S) (old mid new : S) (x : T) (y : U) (result : Result V InputFault) → ReadsOn {T = T} F old mid (Ok x) →
+    ReadsOn {T = U} F mid new (Ok y) → InputCounts (F.faults old) (F.faults old) result → ReadsOn {T = V} F old new result
 reads_both F old mid new x y result first second = reads_as F old new y result (in_a_row first second)
 
 pub unlike_counts : (T : Type 0) (b : Second) (d : Difference) (fault : InputFault) (n : ℕ) → IsUnlikeFault b d fault → InputCounts {T = T} n n (Err fault)
@@ -203,7 +220,8 @@ compared_counts a b (Err fault) n (d, first, never, is) = unlike_counts Decks b 
 pub zones_fit : (m : FlowModel) (zones : List ℤ) (numbers : List ℕ) → numbers ≡ map unsigned_abs zones → length zones ≡ cell_count m.grid → All (λ z. z ≤ 999) numbers → AreZonesOf m numbers
 zones_fit m zones numbers is count limits = record { count = ap length is ∙ length-map zones unsigned_abs ∙ count; limits = limits }
 
-pub zones_were_read : (read : Result (List ℤ) Refusal) (zones : List ℤ) (numbers : List ℕ) → read ≡ Ok zones → numbers ≡ map unsigned_abs zones → (read >>= λ zs. Ok (Some (map unsigned_abs zs))) ≡ Ok (Some numbers)
+pub zones_were_read : (read : Result (List ℤ) Refusal) (zones : List ℤ) (numbers : List ℕ) → read ≡ Ok zones → numbers ≡ map unsigned_abs zones →
+    (read >>= λ zs. Ok (Some (map unsigned_abs zs))) ≡ Ok (Some numbers)
 zones_were_read read zones numbers h is = rw (h, is) refl
 
 same_listing : (x y : ZonedListing) → Path (Result ZonedListing Refusal) (Ok x) (Ok y) → x ≡ y
@@ -215,7 +233,8 @@ pub zoned_parts : (z : Result (Option (List ℕ)) Refusal) (read : Option (List 
 zoned_parts (Err refusal) read l h = absurd (let bad : Path (Result ZonedListing Refusal) (Err refusal) (Ok l) = h in cc)
 zoned_parts (Ok zones) read l h = by_steps (read zones) refl h
   where
-    by_steps : (r : Result (List ListedStep) Refusal) → read zones ≡ r → (r >>= λ steps. Ok (record { zones = zones; steps = steps })) ≡ Ok l → (Path (Result (Option (List ℕ)) Refusal) (Ok zones) (Ok l.zones)) × (read l.zones ≡ Ok l.steps)
+    by_steps : (r : Result (List ListedStep) Refusal) → read zones ≡ r → (r >>= λ steps. Ok (record { zones = zones; steps = steps })) ≡ Ok l →
+        (Path (Result (Option (List ℕ)) Refusal) (Ok zones) (Ok l.zones)) × (read l.zones ≡ Ok l.steps)
     by_steps (Err refusal) e k = absurd (let bad : Path (Result ZonedListing Refusal) (Err refusal) (Ok l) = k in cc)
     by_steps (Ok steps) e k =
         let same : record { zones = zones; steps = steps } ≡ l = same_listing (record { zones = zones; steps = steps }) l k in

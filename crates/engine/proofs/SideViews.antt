@@ -23,7 +23,8 @@ module _ {S V : Type 0} (begins : S → ℕ → ℕ → S → Type 0) (leads : S
   rest_or_settle k at old s t keeps (inl e) = (subst Keeps (sym e) keeps, inl (ap of e))
   rest_or_settle k at old s t keeps (inr (ended, by)) = let r = by_other k at old ended s t keeps by in (r.0, inr (ended, r.1))
 
-  reached : (whole : Bool) (k : Task) (old : List Bound) (times : List TimeStep) (s t : S) → Keeps s → Reaches begins leads stop k whole old times s t → Keeps t × Reaches begins' leads' stop' k whole old times (of s) (of t)
+  reached : (whole : Bool) (k : Task) (old : List Bound) (times : List TimeStep) (s t : S) → Keeps s → Reaches begins leads stop k whole old times s t →
+      Keeps t × Reaches begins' leads' stop' k whole old times (of s) (of t)
   reached whole k old times s t keeps (rests o ts u end) = (keeps, rests o ts (of u) end)
   reached whole k old times s t keeps (begun o at ts u told v cut b r) =
       let now = tells u told at.period at.step keeps b in
@@ -54,7 +55,8 @@ module _ {W : Type 0} (K : SinkOf W) where
   begins s i j t = (t.sink ≡ s.sink) × (t.grid ≡ s.grid) × (t.at ≡ record { period = i; step = j }) × (t.stop ≡ s.stop)
 
   abbrev viewed : Viewer → List Entries → Edges → ℕ → Viewer → Type 0
-  viewed s p b n t = (t.sink.ghost_name ≡ s.sink.ghost_name) × (t.grid ≡ s.grid) × (t.at ≡ s.at) × ViewPuts (lines_of s.grid.now s.at.period s.at.step p) (EnclosesPair p b) (LeadOn leads s.sink.now t.sink.now) n s.stop t.stop
+  viewed s p b n t = (t.sink.ghost_name ≡ s.sink.ghost_name) × (t.grid ≡ s.grid) × (t.at ≡ s.at) ×
+      ViewPuts (lines_of s.grid.now s.at.period s.at.step p) (EnclosesPair p b) (LeadOn leads s.sink.now t.sink.now) n s.stop t.stop
 
   abbrev stopped : Viewer → Type 0
   stopped s = is_some s.stop ≡ true
@@ -71,7 +73,8 @@ module _ {W : Type 0} (K : SinkOf W) where
   is_begun : (s t : Viewer) (i j : ℕ) → begins s i j t → (sink t ≡ sink s) × (text_of t ≡ text_of s) × (t.at.period ≡ i) × (t.at.step ≡ j) × (stop t ≡ stop s)
   is_begun s t i j e = (ap (λ x. x.now) e.0, ap (λ x. lines_of x.now) e.1, ap (λ (at : TimeStep). at.period) e.2, ap (λ (at : TimeStep). at.step) e.2, e.3)
 
-  is_viewed : (s t : Viewer) (p : List Entries) (b : Edges) (n : ℕ) → viewed s p b n t → (text_of t ≡ text_of s) × ViewPuts (text_of s s.at.period s.at.step p) (EnclosesPair p b) (LeadOn leads (sink s) (sink t)) n (stop s) (stop t)
+  is_viewed : (s t : Viewer) (p : List Entries) (b : Edges) (n : ℕ) → viewed s p b n t → (text_of t ≡ text_of s) ×
+      ViewPuts (text_of s s.at.period s.at.step p) (EnclosesPair p b) (LeadOn leads (sink s) (sink t)) n (stop s) (stop t)
   is_viewed s t p b n h = (ap (λ x. lines_of x.now) h.1, h.3)
 
   no_view_yet : (s : Viewer) (p : List Entries) (b : Edges) → viewed s p b 0 s
@@ -90,10 +93,14 @@ module _ {W : Type 0} (K : SinkOf W) where
 
   module _ (starts : (s : W) → leads s [] s) (k : Task) (n : ℕ) (first now : Viewer) (fits : first.grid.now ≡ k.decks.first.grid) (none : first.stop ≡ None) where
     pub puts_of_side : ReachesBy n k first now → ViewPutsOf k (λ puts. leads first.sink.now puts now.sink.now) (Some n)
-    puts_of_side h = side_puts leads sink text_of (λ s. s.at.period) (λ s. s.at.step) stop begins viewed stopped is_begun is_viewed (λ s h. h) no_view_yet starts k n first now (ap lines_of fits) none h
+    puts_of_side h = side_puts leads sink text_of (λ s. s.at.period) (λ s. s.at.step) stop begins viewed stopped is_begun is_viewed (λ s h.
+        h) no_view_yet starts k n first now (ap lines_of fits) none h
 
-    pub side_failed : (seen : W → Seen) → ((s : W) (puts : List Put) (t : W) → leads s puts t → PutsMake (seen s) puts (seen t)) → ReachesBy n k first now → now.stop ≡ Some Write → Rose (seen first.sink.now).faults (seen now.sink.now).faults
-    side_failed seen tells h wrote = side_rose leads sink text_of (λ s. s.at.period) (λ s. s.at.step) stop begins viewed stopped is_begun is_viewed (λ s h. h) no_view_yet starts k n first now (ap lines_of fits) none seen tells h wrote
+    pub side_failed : (seen : W → Seen) → ((s : W) (puts : List Put) (t : W) → leads s puts t → PutsMake (seen s) puts (seen t)) → ReachesBy n k first now →
+        now.stop ≡ Some Write → Rose (seen first.sink.now).faults (seen now.sink.now).faults
+    side_failed seen tells h wrote = side_rose leads sink text_of (λ s. s.at.period) (λ s. s.at.step) stop begins viewed stopped is_begun is_viewed (λ s h.
+        h) no_view_yet starts k n first now (ap lines_of fits) none seen tells h wrote
 
     pub views_of_all : ReachesFirst begins (Shows viewed stopped n) stop k true first now → IsWatched true k n (λ puts. leads first.sink.now puts now.sink.now)
-    views_of_all all = is_watched leads sink text_of (λ s. s.at.period) (λ s. s.at.step) stop begins viewed stopped is_begun is_viewed (λ s h. h) no_view_yet starts k n first now (ap lines_of fits) none true all
+    views_of_all all = is_watched leads sink text_of (λ s. s.at.period) (λ s. s.at.step) stop begins viewed stopped is_begun is_viewed (λ s h.
+        h) no_view_yet starts k n first now (ap lines_of fits) none true all

@@ -10,7 +10,8 @@ use Rattle.run_puts.specs.declared.puts.Status.TheVariants as status
 use Rattle.listing_run.specs.declared.text.ListingEnd.TheVariants as ends
 
 -- the files of two names that were read, and are alike
-abbrev pair_of : (limits : Limits) (files : FileSet) (name to : Text) (a : FlowModel) (b : Second) → read_by_name name (reads limits files) ≡ Ok a → read_by_name to (second_in limits files) ≡ Ok b → AreDecks (two a b.model) → ArePairOf limits files name to
+abbrev pair_of : (limits : Limits) (files : FileSet) (name to : Text) (a : FlowModel) (b : Second) → read_by_name name (reads limits files) ≡ Ok a →
+    read_by_name to (second_in limits files) ≡ Ok b → AreDecks (two a b.model) → ArePairOf limits files name to
 pair_of limits files name to a b first second valid = record {
   first = a;
   read = named_read name (reads limits files) a first;
@@ -23,8 +24,10 @@ pair_of limits files name to a b first second valid = record {
 
 module _ (one : ListingIsOne) (files : FileSet) (a : FlowModel) (b : Second) where
   -- a run
-  abbrev pub span_listed : (s : ListingOrder) (to : Text) → read_by_name s.name (reads s.limits files) ≡ Ok a → read_by_name to (second_in s.limits files) ≡ Ok b → (zones : Option (List ℕ)) → zones_read files s.zones a ≡ Ok zones →
-      AreDecks (two a b.model) → (pieces : List Text) (v : IsWhole (span_task_of s a b.model zones) pieces) (old new : Option (List ℕ)) → Appends old new (concat (listing (span_task_of s a b.model zones) v.values end_line)) → OneSpan s to files old new
+  abbrev pub span_listed : (s : ListingOrder) (to : Text) → read_by_name s.name (reads s.limits files) ≡ Ok a → read_by_name to (second_in s.limits files) ≡
+      Ok b → (zones : Option (List ℕ)) → zones_read files s.zones a ≡ Ok zones →
+      AreDecks (two a b.model) → (pieces : List Text) (v : IsWhole (span_task_of s a b.model zones) pieces) (old new : Option (List ℕ)) →
+      Appends old new (concat (listing (span_task_of s a b.model zones) v.values end_line)) → OneSpan s to files old new
   span_listed s to first second zones zoned valid pieces v old new written =
       let k = span_task_of s a b.model zones in
       record {
@@ -43,7 +46,9 @@ module _ (one : ListingIsOne) (files : FileSet) (a : FlowModel) (b : Second) whe
       }
 
   -- a check
-  pub span_checked : (old new : Seen) (puts : List Put) (pieces : List Text) → puts ≡ map whole_put pieces → PutsMake old puts new → (s : AskedCheck) (to : Text) → read_by_name s.name (reads s.limits files) ≡ Ok a → read_by_name to (second_in s.limits files) ≡ Ok b → (l : ZonedListing) → listing_read true files s a ≡ Ok l →
+  pub span_checked : (old new : Seen) (puts : List Put) (pieces : List Text) → puts ≡ map whole_put pieces → PutsMake old puts new →
+      (s : AskedCheck) (to : Text) → read_by_name s.name (reads s.limits files) ≡ Ok a → read_by_name to (second_in s.limits files) ≡ Ok b →
+      (l : ZonedListing) → listing_read true files s a ≡ Ok l →
       AreDecks (two a b.model) → IsCheck s.limits (two a b.model) s.digits l status.Ok pieces → SpanVerdict s to files old.written new.written
   span_checked old new puts pieces written makes s to first second l listed valid d =
       let parts = zoned_parts (zones_read files s.zones a) (steps_read true files s a) l listed in

@@ -30,7 +30,8 @@ module _ (limits : Limits) (ds : Decks) (s : ℕ) (zones : Option (List ℕ)) (r
   step_stated : (m : FlowModel) (v : Step) (before : ℕ → Fraction) (d : ℕ) (X : ℕ → ℤ) → Bounds task m v before d X → Bounds (checked_task ds s zones) m v before d X
   step_stated m v before d X b = record { heads = b.heads; budget = b.budget; zones = b.zones }
 
-  bounds_stated : (m : FlowModel) (d : ℕ) (before : ℕ → Fraction) (values : List Step) (Xs : List (ℕ → ℤ)) → BoundAll task m d before values Xs → BoundAll (checked_task ds s zones) m d before values Xs
+  bounds_stated : (m : FlowModel) (d : ℕ) (before : ℕ → Fraction) (values : List Step) (Xs : List (ℕ → ℤ)) → BoundAll task m d before values Xs →
+      BoundAll (checked_task ds s zones) m d before values Xs
   bounds_stated m d before [] [] b = tt
   bounds_stated m d before [] (X ∷ Xs) b = absurd b
   bounds_stated m d before (v ∷ values) [] b = absurd b
@@ -66,7 +67,8 @@ stated asked files old mid new h deck = record {
   written = appended old mid new (zoned_text h.model h.zones) (concat (listing (task_of asked h.model h.zones) h.values end_line)) deck h.written;
   at = h.at;
   pairs = h.pairs;
-  encloses = λ d history solves. bounds_stated asked.limits (one_deck h.model) asked.digits h.zones asked.rounds asked.quick h.model d (start_head h.model) h.values history (h.encloses d history solves);
+  encloses = λ d history solves. bounds_stated asked.limits (one_deck h.model) asked.digits h.zones asked.rounds asked.quick h.model d
+      (start_head h.model) h.values history (h.encloses d history solves);
   solvable = h.solvable;
   one = h.one;
 }
@@ -80,7 +82,8 @@ deck_and_listing asked files old mid new deck h unzoned_run =
     stated asked files old mid new h (subst Z (sym unzoned_run) (subst T (unzoned h.model) (subst P same deck.written)))
 
 -- the texts of two decks, and then the listing
-pub span_stated : (asked : ListingOrder) (to : Text) (files : FileSet) (old mid last new : Option (List ℕ)) (h : SpanHeadline asked to files last new) → Appends old mid (zoned_text h.decks.first h.zones) → Appends mid last (zoned_text h.decks.second h.zones) → SpanStated old new
+pub span_stated : (asked : ListingOrder) (to : Text) (files : FileSet) (old mid last new : Option (List ℕ)) (h : SpanHeadline asked to files last new) →
+    Appends old mid (zoned_text h.decks.first h.zones) → Appends mid last (zoned_text h.decks.second h.zones) → SpanStated old new
 span_stated asked to files old mid last new h deck other =
     let p = h.decks in
     let ds = two p.first p.second in
@@ -96,7 +99,8 @@ span_stated asked to files old mid last new h deck other =
       written = appended old mid new (zoned_text p.first h.zones) (zoned_text p.second h.zones ++ listed) deck (appended mid last new (zoned_text p.second h.zones) listed other h.written);
       at = h.at;
       pairs = h.pairs;
-      encloses = λ d history solves. between_stated asked.limits ds asked.digits h.zones asked.rounds asked.quick p.first p.second d (start_head solves.first) (times p.first) h.values history solves.steps (h.encloses d history solves);
+      encloses = λ d history solves. between_stated asked.limits ds asked.digits h.zones asked.rounds asked.quick p.first p.second d (start_head solves.first)
+          (times p.first) h.values history solves.steps (h.encloses d history solves);
       choices = h.choices;
     }
 
@@ -136,7 +140,8 @@ same_listing asked name zones files others bytes anew plain h o model same_zones
     let values = h.values.only plain y.values (subst Z same_zones (subst M model o.values.steps)) in
     let was : bytes ≡ concat (listing (task_of asked x.model x.zones) x.values end_line) = x.written in
     let now : anew ≡ concat (listing (task_of asked y.model y.zones) y.values end_line) = y.written in
-    now ∙ ap (λ (m : FlowModel). concat (listing (task_of asked m y.zones) y.values end_line)) model ∙ ap (λ (z : Option (List ℕ)). concat (listing (task_of asked x.model z) y.values end_line)) same_zones
+    now ∙ ap (λ (m : FlowModel). concat (listing (task_of asked m y.zones) y.values end_line)) model ∙ ap (λ (z : Option (List ℕ)).
+    concat (listing (task_of asked x.model z) y.values end_line)) same_zones
     ∙ ap (λ (vs : List Step). concat (listing (task_of asked x.model x.zones) vs end_line)) values ∙ sym was
 
 -- without a zone file there are no zones

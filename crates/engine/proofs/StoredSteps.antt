@@ -51,7 +51,8 @@ TooLarge n = n.code ≡ 23
 one_err : {B : Type 0} (m n : NoBound) → Path (Result B NoBound) (Err m) (Err n) → m ≡ n
 one_err m n e = cc
 
-bind_code : {A B : Type 0} (x : Result A NoBound) (f : A → Result B NoBound) → ((n : NoBound) → x ≡ Err n → TooLarge n) → ((a : A) (n : NoBound) → f a ≡ Err n → TooLarge n) → (n : NoBound) → (x >>= f) ≡ Err n → TooLarge n
+bind_code : {A B : Type 0} (x : Result A NoBound) (f : A → Result B NoBound) → ((n : NoBound) → x ≡ Err n → TooLarge n) →
+    ((a : A) (n : NoBound) → f a ≡ Err n → TooLarge n) → (n : NoBound) → (x >>= f) ≡ Err n → TooLarge n
 bind_code (Ok a) f first more n e = more a n e
 bind_code (Err m) f first more n e = first n (ap Err (one_err m n e))
 
@@ -97,5 +98,6 @@ storage_holds Plain m s zones rounds quick at old n stored (no_heads (inr (p, is
 storage_holds Wide m s zones rounds quick at old n stored (no_heads (inl (inl none))) = let (e, is) = a_refusal m s at old n none in problem_code e n.code is
 storage_holds Wide m s zones rounds quick at old n stored (no_heads (inl (inr (p, is, refused)))) = unbounded_code p n (stored p is) refused
 storage_holds Wide m s zones rounds quick at old n stored (no_heads (inr leaves)) = range_code Wide (one_deck m) s at old n leaves
-storage_holds limits m s zones rounds quick at old n stored (no_budget solved settled refused) = other_code n.code 23 (budget_code solved.problem (lower_at solved.bounds) (upper_at solved.bounds) n refused) (omega arith, omega arith)
+storage_holds limits m s zones rounds quick at old n stored (no_budget solved settled refused) =
+    other_code n.code 23 (budget_code solved.problem (lower_at solved.bounds) (upper_at solved.bounds) n refused) (omega arith, omega arith)
 storage_holds limits m s zones rounds quick at old n stored (no_zones solved budget settled is large) = other_code n.code 23 (large_code zones solved n large) (omega arith, omega arith)

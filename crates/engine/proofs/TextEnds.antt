@@ -10,7 +10,8 @@ use Rattle.run_puts.specs.declared.puts.Status.TheVariants as status
 
 -- the folder is read for a text
 pub parts_read : (asked : AskedText) (a : Part) (second : Option Part) → ReadsFolder (case_parts asked a second)
-parts_read asked a None = read_reads (λ steps. Checking asked.limits (one_deck a.model) asked.digits (record { zones = a.zones; steps = steps })) (λ steps. tt) (steps_after false a.model asked.digits (pairs_in a.model a.zones) asked.text a.line a.rest)
+parts_read asked a None = read_reads (λ steps. Checking asked.limits (one_deck a.model) asked.digits (record { zones = a.zones; steps = steps })) (λ steps. tt)
+    (steps_after false a.model asked.digits (pairs_in a.model a.zones) asked.text a.line a.rest)
 parts_read asked a (Some b) = tt
 
 text_counts : (T : Type 0) (fault : TextFault) (n : ℕ) → InputCounts {T = T} n n (Err (input_fault fault))
@@ -19,16 +20,22 @@ text_counts T texts.Memory n = refl
 
 module _ {n : ℕ} {end : Status} {puts : List Put} where
   -- a reading of a text that stopped
-  pub ends_stopped : {T : Type 0} (r : Result T Refusal) (come : T → Case) → ((x : T) → ReadsFolder (come x)) → (fault : TextFault) → StopsText fault r → (given : InputFault) → given ≡ input_fault fault → IsReadingEnd given end puts → Answers (case_read r come) n n end puts
+  pub ends_stopped : {T : Type 0} (r : Result T Refusal) (come : T → Case) → ((x : T) → ReadsFolder (come x)) → (fault : TextFault) → StopsText fault r →
+      (given : InputFault) → given ≡ input_fault fault → IsReadingEnd given end puts → Answers (case_read r come) n n end puts
   ends_stopped {T} r come reads fault stops given is h =
       let E : InputFault → Type 0 = λ f. IsReadingEnd f end puts in
       ends_unread r come (λ (x : T). x) reads (input_fault fault) (text_read (λ (x : T). x) r fault stops) (text_counts T fault n) (subst E is h)
 
-  unlike_ends : (a : FlowModel) (b : Second) (case : Case) (d : Difference) → IsFirstDifference a b.model d → (AreAlike a b.model → ⊥) → (fault : TextFault) → IsRefused (b.unlike d) fault → IsReadingEnd (input_fault fault) end puts → Answers (Comparing a b case) n n end puts
+  unlike_ends : (a : FlowModel) (b : Second) (case : Case) (d : Difference) → IsFirstDifference a b.model d → (AreAlike a b.model → ⊥) → (fault : TextFault) →
+      IsRefused (b.unlike d) fault → IsReadingEnd (input_fault fault) end puts → Answers (Comparing a b case) n n end puts
   unlike_ends a b case d first never (texts.Refused r) is h =
-      lone_defined (refused_line r) (status.Refused r) (inl (record { difference = d; first = first; unlike = never; status = ap status.Refused is; are = ap (λ (x : Refusal). refused_line x ∷ []) is })) (inl never) h
+      lone_defined (refused_line r) (status.Refused r)
+      (inl (record { difference = d; first = first; unlike = never; status = ap status.Refused is; are = ap (λ (x : Refusal). refused_line x ∷ []) is }))
+      (inl never) h
   unlike_ends a b case d first never texts.Memory is h = ends_without_words h
 
   -- two decks of a text that aren't alike
-  pub ends_unlike : (a : FlowModel) (b : Second) (case : Case) (d : Difference) → IsFirstDifference a b.model d → (AreAlike a b.model → ⊥) → (fault : TextFault) → IsRefused (b.unlike d) fault → (given : InputFault) → given ≡ input_fault fault → IsReadingEnd given end puts → Answers (Comparing a b case) n n end puts
+  pub ends_unlike : (a : FlowModel) (b : Second) (case : Case) (d : Difference) → IsFirstDifference a b.model d → (AreAlike a b.model → ⊥) →
+      (fault : TextFault) → IsRefused (b.unlike d) fault → (given : InputFault) → given ≡ input_fault fault → IsReadingEnd given end puts →
+      Answers (Comparing a b case) n n end puts
   ends_unlike a b case d first never fault refused given is h = let E : InputFault → Type 0 = λ f. IsReadingEnd f end puts in unlike_ends a b case d first never fault refused (subst E is h)

@@ -47,7 +47,8 @@ module _ (d : Decks) (s : ℕ) (zones : Option (List ℕ)) where
   abbrev Listed : List TimeStep → List ListedStep → Type 0
   Listed ats steps = AllZip (IsListedAt d.first (pairs_in d.first zones)) ats steps
 
-  rows_text : (ats : List TimeStep) (steps : List ListedStep) → Listed ats steps → concat (map (text_of k) (steps_of ats steps) ++ (end_line ∷ [])) ≡ text (all_step_lines d.first s ats steps ++ (last_row ∷ []))
+  rows_text : (ats : List TimeStep) (steps : List ListedStep) → Listed ats steps → concat (map (text_of k) (steps_of ats steps) ++ (end_line ∷ [])) ≡
+      text (all_step_lines d.first s ats steps ++ (last_row ∷ []))
   unfolding all_step_lines step_text
   rows_text [] [] h = refl
   rows_text [] (w ∷ steps) h = absurd h
@@ -87,14 +88,16 @@ module _ (s : ℕ) (zones : Option (List ℕ)) (a : FlowModel) (steps : List Lis
   abbrev SaidOf : Option FlowModel → List ℕ → Type 0
   SaidOf second t = t ≡ decks_text (record { first = a; second = second }) zones ++ text (rows_of (is_some second) a s steps)
 
-  one_said : (t : List ℕ) → SaidOf None t → AreDecks (one_deck a) → AreListed a (pairs_in a zones) steps → ListingEncloses (one_deck a) s zones steps → HaveOneHistory (one_deck a) → Stated (Some []) (Some t)
+  one_said : (t : List ℕ) → SaidOf None t → AreDecks (one_deck a) → AreListed a (pairs_in a zones) steps → ListingEncloses (one_deck a) s zones steps →
+      HaveOneHistory (one_deck a) → Stated (Some []) (Some t)
   one_said t is decks listed encloses history = record {
     model = a;
     valid = decks.first;
     zones = zones;
     digits = s;
     values = steps_of (times a) steps;
-    written = is ∙ ap (λ (deck : List ℕ). deck ++ text (rows_of false a s steps)) (append-nil (zoned_text a zones)) ∙ ap (λ (l : List ℕ). zoned_text a zones ++ l) (sym (listing_text (one_deck a) s zones steps listed.steps));
+    written = is ∙ ap (λ (deck : List ℕ). deck ++ text (rows_of false a s steps)) (append-nil (zoned_text a zones)) ∙ ap (λ (l : List ℕ).
+        zoned_text a zones ++ l) (sym (listing_text (one_deck a) s zones steps listed.steps));
     at = steps_at (one_deck a) s zones (times a) steps listed.steps;
     pairs = steps_pairs (one_deck a) s zones (times a) steps listed.steps;
     encloses = encloses;
@@ -102,7 +105,8 @@ module _ (s : ℕ) (zones : Option (List ℕ)) (a : FlowModel) (steps : List Lis
     one = history.one;
   }
 
-  two_said : (b : FlowModel) (t : List ℕ) → SaidOf (Some b) t → AreDecks (two a b) → AreListed a (pairs_in a zones) steps → ListingEncloses (two a b) s zones steps → HaveOneHistory (two a b) → SpanStated (Some []) (Some t)
+  two_said : (b : FlowModel) (t : List ℕ) → SaidOf (Some b) t → AreDecks (two a b) → AreListed a (pairs_in a zones) steps →
+      ListingEncloses (two a b) s zones steps → HaveOneHistory (two a b) → SpanStated (Some []) (Some t)
   two_said b t is decks listed encloses history =
       let l = concat (listing (checked_task (two a b) s zones) (steps_of (times a) steps) end_line) in
       record {
@@ -113,29 +117,35 @@ module _ (s : ℕ) (zones : Option (List ℕ)) (a : FlowModel) (steps : List Lis
         zones = zones;
         digits = s;
         values = steps_of (times a) steps;
-        written = is ∙ ap (λ (x : List ℕ). (zoned_text a zones ++ zoned_text b zones) ++ x) (sym (listing_text (two a b) s zones steps listed.steps)) ∙ append_assoc (zoned_text a zones) (zoned_text b zones) l;
+        written = is ∙ ap (λ (x : List ℕ). (zoned_text a zones ++ zoned_text b zones) ++ x)
+            (sym (listing_text (two a b) s zones steps listed.steps)) ∙ append_assoc (zoned_text a zones) (zoned_text b zones) l;
         at = steps_at (two a b) s zones (times a) steps listed.steps;
         pairs = steps_pairs (two a b) s zones (times a) steps listed.steps;
         encloses = encloses;
         choices = history;
       }
 
-  pub said : (second : Option FlowModel) (t : List ℕ) → SaidOf second t → AreDecks (record { first = a; second = second }) → AreListed a (pairs_in a zones) steps → ListingEncloses (record { first = a; second = second }) s zones steps →
+  pub said : (second : Option FlowModel) (t : List ℕ) → SaidOf second t → AreDecks (record { first = a; second = second }) →
+      AreListed a (pairs_in a zones) steps → ListingEncloses (record { first = a; second = second }) s zones steps →
       HaveOneHistory (record { first = a; second = second }) → Stated (Some []) (Some t) ⊎ SpanStated (Some []) (Some t)
   said None t is decks listed encloses history = inl (one_said t is decks listed encloses history)
   said (Some b) t is decks listed encloses history = inr (two_said b t is decks listed encloses history)
 
 -- The listing after the decks of a text, from the line on where it begins.
-pub steps_stated : (between : Bool) (m : FlowModel) (s : ℕ) (pairs : ℕ → List ZonePair) (text : List ℕ) (n : ℕ) (rest : List ℕ) (steps : List ListedStep) → steps_after between m s pairs text n rest ≡ Ok steps → lines rest ≡ rows_of between m s steps
+pub steps_stated : (between : Bool) (m : FlowModel) (s : ℕ) (pairs : ℕ → List ZonePair) (text : List ℕ) (n : ℕ) (rest : List ℕ) (steps : List ListedStep) →
+    steps_after between m s pairs text n rest ≡ Ok steps → lines rest ≡ rows_of between m s steps
 steps_stated between m s pairs text n rest steps = by_test (is_current between m s (lines rest)) refl
   where
-    by_read : is_current between m s (lines rest) ≡ true → (r : Result (List ListedStep) Refusal) → listing_in between m s pairs text rest ≡ r → later_by (n - 1) r ≡ Ok steps → lines rest ≡ rows_of between m s steps
+    by_read : is_current between m s (lines rest) ≡ true → (r : Result (List ListedStep) Refusal) → listing_in between m s pairs text rest ≡ r →
+        later_by (n - 1) r ≡ Ok steps → lines rest ≡ rows_of between m s steps
     by_read current (Ok x) read h =
         let both : Path (Result (List ListedStep) Refusal) (Ok x) (Ok steps) = h in
         let same : x ≡ steps = cc in
         listing_was between m s pairs text rest steps current (read ∙ ap (λ (y : List ListedStep). Ok y) same)
     by_read current (Err refusal) read h = absurd (let bad : Path (Result (List ListedStep) Refusal) (Err _) (Ok steps) = h in cc)
 
-    by_test : (b : Bool) → is_current between m s (lines rest) ≡ b → (if b then later_by (n - 1) (listing_in between m s pairs text rest) else Err (refusal BadListing text n)) ≡ Ok steps → lines rest ≡ rows_of between m s steps
+    by_test : (b : Bool) → is_current between m s (lines rest) ≡ b →
+        (if b then later_by (n - 1) (listing_in between m s pairs text rest) else Err (refusal BadListing text n)) ≡ Ok steps → lines rest ≡
+        rows_of between m s steps
     by_test true current h = by_read current (listing_in between m s pairs text rest) refl h
     by_test false current h = absurd (let bad : Path (Result (List ListedStep) Refusal) (Err (refusal BadListing text n)) (Ok steps) = h in cc)

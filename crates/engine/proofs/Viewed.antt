@@ -15,8 +15,11 @@ pieces_of : (text : List Bound → List ℕ) (views : List (List Bound)) → map
 pieces_of text [] = refl
 pieces_of text (v ∷ views) = ap (λ (ps : List Put). whole_put (text v) ∷ ps) (pieces_of text views)
 
-all_views : (k : Task) (at : TimeStep) (old : List Bound) (p : List Entries) (b : Edges) (text : List Bound → List ℕ) → PairEncloses k.limits k.decks at old p b → (views : List (List Bound)) → AreAllShown text (EnclosesPair p (edges_by k.limits b)) views → All (IsView k at old p (edges_by k.limits b)) views
-all_views k at old p b text encloses views h = All-weaker (EnclosesPair p (edges_by k.limits b)) (IsView k at old p (edges_by k.limits b)) (λ heads shown. record { pair = shown; solutions = encloses heads shown.pair }) views (each views h)
+all_views : (k : Task) (at : TimeStep) (old : List Bound) (p : List Entries) (b : Edges) (text : List Bound → List ℕ) →
+    PairEncloses k.limits k.decks at old p b → (views : List (List Bound)) → AreAllShown text (EnclosesPair p (edges_by k.limits b)) views →
+    All (IsView k at old p (edges_by k.limits b)) views
+all_views k at old p b text encloses views h = All-weaker (EnclosesPair p (edges_by k.limits b)) (IsView k at old p (edges_by k.limits b)) (λ heads shown.
+    record { pair = shown; solutions = encloses heads shown.pair }) views (each views h)
   where
     each : (vs : List (List Bound)) → AreAllShown text (EnclosesPair p (edges_by k.limits b)) vs → All (EnclosesPair p (edges_by k.limits b)) vs
     each [] h = All-nil (EnclosesPair p (edges_by k.limits b))
@@ -64,7 +67,8 @@ no_first_views whole k n old (at ∷ times) (inr e) = absurd (let bad : at ∷ t
 module _ {V W : Type 0} (leads : W → List Put → W → Type 0) (sink : V → W) (text_of : V → ℕ → ℕ → List Entries → List Bound → List ℕ) (period step : V → ℕ) (stop : V → Option SinkError)
     (begins : V → ℕ → ℕ → V → Type 0) (viewed : V → List Entries → Edges → ℕ → V → Type 0) (stopped : V → Type 0)
     (is_begun : (s t : V) (i j : ℕ) → begins s i j t → (sink t ≡ sink s) × (text_of t ≡ text_of s) × (period t ≡ i) × (step t ≡ j) × (stop t ≡ stop s))
-    (is_viewed : (s t : V) (p : List Entries) (b : Edges) (n : ℕ) → viewed s p b n t → (text_of t ≡ text_of s) × ViewPuts (text_of s (period s) (step s) p) (EnclosesPair p b) (LeadOn leads (sink s) (sink t)) n (stop s) (stop t))
+    (is_viewed : (s t : V) (p : List Entries) (b : Edges) (n : ℕ) → viewed s p b n t → (text_of t ≡ text_of s) ×
+    ViewPuts (text_of s (period s) (step s) p) (EnclosesPair p b) (LeadOn leads (sink s) (sink t)) n (stop s) (stop t))
     (is_stopped : (s : V) → stopped s → is_some (stop s) ≡ true)
     (no_view : (s : V) (p : List Entries) (b : Edges) → viewed s p b 0 s) where
   -- the puts of a settling
@@ -87,7 +91,8 @@ module _ {V W : Type 0} (leads : W → List Put → W → Type 0) (sink : V → 
   no_write : (o : Option SinkError) → o ≡ None → o ≡ Some error.Write → ⊥
   no_write o none wrote = let bad : Path (Option SinkError) None (Some error.Write) = sym none ∙ wrote in cc
 
-  none_viewed : (whole : Bool) (k : Task) (n : ℕ) (old : List Bound) (times : List TimeStep) (s t : V) → (whole ≡ false) ⊎ (times ≡ []) → sink t ≡ sink s → stop t ≡ None → ViewedFrom whole k n old times s t
+  none_viewed : (whole : Bool) (k : Task) (n : ℕ) (old : List Bound) (times : List TimeStep) (s t : V) → (whole ≡ false) ⊎ (times ≡ []) → sink t ≡ sink s →
+      stop t ≡ None → ViewedFrom whole k n old times s t
   none_viewed whole k n old times s t end same none = record {
     texts = [];
     views = no_first_views whole k n old times end;
@@ -97,7 +102,8 @@ module _ {V W : Type 0} (leads : W → List Put → W → Type 0) (sink : V → 
     failed = λ wrote. absurd (no_write (stop t) none wrote);
   }
 
-  module _ (k : Task) (n : ℕ) (at : TimeStep) (old : List Bound) (s told done : V) (fits : text_of s ≡ lines_of k.decks.first.grid) (none : stop s ≡ None) (b : begins s at.period at.step told) (ended : Bool) (by : IsSettledBy (Shows viewed stopped n) k at old ended told done) where
+  module _ (k : Task) (n : ℕ) (at : TimeStep) (old : List Bound) (s told done : V) (fits : text_of s ≡ lines_of k.decks.first.grid) (none : stop s ≡ None)
+      (b : begins s at.period at.step told) (ended : Bool) (by : IsSettledBy (Shows viewed stopped n) k at old ended told done) where
     abbrev p : List Entries
     p = by.problem
 
@@ -176,7 +182,19 @@ module _ {V W : Type 0} (leads : W → List Put → W → Type 0) (sink : V → 
         let P : W → Type 0 = λ w. LeadOn leads w (sink done) (pieces ++ views_put.last) in
         record {
           texts = map text h.heads;
-          views = inl (refl, inr (record { problem = p; barrier = by.barrier; posed = by.posed; views = h.heads; no_cell = λ part. absurd (not_whole part); each = λ part. absurd (not_whole part); enclose = h.enclose; are = refl }));
+          views = inl (
+            refl,
+            inr (record {
+              problem = p;
+              barrier = by.barrier;
+              posed = by.posed;
+              views = h.heads;
+              no_cell = λ part. absurd (not_whole part);
+              each = λ part. absurd (not_whole part);
+              enclose = h.enclose;
+              are = refl;
+            }),
+          );
           puts = pieces ++ views_put.last;
           in_turn = h.in_turn;
           led = subst P told_is.0 views_put.led;
@@ -226,7 +244,8 @@ module _ {V W : Type 0} (leads : W → List Put → W → Type 0) (sink : V → 
         failed = λ wrote. more_refused (map text views_put.views) later.puts (later.failed wrote);
       }
 
-  viewed_from : (whole : Bool) (k : Task) (n : ℕ) (old : List Bound) (times : List TimeStep) (s t : V) → text_of s ≡ lines_of k.decks.first.grid → stop s ≡ None → Reaches begins (Shows viewed stopped n) stop k whole old times s t → ViewedFrom whole k n old times s t
+  viewed_from : (whole : Bool) (k : Task) (n : ℕ) (old : List Bound) (times : List TimeStep) (s t : V) → text_of s ≡ lines_of k.decks.first.grid → stop s ≡
+      None → Reaches begins (Shows viewed stopped n) stop k whole old times s t → ViewedFrom whole k n old times s t
   viewed_from whole k n old times s t fits none (rests o ts u end) = none_viewed whole k n o ts u u end refl none
   viewed_from whole k n old times s t fits none (begun o at ts u told v part b (inl same)) =
       let is = is_begun u told at.period at.step b in
@@ -249,7 +268,8 @@ module _ {V W : Type 0} (leads : W → List Put → W → Type 0) (sink : V → 
     side_puts (inr h) = inr (is_watched false h)
 
     -- where the viewer has stopped since a write failed, one has
-    pub side_rose : (seen : W → Seen) → ((s : W) (puts : List Put) (t : W) → leads s puts t → PutsMake (seen s) puts (seen t)) → (t ≡ s) ⊎ ReachesFirst begins (Shows viewed stopped n) stop k false s t → stop t ≡ Some error.Write → Rose (seen (sink s)).faults (seen (sink t)).faults
+    pub side_rose : (seen : W → Seen) → ((s : W) (puts : List Put) (t : W) → leads s puts t → PutsMake (seen s) puts (seen t)) → (t ≡ s) ⊎
+        ReachesFirst begins (Shows viewed stopped n) stop k false s t → stop t ≡ Some error.Write → Rose (seen (sink s)).faults (seen (sink t)).faults
     side_rose seen tells (inl same) wrote = absurd (no_write (stop t) (ap stop same ∙ none) wrote)
     side_rose seen tells (inr h) wrote =
         let w = viewed_from false k n h.start (times_of k.decks.first) s t fits none h.reaches in

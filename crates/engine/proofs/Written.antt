@@ -83,7 +83,8 @@ module _ (certified : RunIsCertified) (again : RunIsReadAgain) (k : Task) (piece
       let C : Case → Type 0 = λ c. Defines c status.Ok (certified_line ∷ []) in
       let W : Option Wanted → Type 0 = λ o. C (case_of o files) in
       let here : C (come k.decks) = subst B (sym has_second) (subst R (sym read) (subst L (sym h.limits) (subst D (sym h.digits) checked))) in
-      subst W (sym h.wanted) (subst C (case_within h.asked.limits h.asked.name h.to files come k.decks p) (within_defines k.decks.first p.last (come k.decks) status.Ok (certified_line ∷ []) p.alike here))
+      subst W (sym h.wanted) (subst C (case_within h.asked.limits h.asked.name h.to files come k.decks p)
+      (within_defines k.decks.first p.last (come k.decks) status.Ok (certified_line ∷ []) p.alike here))
 
 pub written_is_certified : RunIsCertified → RunIsReadAgain → WrittenIsCertified
 written_is_certified certified again k pieces words files decks numbers listed = check_defines certified again k pieces words files decks numbers (whole_listing k pieces listed)
@@ -99,7 +100,8 @@ read_numbers files (Some name) m zones h = by_zones (zones_of files m.grid name)
 
 -- The bytes of a listing of all steps, which enclose their histories.
 module _ (written : WrittenIsCertified) (asked : ListingOrder) (files : FileSet) (bytes : List ℕ) (checks : List Text) (others : FileSet) where
-  whole_is_certified : (k : Task) (values : List Step) (a : FlowModel) → AreDecks k.decks → zones_read files asked.zones a ≡ Ok k.zones → AreItsSteps k values → bytes ≡ concat (listing k values end_line) →
+  whole_is_certified : (k : Task) (values : List Step) (a : FlowModel) → AreDecks k.decks → zones_read files asked.zones a ≡ Ok k.zones → AreItsSteps k values →
+      bytes ≡ concat (listing k values end_line) →
       ChecksWritten checks others k bytes → Defines (case_of (order_of_words checks) others) status.Ok (certified_line ∷ [])
   whole_is_certified k values a decks zoned all is check =
       let C : List ℕ → Type 0 = λ bs. ChecksWritten checks others k bs in
@@ -113,8 +115,10 @@ module _ (written : WrittenIsCertified) (asked : ListingOrder) (files : FileSet)
       whole_is_certified (task_of asked x.model x.zones) x.values x.model (one_valid x.model x.valid) x.zoned h.values x.written
 
   pub one_span_is_certified : (to : Text) (h : OneSpan asked to files (Some []) (Some bytes)) →
-      ChecksWritten checks others (span_task_of asked h.headline.decks.first h.headline.decks.second h.headline.zones) bytes → Defines (case_of (order_of_words checks) others) status.Ok (certified_line ∷ [])
+      ChecksWritten checks others (span_task_of asked h.headline.decks.first h.headline.decks.second h.headline.zones) bytes →
+      Defines (case_of (order_of_words checks) others) status.Ok (certified_line ∷ [])
   one_span_is_certified to h =
       let x = h.headline in
       let both = x.decks in
-      whole_is_certified (span_task_of asked both.first both.second x.zones) x.values both.first (record { first = both.valid; second = record { model = both.valid_to; alike = both.alike } }) x.zoned h.values x.written
+      whole_is_certified (span_task_of asked both.first both.second x.zones) x.values both.first
+      (record { first = both.valid; second = record { model = both.valid_to; alike = both.alike } }) x.zoned h.values x.written

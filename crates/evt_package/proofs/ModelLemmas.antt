@@ -43,7 +43,9 @@ module _ (m : FlowModel) (c : ℕ) (size : HasSize m.grid) (lt : c < cell_count 
       by_case false p b q = All-nil IsEvapValid
       by_case true p true q = All-nil IsEvapValid
       by_case true p false q = All-cons IsEvapValid at_cell []
-          (source_sound at_cell (dec_at_is s.evtr (place_in_layer m.grid c) has.is.rates.1) (dec_at_is s.surf (place_in_layer m.grid c) (has.is.surfaces refl).1) (dec_at_is s.exdp (place_in_layer m.grid c) (has.is.depths refl).1) (no_fault has p) q)
+          (source_sound at_cell (dec_at_is s.evtr (place_in_layer m.grid c) has.is.rates.1)
+          (dec_at_is s.surf (place_in_layer m.grid c) (has.is.surfaces refl).1) (dec_at_is s.exdp (place_in_layer m.grid c) (has.is.depths refl).1)
+          (no_fault has p) q)
           (All-nil IsEvapValid)
 
   -- an empty array of rates has rate 0 everywhere
@@ -75,11 +77,13 @@ in_grid g k i kl il =
     omega (arith, il, more)
 
 -- the next cell isn't active
-pub goes_down : (g : Grid) (ibound : List ℤ) (i k n : ℕ) (total : Option ℕ) → k < n → is_nonzero (int_at ibound (k * layer_size g + i)) ≡ false → highest_active g ibound i k (n - k) ≡ total → highest_active g ibound i (k + 1) (n - (k + 1)) ≡ total
+pub goes_down : (g : Grid) (ibound : List ℤ) (i k n : ℕ) (total : Option ℕ) → k < n → is_nonzero (int_at ibound (k * layer_size g + i)) ≡ false →
+    highest_active g ibound i k (n - k) ≡ total → highest_active g ibound i (k + 1) (n - (k + 1)) ≡ total
 unfolding highest_active
 goes_down g ibound i k n total lt e so_far = let m : n - k ≡ suc (n - (k + 1)) = omega (arith, lt) in rw (← so_far, m, e) refl
 
-pub is_found : (g : Grid) (ibound : List ℤ) (i k n : ℕ) (total : Option ℕ) → k < n → is_nonzero (int_at ibound (k * layer_size g + i)) ≡ true → highest_active g ibound i k (n - k) ≡ total → Some (k * layer_size g + i) ≡ total
+pub is_found : (g : Grid) (ibound : List ℤ) (i k n : ℕ) (total : Option ℕ) → k < n → is_nonzero (int_at ibound (k * layer_size g + i)) ≡ true →
+    highest_active g ibound i k (n - k) ≡ total → Some (k * layer_size g + i) ≡ total
 unfolding highest_active
 is_found g ibound i k n total lt e so_far = let m : n - k ≡ suc (n - (k + 1)) = omega (arith, lt) in rw (← so_far, m, e) refl
 

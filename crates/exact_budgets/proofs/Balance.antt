@@ -74,7 +74,8 @@ module _ (e : List ExactCell) (d : ℕ) (X : ℕ → ℤ) (linked : AreLinked e)
         flows_over_links = total (whole_link Y (Y n)) (whole_at w n).links
 
         zero_here : flows_over_links +ℤ total nets all_terms ≡ pos 0
-        zero_here = sym (nets_balance k m (share d (X n)) (Y n) (heads n) (cell_at e n) (whole_at w n) cell Y) ∙ whole_solves k m e w d X Y over solves heads n (omega (arith, here, AllZip-length (CellOver k m) e w over))
+        zero_here = sym (nets_balance k m (share d (X n)) (Y n) (heads n) (cell_at e n) (whole_at w n) cell Y) ∙ whole_solves k m e w d X Y over solves heads n
+            (omega (arith, here, AllZip-length (CellOver k m) e w over))
 
         sum : total (λ t. rest.into t +ℤ (parts t).into -ℤ (rest.out t +ℤ (parts t).out)) all_terms ≡ total (λ t. rest.into t -ℤ rest.out t) all_terms +ℤ total nets all_terms
         sum =
@@ -128,9 +129,12 @@ net_over e h o t = IsOver-minus o.D _ _ _ _ (o.are_in t) (o.are_out t)
 
 pub solutions_balance : SolutionsBalance
 solutions_balance e d X linked some solves = record {
-  in_is_out = same_over o.D _ _ _ _ o.some (over_terms o.D (exact_term e (heads_of d X) In) o.into o.are_in all_terms) (over_terms o.D (exact_term e (heads_of d X) Out) o.out o.are_out all_terms) (equal (total o.into all_terms) (total o.out all_terms) (total (λ t. o.into t -ℤ o.out t) all_terms) (total-difference o.into o.out all_terms) o.none);
+  in_is_out = same_over o.D _ _ _ _ o.some (over_terms o.D (exact_term e (heads_of d X) In) o.into o.are_in all_terms)
+      (over_terms o.D (exact_term e (heads_of d X) Out) o.out o.are_out all_terms)
+      (equal (total o.into all_terms) (total o.out all_terms) (total (λ t. o.into t -ℤ o.out t) all_terms) (total-difference o.into o.out all_terms) o.none);
   nets = over_zero o.D (fraction_total (net_flow e (heads_of d X)) all_terms) o.some
-      (subst (λ (z : ℤ). IsOver o.D (fraction_total (net_flow e (heads_of d X)) all_terms) z) o.none (over_terms o.D (net_flow e (heads_of d X)) (λ t. o.into t -ℤ o.out t) (net_over e (heads_of d X) o) all_terms));
+      (subst (λ (z : ℤ). IsOver o.D (fraction_total (net_flow e (heads_of d X)) all_terms) z) o.none
+      (over_terms o.D (net_flow e (heads_of d X)) (λ t. o.into t -ℤ o.out t) (net_over e (heads_of d X) o) all_terms));
 }
   where
     o : TermsOver e (heads_of d X)

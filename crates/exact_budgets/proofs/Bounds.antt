@@ -31,7 +31,8 @@ same_encloses lo hi s f g same h = record {
   upper = cross_trans_signed g.num f.num hi (den g) (den f) (10 ^ s) (omega arith) (omega (arith, ints, sym same.same)) h.upper;
 }
 
-terms_enclose : (lo hi : Term → ℤ) (k : ℕ) (f : Term → Fraction) → ((t : Term) → EnclosesSigned (lo t) (hi t) k (f t)) → (ts : List Term) → EnclosesSigned (total lo ts) (total hi ts) k (fraction_total f ts)
+terms_enclose : (lo hi : Term → ℤ) (k : ℕ) (f : Term → Fraction) → ((t : Term) → EnclosesSigned (lo t) (hi t) k (f t)) → (ts : List Term) →
+    EnclosesSigned (total lo ts) (total hi ts) k (fraction_total f ts)
 terms_enclose lo hi k f each [] = none_encloses k
 terms_enclose lo hi k f each (t ∷ ts) = plus_encloses _ _ _ _ k (f t) (fraction_total f ts) (each t) (terms_enclose lo hi k f each ts)
 
@@ -40,7 +41,8 @@ split : (p : Term → Bool) (z : Term → ℤ) (ts : List Term) → total z ts �
 split p z [] = refl
 split p z (t ∷ ts) = one_more (p t) refl (split p z ts)
   where
-    one_more : (b : Bool) → p t ≡ b → total z ts ≡ total z (filter p ts) +ℤ total z (filter (λ x. not (p x)) ts) → total z (t ∷ ts) ≡ total z (filter p (t ∷ ts)) +ℤ total z (filter (λ x. not (p x)) (t ∷ ts))
+    one_more : (b : Bool) → p t ≡ b → total z ts ≡ total z (filter p ts) +ℤ total z (filter (λ x. not (p x)) ts) → total z (t ∷ ts) ≡
+        total z (filter p (t ∷ ts)) +ℤ total z (filter (λ x. not (p x)) (t ∷ ts))
     one_more true e rest = rw e (omega (arith, ints))
     one_more false e rest = rw e (omega (arith, ints))
 
@@ -56,13 +58,18 @@ as_differences k a b c d f h = grind (arith)
 
 module _ (s : ℕ) (e : List ExactCell) (h : ℕ → Fraction) (b : Budget) (o : TermsOver e h) (encloses : BudgetEncloses s e h b) where
   listed : (t : Term) → EnclosesSigned (net_lower b t) (net_upper b t) (s + 9) (net_flow e h t)
-  listed t = as_differences (s + 9) (bounds_in b In t).lo (bounds_in b Out t).hi (bounds_in b In t).hi (bounds_in b Out t).lo (net_flow e h t) (plus_encloses (bounds_in b In t).lo (bounds_in b In t).hi (neg_ℤ (bounds_in b Out t).hi) (neg_ℤ (bounds_in b Out t).lo) (s + 9) (exact_term e h In t) (opposite (exact_term e h Out t)) (encloses In t) (negated_enclosed (bounds_in b Out t).lo (bounds_in b Out t).hi (s + 9) (exact_term e h Out t) (encloses Out t)))
+  listed t = as_differences (s + 9) (bounds_in b In t).lo (bounds_in b Out t).hi (bounds_in b In t).hi (bounds_in b Out t).lo (net_flow e h t)
+      (plus_encloses (bounds_in b In t).lo (bounds_in b In t).hi (neg_ℤ (bounds_in b Out t).hi) (neg_ℤ (bounds_in b Out t).lo) (s + 9) (exact_term e h In t)
+      (opposite (exact_term e h Out t)) (encloses In t) (negated_enclosed (bounds_in b Out t).lo (bounds_in b Out t).hi (s + 9) (exact_term e h Out t)
+      (encloses Out t)))
 
   in_the_others : (t : Term) → EnclosesSigned (lower_by_others b t) (upper_by_others b t) (s + 9) (net_flow e h t)
   in_the_others t =
       same_encloses (lower_by_others b t) (upper_by_others b t) (s + 9) (opposite (fraction_total (net_flow e h) (others t))) (net_flow e h t)
-      (same_over o.D _ _ _ _ o.some (IsOver-negated o.D _ _ (over_terms o.D (net_flow e h) (λ x. o.into x -ℤ o.out x) (net_over e h o) (others t))) (net_over e h o t) (sym (left_over (λ x. o.into x -ℤ o.out x) o.none t)))
-      (negated_enclosed (total (net_lower b) (others t)) (total (net_upper b) (others t)) (s + 9) (fraction_total (net_flow e h) (others t)) (terms_enclose (net_lower b) (net_upper b) (s + 9) (net_flow e h) listed (others t)))
+      (same_over o.D _ _ _ _ o.some (IsOver-negated o.D _ _ (over_terms o.D (net_flow e h) (λ x. o.into x -ℤ o.out x) (net_over e h o) (others t)))
+      (net_over e h o t) (sym (left_over (λ x. o.into x -ℤ o.out x) o.none t)))
+      (negated_enclosed (total (net_lower b) (others t)) (total (net_upper b) (others t)) (s + 9) (fraction_total (net_flow e h) (others t))
+      (terms_enclose (net_lower b) (net_upper b) (s + 9) (net_flow e h) listed (others t)))
 
   pub net_terms_lie : NetTermsLie s e h b
   net_terms_lie = record { listed = listed; in_the_others = in_the_others }
@@ -87,7 +94,8 @@ module _ (limits : Limits) (m : FlowModel) (s : ℕ) (zones : Option (List ℕ))
       linked : AreLinked e
       linked = are_linked m v.at.period v.at.step before valid.grid.size
 
-  all_steps : (steps : List TimeStep) (values : List Step) (before : ℕ → Fraction) (Xs : List (ℕ → ℤ)) → map (λ v. v.at) values ≡ steps → SolvesFrom m d before steps Xs → BoundAll task m d before values Xs → AllNetTermsLie m s d before values Xs
+  all_steps : (steps : List TimeStep) (values : List Step) (before : ℕ → Fraction) (Xs : List (ℕ → ℤ)) → map (λ v. v.at) values ≡ steps →
+      SolvesFrom m d before steps Xs → BoundAll task m d before values Xs → AllNetTermsLie m s d before values Xs
   all_steps steps [] before [] e h b = tt
   all_steps steps [] before (X ∷ Xs) e h b = absurd b
   all_steps steps (v ∷ values) before [] e h b = absurd b
@@ -108,7 +116,8 @@ times_of k (at ∷ steps) (v ∷ values) old h = rw (h.0.time, times_of k steps 
 pub steps_have_their_times : StepsHaveTheirTimes
 steps_have_their_times k values all = times_of k (times k.decks.first) values all.start all.steps
 
-certified_times : (limits : Limits) (m : Decks) (s : ℕ) (zones : Option (List ℕ)) (times : List TimeStep) (steps : List ListedStep) (old : List Bound) → Checks limits m s zones old times steps Certified → map (λ v. v.at) (steps_of times steps) ≡ times
+certified_times : (limits : Limits) (m : Decks) (s : ℕ) (zones : Option (List ℕ)) (times : List TimeStep) (steps : List ListedStep) (old : List Bound) →
+    Checks limits m s zones old times steps Certified → map (λ v. v.at) (steps_of times steps) ≡ times
 certified_times limits m s zones [] steps old h = refl
 certified_times limits m s zones (at ∷ rest) [] old h = absurd h
 certified_times limits m s zones (at ∷ rest) (w ∷ steps) old (inl h) = ap (λ (ts : List TimeStep). at ∷ ts) (certified_times limits m s zones rest steps w.heads h.1)

@@ -16,7 +16,8 @@ abbrev is_flow : Term → ExactFlow → Bool
 is_flow t x = is_term t (flow_term x.kind)
 
 -- each known head is of one of three terms, and each constant flow of one of two
-one_of_three : (k : FixedKind) (a : ℤ) → cond (is_term Storage (fixed_term k)) a (pos 0) +ℤ cond (is_term ConstantHead (fixed_term k)) a (pos 0) +ℤ cond (is_term HeadDepBounds (fixed_term k)) a (pos 0) ≡ a
+one_of_three : (k : FixedKind) (a : ℤ) → cond (is_term Storage (fixed_term k)) a (pos 0) +ℤ cond (is_term ConstantHead (fixed_term k)) a (pos 0) +ℤ cond
+    (is_term HeadDepBounds (fixed_term k)) a (pos 0) ≡ a
 one_of_three kinds.Storage a = omega (arith, ints)
 one_of_three kinds.Constant a = omega (arith, ints)
 one_of_three kinds.General a = omega (arith, ints)

@@ -21,7 +21,8 @@ module _ (D : ℕ) (p : ExactFace → Bool) where
   sum_over [] z e = subst (λ (y : ℤ). IsOver D (whole (pos 0)) y) (sym e) (IsOver-none D)
   sum_over (f ∷ fs) z (q, r, counts, rest, e) = one (sum_over fs r rest) (p f) refl counts
     where
-      one : IsOver D (fraction_total (λ (f : ExactFace). f.flow) (filter p fs)) r → (b : Bool) → p f ≡ b → Counts b f.flow q → IsOver D (fraction_total (λ (f : ExactFace). f.flow) (filter p (f ∷ fs))) z
+      one : IsOver D (fraction_total (λ (f : ExactFace). f.flow) (filter p fs)) r → (b : Bool) → p f ≡ b → Counts b f.flow q →
+          IsOver D (fraction_total (λ (f : ExactFace). f.flow) (filter p (f ∷ fs))) z
       one others true is over = rw (is, e) (IsOver-plus D f.flow (fraction_total (λ (f : ExactFace). f.flow) (filter p fs)) q r over others)
       one others false is none = rw is (subst (λ (y : ℤ). IsOver D (fraction_total (λ (f : ExactFace). f.flow) (filter p fs)) y) (omega (arith, ints, e, none)) others)
 
@@ -38,11 +39,15 @@ module _ (D : ℕ) (p : ExactFace → Bool) where
     sum_none [] h = refl
     sum_none (x ∷ xs) h = sum_append (g x) (flat_map g xs) (pos 0) (pos 0) (All-head (λ y. SumTo (g y) (pos 0)) x xs h) (sum_none xs (All-tail (λ y. SumTo (g y) (pos 0)) x xs h))
 
-    pub sum_kept : {Y : Type 0} (R : X → Y → Type 0) (P : X → Type 0) (t : X → Bool) (z : Y → ℤ) → ((x : X) (y : Y) → R x y → P x → SumTo (g x) (cond (t x) (z y) (pos 0))) → (xs : List X) (ys : List Y) → AllZip R xs ys → All P xs → SumTo (flat_map g xs) (kept t z xs ys)
+    pub sum_kept : {Y : Type 0} (R : X → Y → Type 0) (P : X → Type 0) (t : X → Bool) (z : Y → ℤ) →
+        ((x : X) (y : Y) → R x y → P x → SumTo (g x) (cond (t x) (z y) (pos 0))) → (xs : List X) (ys : List Y) → AllZip R xs ys → All P xs →
+        SumTo (flat_map g xs) (kept t z xs ys)
     sum_kept R P t z each [] [] h a = refl
     sum_kept R P t z each [] (y ∷ ys) h a = absurd h
     sum_kept R P t z each (x ∷ xs) [] h a = absurd h
-    sum_kept R P t z each (x ∷ xs) (y ∷ ys) h a = sum_append (g x) (flat_map g xs) (cond (t x) (z y) (pos 0)) (kept t z xs ys) (each x y h.0 (All-head P x xs a)) (sum_kept R P t z each xs ys h.1 (All-tail P x xs a))
+    sum_kept R P t z each (x ∷ xs) (y ∷ ys) h a =
+        sum_append (g x) (flat_map g xs) (cond (t x) (z y) (pos 0)) (kept t z xs ys) (each x y h.0 (All-head P x xs a))
+        (sum_kept R P t z each xs ys h.1 (All-tail P x xs a))
 
     pub sum_at : (d : X) (xs : List X) (z : ℕ → ℤ) → ((j : ℕ) → j < length xs → SumTo (g (get_or xs j d)) (z j)) → SumTo (flat_map g xs) (sum_below (length xs) z)
     sum_at d [] z each = refl
@@ -70,7 +75,9 @@ module _ (D : ℕ) (zones : List ℕ) (h : ℕ → Fraction) (u v : ℕ) (some :
           let both = and_parts (slice_index zones x == u) (slice_index zones y == v) (rw f at e) in
           rw (eqb-true (slice_index zones x) u both.0, eqb-true (slice_index zones y) v both.1) (grind (arith, nat_tests))
 
-      by_test : (t low : Bool) → leads x y ≡ t → (t ≡ true → IsOver D (times (as_fraction c) (minus (h x) (h y))) q) → (t ≡ true → low ≡ true) → Between (cond low (record { from = slice_index zones x; to = slice_index zones y; flow = times (as_fraction c) (minus (h x) (h y)) } ∷ []) []) (cond t q (pos 0))
+      by_test : (t low : Bool) → leads x y ≡ t → (t ≡ true → IsOver D (times (as_fraction c) (minus (h x) (h y))) q) → (t ≡ true → low ≡ true) →
+          Between (cond low (record { from = slice_index zones x; to = slice_index zones y; flow = times (as_fraction c) (minus (h x) (h y)) } ∷ []) [])
+          (cond t q (pos 0))
       by_test true true e over f = (q, pos 0, subst (λ (b : Bool). Counts D (is_exact_between u v) b (times (as_fraction c) (minus (h x) (h y))) q) (sym e) (over refl), refl, omega (arith, ints))
       by_test true false e over f = absurd (let clash : false ≡ true = f refl in cc)
       by_test false true e over f = (pos 0, pos 0, subst (λ (b : Bool). Counts D (is_exact_between u v) b (times (as_fraction c) (minus (h x) (h y))) (pos 0)) (sym e) refl, refl, refl)
@@ -80,7 +87,8 @@ module _ (D : ℕ) (zones : List ℕ) (h : ℕ → Fraction) (u v : ℕ) (some :
   from_none x y c e = from_sum x y c (pos 0) false e (λ f. absurd (let clash : false ≡ true = f in cc))
 
   -- a branch to a known head
-  pub known_sum : (kind : FixedKind) (x y : ℕ) (c : Ratio) (q r : ℤ) → (kind ≡ Constant → Between (exact_from zones h x y c) q) → (kind ≡ Constant → Between (exact_from zones h y x c) r) → Between (exact_by_kind zones h kind x y c) (cond (is_constant kind) (q +ℤ r) (pos 0))
+  pub known_sum : (kind : FixedKind) (x y : ℕ) (c : Ratio) (q r : ℤ) → (kind ≡ Constant → Between (exact_from zones h x y c) q) →
+      (kind ≡ Constant → Between (exact_from zones h y x c) r) → Between (exact_by_kind zones h kind x y c) (cond (is_constant kind) (q +ℤ r) (pos 0))
   known_sum Storage x y c q r f g = refl
   known_sum General x y c q r f g = refl
   known_sum Constant x y c q r f g = sum_append D (is_exact_between u v) (exact_from zones h x y c) (exact_from zones h y x c) q r (f refl) (g refl)

@@ -38,7 +38,8 @@ module _ {X Y : Type 0} (R : X → Y → Type 0) (D : ℕ) (f : X → Fraction) 
   all_parts (x ∷ xs) [] h = absurd h
   all_parts (x ∷ xs) (y ∷ ys) h = one_more D (f x) (g y) (map f xs) (total g ys) (each x y h.0) (all_parts xs ys h.1)
 
-  one_kept : (p : X → Bool) (x : X) (y : Y) (xs : List X) (ys : List Y) → R x y → Parts D (map f (filter p xs)) (kept p g xs ys) → (b : Bool) → p x ≡ b → Parts D (map f (filter p (x ∷ xs))) (kept p g (x ∷ xs) (y ∷ ys))
+  one_kept : (p : X → Bool) (x : X) (y : Y) (xs : List X) (ys : List Y) → R x y → Parts D (map f (filter p xs)) (kept p g xs ys) → (b : Bool) → p x ≡ b →
+      Parts D (map f (filter p (x ∷ xs))) (kept p g (x ∷ xs) (y ∷ ys))
   one_kept p x y xs ys r rest true e = rw e (one_more D (f x) (g y) (map f (filter p xs)) (kept p g xs ys) (each x y r) rest)
   one_kept p x y xs ys r rest false e = rw (e, none_more (kept p g xs ys)) rest
     where
@@ -66,7 +67,8 @@ module _ {X Y : Type 0} (R : X → Y → Type 0) (D : ℕ) (f : X → Fraction) 
       one rest false e = rw (e, none_more (kept p g xs ys)) rest
 
 -- a sum of kept elements, term by term
-pub kept_is : {X Y : Type 0} (R : X → Y → Type 0) (P : X → Type 0) (p : X → Bool) (g z : Y → ℤ) → ((x : X) (y : Y) → R x y → P x → cond (p x) (g y) (pos 0) ≡ z y) → (xs : List X) (ys : List Y) → AllZip R xs ys → All P xs → kept p g xs ys ≡ total z ys
+pub kept_is : {X Y : Type 0} (R : X → Y → Type 0) (P : X → Type 0) (p : X → Bool) (g z : Y → ℤ) →
+    ((x : X) (y : Y) → R x y → P x → cond (p x) (g y) (pos 0) ≡ z y) → (xs : List X) (ys : List Y) → AllZip R xs ys → All P xs → kept p g xs ys ≡ total z ys
 kept_is R P p g z each [] [] h a = refl
 kept_is R P p g z each [] (y ∷ ys) h a = absurd h
 kept_is R P p g z each (x ∷ xs) [] h a = absurd h
@@ -85,14 +87,16 @@ kept_turned p q g z same turned (x ∷ xs) (y ∷ ys) = grind (arith, kept_turne
 
 module _ {X Y : Type 0} (R : X → Y → Type 0) (g : Y → ℤ) where
   -- tests of which each element passes one alone
-  pub total_by_three : (p q r : X → Bool) → ((x : X) (a : ℤ) → cond (p x) a (pos 0) +ℤ cond (q x) a (pos 0) +ℤ cond (r x) a (pos 0) ≡ a) → (xs : List X) (ys : List Y) → AllZip R xs ys → total g ys ≡ kept p g xs ys +ℤ kept q g xs ys +ℤ kept r g xs ys
+  pub total_by_three : (p q r : X → Bool) → ((x : X) (a : ℤ) → cond (p x) a (pos 0) +ℤ cond (q x) a (pos 0) +ℤ cond (r x) a (pos 0) ≡ a) →
+      (xs : List X) (ys : List Y) → AllZip R xs ys → total g ys ≡ kept p g xs ys +ℤ kept q g xs ys +ℤ kept r g xs ys
   total_by_three p q r one [] [] h = refl
   total_by_three p q r one [] (y ∷ ys) h = absurd h
   total_by_three p q r one (x ∷ xs) [] h = absurd h
   total_by_three p q r one (x ∷ xs) (y ∷ ys) h =
       omega (arith, ints, one x (g y), total_by_three p q r one xs ys h.1)
 
-  pub total_by_two : (p q : X → Bool) → ((x : X) (a : ℤ) → cond (p x) a (pos 0) +ℤ cond (q x) a (pos 0) ≡ a) → (xs : List X) (ys : List Y) → AllZip R xs ys → total g ys ≡ kept p g xs ys +ℤ kept q g xs ys
+  pub total_by_two : (p q : X → Bool) → ((x : X) (a : ℤ) → cond (p x) a (pos 0) +ℤ cond (q x) a (pos 0) ≡ a) → (xs : List X) (ys : List Y) → AllZip R xs ys →
+      total g ys ≡ kept p g xs ys +ℤ kept q g xs ys
   total_by_two p q one [] [] h = refl
   total_by_two p q one [] (y ∷ ys) h = absurd h
   total_by_two p q one (x ∷ xs) [] h = absurd h

@@ -54,8 +54,10 @@ module _ (zones : List ℕ) (e : List ExactCell) (i b : ℕ) (h : ℕ → Fracti
     inflow_over =
         let own = cell i alone.inside in
         IsOver-plus (k * m) _ _ _ _
-        (kept_over (LinkOver k m) (k * m) (link_flow (λ c. h (cell_at e c).id) (h (cell_at e i).id)) (whole_link H (H i)) (link_over k m (h (cell_at e i).id) (H i) (is i) (λ c. h (cell_at e c).id) H is) to_links (cell_at e i).links (whole_at w i).links own.links)
-        (kept_over (FixedOver k m) (k * m) (fixed_flow (h (cell_at e i).id)) (whole_fixed (H i)) (fixed_over k m (h (cell_at e i).id) (H i) (is i)) to_known (cell_at e i).fixed (whole_at w i).fixed own.fixed)
+        (kept_over (LinkOver k m) (k * m) (link_flow (λ c. h (cell_at e c).id) (h (cell_at e i).id)) (whole_link H (H i))
+        (link_over k m (h (cell_at e i).id) (H i) (is i) (λ c. h (cell_at e c).id) H is) to_links (cell_at e i).links (whole_at w i).links own.links)
+        (kept_over (FixedOver k m) (k * m) (fixed_flow (h (cell_at e i).id)) (whole_fixed (H i)) (fixed_over k m (h (cell_at e i).id) (H i) (is i)) to_known
+        (cell_at e i).fixed (whole_at w i).fixed own.fixed)
 
     -- from zone u to zone v
     module _ (u v : ℕ) (some : 0 < u) (less : u < v) where
@@ -65,11 +67,14 @@ module _ (zones : List ℕ) (e : List ExactCell) (i b : ℕ) (h : ℕ → Fracti
       abbrev crosses : ℕ → ExactLink → Bool
       crosses j x = (zone j == u) && (zone x.cell == v)
 
-      links_cross : (j : ℕ) → j < length e → Flows (flat_map (exact_link zones h e (cell_at e j)) (cell_at e j).links) (kept (crosses j) (λ (y : WholeLink). pos y.c *ℤ (H j -ℤ H y.cell)) (cell_at e j).links (whole_at w j).links)
+      links_cross : (j : ℕ) → j < length e →
+          Flows (flat_map (exact_link zones h e (cell_at e j)) (cell_at e j).links)
+          (kept (crosses j) (λ (y : WholeLink). pos y.c *ℤ (H j -ℤ H y.cell)) (cell_at e j).links (whole_at w j).links)
       links_cross j lt =
           sum_kept (k * m) (is_exact_between u v) (exact_link zones h e (cell_at e j)) (LinkOver k m) (λ x. Unit {0}) (crosses j) (λ (y : WholeLink). pos y.c *ℤ (H j -ℤ H y.cell))
           (λ x y r t. from_sum (k * m) zones h u v some less (cell_at e j).id (cell_at e x.cell).id x.conductance (pos y.c *ℤ (H j -ℤ H y.cell)) (crosses j x) refl
-          (λ f. difference_over k m y.c x.conductance (h (cell_at e j).id) (h (cell_at e x.cell).id) (H j) (H y.cell) r.c (is j) (subst (λ (n : ℕ). IsOver m (h (cell_at e x.cell).id) (H n)) r.same (is x.cell))))
+          (λ f. difference_over k m y.c x.conductance (h (cell_at e j).id) (h (cell_at e x.cell).id) (H j) (H y.cell) r.c (is j)
+          (subst (λ (n : ℕ). IsOver m (h (cell_at e x.cell).id) (H n)) r.same (is x.cell))))
           (cell_at e j).links (whole_at w j).links (cell j lt).links (λ n d l. tt)
 
       -- no face of another cell's known heads
@@ -95,10 +100,12 @@ module _ (zones : List ℕ) (e : List ExactCell) (i b : ℕ) (h : ℕ → Fracti
             nothing false = refl
 
       -- the faces of the lone cell's known heads, of which q is the flow over one
-      own_known : (q : WholeEntry → ℤ) → ((x : ExactFixed) (y : WholeEntry) → FixedOver k m x y → (x.kind ≡ Constant → h x.source ≡ x.head) → (x.kind ≡ Constant → slice_index zones x.source ≡ a → ⊥) → Flows (exact_fixed zones h (cell_at e i) x) (cond (to_known x) (q y) (pos 0))) →
+      own_known : (q : WholeEntry → ℤ) → ((x : ExactFixed) (y : WholeEntry) → FixedOver k m x y → (x.kind ≡ Constant → h x.source ≡ x.head) →
+          (x.kind ≡ Constant → slice_index zones x.source ≡ a → ⊥) → Flows (exact_fixed zones h (cell_at e i) x) (cond (to_known x) (q y) (pos 0))) →
           Flows (flat_map (exact_fixed zones h (cell_at e i)) (cell_at e i).fixed) (kept to_known q (cell_at e i).fixed (whole_at w i).fixed)
       own_known q each =
-          sum_kept (k * m) (is_exact_between u v) (exact_fixed zones h (cell_at e i)) (FixedOver k m) (λ x. (x.kind ≡ Constant → h x.source ≡ x.head) × (x.kind ≡ Constant → slice_index zones x.source ≡ a → ⊥)) to_known q
+          sum_kept (k * m) (is_exact_between u v) (exact_fixed zones h (cell_at e i)) (FixedOver k m) (λ x. (x.kind ≡ Constant → h x.source ≡ x.head) ×
+          (x.kind ≡ Constant → slice_index zones x.source ≡ a → ⊥)) to_known q
           (λ x y r f. each x y r f.0 f.1) (cell_at e i).fixed (whole_at w i).fixed (cell i alone.inside).fixed (λ n d l. (heads n d l, alone.sources i alone.inside n d l))
 
       all_cells : (z : ℕ → ℤ) → ((j : ℕ) → j < length e → Flows (exact_cell zones h e (cell_at e j)) (z j)) → IsOver (k * m) (exact_flow u v (exact_faces zones h e)) (sum_below (length e) z)
@@ -117,12 +124,16 @@ module _ (zones : List ℕ) (e : List ExactCell) (i b : ℕ) (h : ℕ → Fracti
 
     -- to a higher zone
     module _ (some : 0 < a) (less : a < b) where
-      one_known : (x : ExactFixed) (y : WholeEntry) → FixedOver k m x y → (x.kind ≡ Constant → h x.source ≡ x.head) → (x.kind ≡ Constant → slice_index zones x.source ≡ a → ⊥) → Flows a b some less (exact_fixed zones h (cell_at e i) x) (cond (to_known x) (neg_ℤ (whole_fixed (H i) y)) (pos 0))
+      one_known : (x : ExactFixed) (y : WholeEntry) → FixedOver k m x y → (x.kind ≡ Constant → h x.source ≡ x.head) →
+          (x.kind ≡ Constant → slice_index zones x.source ≡ a → ⊥) →
+          Flows a b some less (exact_fixed zones h (cell_at e i) x) (cond (to_known x) (neg_ℤ (whole_fixed (H i) y)) (pos 0))
       one_known x y r head source =
           subst (Flows a b some less (exact_fixed zones h (cell_at e i) x)) (nested (is_constant x.kind) (slice_index zones x.source == b) _)
           (known_sum (k * m) zones h a b some less x.kind (cell_at e i).id x.source x.conductance _ (pos 0)
           (λ c. from_sum (k * m) zones h a b some less (cell_at e i).id x.source x.conductance (neg_ℤ (whole_fixed (H i) y)) (slice_index zones x.source == b) (rw same_zone refl)
-          (λ f. subst (IsOver (k * m) (times (as_fraction x.conductance) (minus (h (cell_at e i).id) (h x.source)))) (turned (pos y.c) (H i) y.top) (difference_over k m y.c x.conductance (h (cell_at e i).id) (h x.source) (H i) y.top r.c (is i) (subst (λ (z : Fraction). IsOver m z y.top) (sym (head c)) r.top))))
+          (λ f. subst (IsOver (k * m) (times (as_fraction x.conductance) (minus (h (cell_at e i).id) (h x.source)))) (turned (pos y.c) (H i) y.top)
+          (difference_over k m y.c x.conductance (h (cell_at e i).id) (h x.source) (H i) y.top r.c (is i)
+          (subst (λ (z : Fraction). IsOver m z y.top) (sym (head c)) r.top))))
           (λ c. from_none (k * m) zones h a b some less x.source (cell_at e i).id x.conductance (rw (ne_eqb (slice_index zones x.source) a (source c)) refl)))
         where
           nested : (s t : Bool) (q : ℤ) → cond s (cond t q (pos 0) +ℤ pos 0) (pos 0) ≡ cond (s && t) q (pos 0)
@@ -139,13 +150,20 @@ module _ (zones : List ℕ) (e : List ExactCell) (i b : ℕ) (h : ℕ → Fracti
         | inl s ↦ subst (λ (n : ℕ). Flows a b some less (exact_cell zones h e (cell_at e n)) (cond (nat_eq i n) (neg_ℤ (linked +ℤ known)) (pos 0) *ℤ pos 1)) s
             (subst (Flows a b some less (exact_cell zones h e (cell_at e i))) own_share
             (cell_sum a b some less (cell_at e i) _ _ (links_cross a b some less i alone.inside) (own_known a b some less (λ y. neg_ℤ (whole_fixed (H i) y)) one_known)))
-        | inr o ↦ subst (Flows a b some less (exact_cell zones h e (cell_at e j))) (rw (kept_none (crosses a b some less j) (λ (y : WholeLink). pos y.c *ℤ (H j -ℤ H y.cell)) (λ x. rw (ne_eqb (zone j) a (λ z. o (sym (alone.others j lt z)))) refl) (cell_at e j).links (whole_at w j).links, ne_eqb i j o) refl)
+        | inr o ↦ subst (Flows a b some less (exact_cell zones h e (cell_at e j)))
+            (rw (
+              kept_none (crosses a b some less j) (λ (y : WholeLink). pos y.c *ℤ (H j -ℤ H y.cell)) (λ x.
+                  rw (ne_eqb (zone j) a (λ z. o (sym (alone.others j lt z)))) refl) (cell_at e j).links (whole_at w j).links,
+              ne_eqb i j o,
+            ) refl)
             (cell_sum a b some less (cell_at e j) _ (pos 0) (links_cross a b some less j lt) (no_known a b some less (inl refl) j lt (λ z. o (sym z))))
       ]
         where
-          own_share : kept (crosses a b some less i) (λ (y : WholeLink). pos y.c *ℤ (H i -ℤ H y.cell)) (cell_at e i).links (whole_at w i).links +ℤ kept to_known (λ y. neg_ℤ (whole_fixed (H i) y)) (cell_at e i).fixed (whole_at w i).fixed ≡ cond (nat_eq i i) (neg_ℤ (linked +ℤ known)) (pos 0) *ℤ pos 1
+          own_share : kept (crosses a b some less i) (λ (y : WholeLink). pos y.c *ℤ (H i -ℤ H y.cell)) (cell_at e i).links (whole_at w i).links +ℤ kept to_known
+              (λ y. neg_ℤ (whole_fixed (H i) y)) (cell_at e i).fixed (whole_at w i).fixed ≡ cond (nat_eq i i) (neg_ℤ (linked +ℤ known)) (pos 0) *ℤ pos 1
           own_share =
-              let links = kept_turned (crosses a b some less i) to_links (λ (y : WholeLink). pos y.c *ℤ (H i -ℤ H y.cell)) (whole_link H (H i)) (λ x. rw same_zone refl) (λ y. turned (pos y.c) (H i) (H y.cell)) (cell_at e i).links (whole_at w i).links in
+              let links = kept_turned (crosses a b some less i) to_links (λ (y : WholeLink). pos y.c *ℤ (H i -ℤ H y.cell)) (whole_link H (H i)) (λ x.
+              rw same_zone refl) (λ y. turned (pos y.c) (H i) (H y.cell)) (cell_at e i).links (whole_at w i).links in
               let heads = kept_turned to_known to_known (λ y. neg_ℤ (whole_fixed (H i) y)) (whole_fixed (H i)) (λ x. refl) (λ y. refl) (cell_at e i).fixed (whole_at w i).fixed in
               rw (eq-eqb i i refl) (omega (arith, ints))
 
@@ -161,12 +179,15 @@ module _ (zones : List ℕ) (e : List ExactCell) (i b : ℕ) (h : ℕ → Fracti
       drop : ℕ → ℤ
       drop j = cond (zone j == b) (H j -ℤ H i) (pos 0)
 
-      one_source : (x : ExactFixed) (y : WholeEntry) → FixedOver k m x y → (x.kind ≡ Constant → h x.source ≡ x.head) → (x.kind ≡ Constant → slice_index zones x.source ≡ a → ⊥) → Flows b a some less (exact_fixed zones h (cell_at e i) x) (cond (to_known x) (whole_fixed (H i) y) (pos 0))
+      one_source : (x : ExactFixed) (y : WholeEntry) → FixedOver k m x y → (x.kind ≡ Constant → h x.source ≡ x.head) →
+          (x.kind ≡ Constant → slice_index zones x.source ≡ a → ⊥) →
+          Flows b a some less (exact_fixed zones h (cell_at e i) x) (cond (to_known x) (whole_fixed (H i) y) (pos 0))
       one_source x y r head source =
           subst (Flows b a some less (exact_fixed zones h (cell_at e i) x)) (nested (is_constant x.kind) (slice_index zones x.source == b) _)
           (known_sum (k * m) zones h b a some less x.kind (cell_at e i).id x.source x.conductance (pos 0) _
           (λ c. from_none (k * m) zones h b a some less (cell_at e i).id x.source x.conductance (rw other_zone refl))
-          (λ c. from_sum (k * m) zones h b a some less x.source (cell_at e i).id x.conductance (whole_fixed (H i) y) (slice_index zones x.source == b) (rw same_zone (and-true (slice_index zones x.source == b)))
+          (λ c. from_sum (k * m) zones h b a some less x.source (cell_at e i).id x.conductance (whole_fixed (H i) y) (slice_index zones x.source == b)
+          (rw same_zone (and-true (slice_index zones x.source == b)))
           (λ f. difference_over k m y.c x.conductance (h x.source) (h (cell_at e i).id) y.top (H i) r.c (subst (λ (z : Fraction). IsOver m z y.top) (sym (head c)) r.top) (is i))))
         where
           nested : (s t : Bool) (q : ℤ) → cond s (pos 0 +ℤ cond t q (pos 0)) (pos 0) ≡ cond (s && t) q (pos 0)
@@ -183,20 +204,29 @@ module _ (zones : List ℕ) (e : List ExactCell) (i b : ℕ) (h : ℕ → Fracti
       total_times (x ∷ xs) z = rw (total_times xs z) (sym (add_mul (cond (nat_eq x.cell i) (pos x.c) (pos 0)) (weight xs i) z))
 
       -- the links of another cell that cross lead to the lone cell
-      links_home : (j : ℕ) → j < length e → kept (crosses b a some less j) (λ (y : WholeLink). pos y.c *ℤ (H j -ℤ H y.cell)) (cell_at e j).links (whole_at w j).links ≡ weight (whole_at w i).links j *ℤ drop j
+      links_home : (j : ℕ) → j < length e → kept (crosses b a some less j) (λ (y : WholeLink). pos y.c *ℤ (H j -ℤ H y.cell)) (cell_at e j).links
+          (whole_at w j).links ≡ weight (whole_at w i).links j *ℤ drop j
       unfolding drop
       links_home j lt =
-          kept_is (LinkOver k m) (λ x. x.cell < length e) (crosses b a some less j) (λ (y : WholeLink). pos y.c *ℤ (H j -ℤ H y.cell)) (λ y. cond (nat_eq y.cell i) (pos y.c) (pos 0) *ℤ cond (zone j == b) (H j -ℤ H i) (pos 0)) one (cell_at e j).links (whole_at w j).links (cell j lt).links (are_linked.range j lt)
+          kept_is (LinkOver k m) (λ x. x.cell < length e) (crosses b a some less j) (λ (y : WholeLink). pos y.c *ℤ (H j -ℤ H y.cell)) (λ y.
+          cond (nat_eq y.cell i) (pos y.c) (pos 0) *ℤ cond (zone j == b) (H j -ℤ H i) (pos 0)) one (cell_at e j).links (whole_at w j).links
+          (cell j lt).links (are_linked.range j lt)
           ∙ total_times (whole_at w j).links (cond (zone j == b) (H j -ℤ H i) (pos 0))
           ∙ ap (λ (z : ℤ). z *ℤ cond (zone j == b) (H j -ℤ H i) (pos 0)) (both.same j i (omega (arith, lt, same_length)) (omega (arith, alone.inside, same_length)))
         where
           same_length : length e ≡ length w
           same_length = AllZip-length (CellOver k m) e w over
 
-          one : (x : ExactLink) (y : WholeLink) → LinkOver k m x y → x.cell < length e → cond ((zone j == b) && (zone x.cell == a)) (pos y.c *ℤ (H j -ℤ H y.cell)) (pos 0) ≡ cond (nat_eq y.cell i) (pos y.c) (pos 0) *ℤ cond (zone j == b) (H j -ℤ H i) (pos 0)
+          one : (x : ExactLink) (y : WholeLink) → LinkOver k m x y → x.cell < length e →
+              cond ((zone j == b) && (zone x.cell == a)) (pos y.c *ℤ (H j -ℤ H y.cell)) (pos 0) ≡
+              cond (nat_eq y.cell i) (pos y.c) (pos 0) *ℤ cond (zone j == b) (H j -ℤ H i) (pos 0)
           one x y r range = elim (cases_eq x.cell i) [
             | inl s ↦ let there : y.cell ≡ i = sym r.same ∙ s in rw (s, same_zone, and-true (zone j == b), eq-eqb y.cell i there, there) (pick (zone j == b) (pos y.c) (H j -ℤ H i))
-            | inr o ↦ let elsewhere : y.cell ≡ i → ⊥ = λ s. o (r.same ∙ s) in rw (ne_eqb (zone x.cell) a (λ s. o (alone.others x.cell range s)), and-false (zone j == b), ne_eqb y.cell i elsewhere) (sym (zero-*ℤ (cond (zone j == b) (H j -ℤ H i) (pos 0))))
+            | inr o ↦ let elsewhere : y.cell ≡ i → ⊥ = λ s. o (r.same ∙ s) in rw (
+              ne_eqb (zone x.cell) a (λ s. o (alone.others x.cell range s)),
+              and-false (zone j == b),
+              ne_eqb y.cell i elsewhere,
+            ) (sym (zero-*ℤ (cond (zone j == b) (H j -ℤ H i) (pos 0))))
           ]
 
       inflows : ℕ → ℤ
@@ -215,7 +245,8 @@ module _ (zones : List ℕ) (e : List ExactCell) (i b : ℕ) (h : ℕ → Fracti
           swap : (z : ℤ) → z +ℤ pos 0 ≡ pos 0 *ℤ pos 1 +ℤ z
           swap z = omega (arith, ints)
 
-          own_share : kept (crosses b a some less i) (λ (y : WholeLink). pos y.c *ℤ (H i -ℤ H y.cell)) (cell_at e i).links (whole_at w i).links +ℤ known ≡ cond (nat_eq i i) known (pos 0) *ℤ pos 1 +ℤ weight (whole_at w i).links i *ℤ drop i
+          own_share : kept (crosses b a some less i) (λ (y : WholeLink). pos y.c *ℤ (H i -ℤ H y.cell)) (cell_at e i).links (whole_at w i).links +ℤ known ≡
+              cond (nat_eq i i) known (pos 0) *ℤ pos 1 +ℤ weight (whole_at w i).links i *ℤ drop i
           own_share =
               let none = kept_none (crosses b a some less i) (λ (y : WholeLink). pos y.c *ℤ (H i -ℤ H y.cell)) (λ x. rw other_zone refl) (cell_at e i).links (whole_at w i).links in
               rw (none, eq-eqb i i refl, other_zone, *ℤ-zero (weight (whole_at w i).links i)) (omega (arith, ints))
@@ -229,7 +260,8 @@ module _ (zones : List ℕ) (e : List ExactCell) (i b : ℕ) (h : ℕ → Fracti
       pub lower : 0 < k * m → Same (exact_flow b a (exact_faces zones h e)) (inflow_from zones e i h b)
       unfolding inflows
       lower some_product =
-          let range = All-zip (LinkOver k m) (λ x. x.cell < length e) (λ y. y.cell < length e) (λ x y r s. subst (λ (n : ℕ). n < length e) r.same s) (cell_at e i).links (whole_at w i).links (cell i alone.inside).links (are_linked.range i alone.inside) in
+          let range = All-zip (LinkOver k m) (λ x. x.cell < length e) (λ y. y.cell < length e) (λ x y r s. subst (λ (n : ℕ). n < length e) r.same s)
+          (cell_at e i).links (whole_at w i).links (cell i alone.inside).links (are_linked.range i alone.inside) in
           let links = over_links ∙ by_weight (length e) (whole_at w i).links drop range in
           let sum = sum-add (length e) (λ j. cond (nat_eq i j) known (pos 0) *ℤ pos 1) (λ j. weight (whole_at w i).links j *ℤ drop j) in
           let own = sum-one (length e) i known (λ j. pos 1) alone.inside in

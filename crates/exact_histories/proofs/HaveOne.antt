@@ -50,7 +50,8 @@ module _ (limits : Limits) (a : FlowModel) (s : ℕ) (start : List Bound) (news 
         let (d, Xs, some, solves) = history_exists cs (start_head first) (goes_on limits (two a b) s cs are.between start news (start_head first) (within first are.start) (these _ are.steps)) in
         (d, Xs, record { some = some; steps = solves });
     one = λ first cs are d e Xs Ys one other.
-        are_one limits (two a b) s cs are.between start news (start_head first) (start_head first) (within first are.start) (λ c k. record { same = refl }) (these _ are.steps) d e Xs Ys one.some other.some one.steps other.steps;
+        are_one limits (two a b) s cs are.between start news (start_head first) (start_head first) (within first are.start) (λ c k. record { same = refl })
+        (these _ are.steps) d e Xs Ys one.some other.some one.steps other.steps;
   }
     where
       within : (first : FlowModel) → IsBetween a first b → HeadsEnclose a start (start_head first)
@@ -59,6 +60,7 @@ module _ (limits : Limits) (a : FlowModel) (s : ℕ) (start : List Bound) (news 
       these : (ts : List TimeStep) → ts ≡ times a → AreTurns limits (two a b) s start ts news
       these ts same = subst (λ (ts : List TimeStep). AreTurns limits (two a b) s start ts news) (sym same) turns
 
-pub have_one_by : (limits : Limits) (a : FlowModel) (o : Option FlowModel) (s : ℕ) (start : List Bound) (news : List (List Bound)) → HoldsOf a o (λ m. HeadsEnclose m start (start_head m)) → AreTurns limits (record { first = a; second = o }) s start (times a) news → HaveOneBy a o
+pub have_one_by : (limits : Limits) (a : FlowModel) (o : Option FlowModel) (s : ℕ) (start : List Bound) (news : List (List Bound)) →
+    HoldsOf a o (λ m. HeadsEnclose m start (start_head m)) → AreTurns limits (record { first = a; second = o }) s start (times a) news → HaveOneBy a o
 have_one_by limits a None s start news starts turns = one_history limits a s start news starts turns
 have_one_by limits a (Some b) s start news starts turns = one_each limits a s start news b starts turns

@@ -48,12 +48,15 @@ module _ (limits : Limits) (ds : Decks) (s : ℕ) (at : TimeStep) (old : List Bo
       lands : Lands x.heads
       lands m member before d X olds some solves =
           let cells = member_cells ds m member in
-          let move = of_member ds (λ (m : FlowModel). EnclosesMoves m s at old x) (steps_enclose (problem_fits model_fits) problem_encloses pair_encloses words_enclose limits ds s at old kind x start step) m member before d X
+          let move = of_member ds (λ (m : FlowModel). EnclosesMoves m s at old x)
+          (steps_enclose (problem_fits model_fits) problem_encloses pair_encloses words_enclose limits ds s at old kind x start step) m member before d
+          X
           (record { within = encloses_member ds.first m cells old before olds; some = some; solves = solves }) in
           lies_encloses ds.first x.heads d X some (lies_in_first ds.first m cells x.heads d X move.heads)
 
 -- a turn's problem
-module _ (limits : Limits) (ds : Decks) (s : ℕ) (at : TimeStep) (old new : List Bound) (turn : IsTurn limits ds s at old new) (m : FlowModel) (h : IsMember ds m) (before : ℕ → Fraction) (olds : HeadsEnclose ds.first old before) where
+module _ (limits : Limits) (ds : Decks) (s : ℕ) (at : TimeStep) (old new : List Bound) (turn : IsTurn limits ds s at old new) (m : FlowModel)
+    (h : IsMember ds m) (before : ℕ → Fraction) (olds : HeadsEnclose ds.first old before) where
   cells : HasCellsOf ds.first m
   cells = member_cells ds m h
 
@@ -65,7 +68,9 @@ module _ (limits : Limits) (ds : Decks) (s : ℕ) (at : TimeStep) (old new : Lis
 
   pub has_vector : HasVector m at before
   has_vector =
-      let (d, X, some, solves) = solution_exists turn.problem fits (held_by limits turn.problem turn.barrier turn.posed.barrier) (held_above turn.problem turn.barrier.ceiling (cut_by limits turn.problem turn.barrier turn.posed.barrier).ceilings) s (exact_step m at.period at.step before)
+      let (d, X, some, solves) = solution_exists turn.problem fits (held_by limits turn.problem turn.barrier turn.posed.barrier)
+      (held_above turn.problem turn.barrier.ceiling (cut_by limits turn.problem turn.barrier turn.posed.barrier).ceilings) s
+      (exact_step m at.period at.step before)
       encloses in
       vector_exists m at before d X (has_size ds.first ds.second m h turn.start.decks.first.grid.size) some solves
 
@@ -73,9 +78,12 @@ module _ (limits : Limits) (ds : Decks) (s : ℕ) (at : TimeStep) (old new : Lis
   has_at_most_one = solution_is_one turn.problem fits (held_by limits turn.problem turn.barrier turn.posed.barrier) s (exact_step m at.period at.step before) encloses
 
   -- two solutions, from heads before that are the same numbers
-  module _ (other : ℕ → Fraction) (same : AreSameHeads ds.first other before) (d e : ℕ) (X Y : ℕ → ℤ) (some_d : 0 < d) (some_e : 0 < e) (first : SolvesAt m at before d X) (second : SolvesAt m at other e Y) where
+  module _ (other : ℕ → Fraction) (same : AreSameHeads ds.first other before) (d e : ℕ) (X Y : ℕ → ℤ) (some_d : 0 < d) (some_e : 0 < e)
+      (first : SolvesAt m at before d X) (second : SolvesAt m at other e Y) where
     all_same : All (λ c. Same (other c) (before c)) (variable_cells m at.period)
-    all_same = All-In (λ c. Same (other c) (before c)) (variable_cells m at.period) (λ c in_cells. let (v, lt) = variable-In m at.period (cell_count m.grid) c in_cells in same c (cell_of_first ds.first m cells c (record { within = lt; active = variable_active m at.period c v })))
+    all_same = All-In (λ c. Same (other c) (before c)) (variable_cells m at.period) (λ c in_cells.
+        let (v, lt) = variable-In m at.period (cell_count m.grid) c in_cells in same c
+        (cell_of_first ds.first m cells c (record { within = lt; active = variable_active m at.period c v })))
 
     variable_same : (c : ℕ) → c < cell_count m.grid → is_variable m at.period c ≡ true → Same (share d (X c)) (share e (Y c))
     variable_same c lt v =

@@ -77,7 +77,8 @@ same_heads_solve e f agrees d k X Y some_d some_k same solves c i =
     let zero = whole_solves (n * 1) m e w d X (λ z. X z *ℤ pos (k * n)) over solves (heads n) c here in
     over_zero (n * 1 * m) _ (mul-pos (omega (arith, some_n)) (mul-pos some_n (mul-pos some_d some_k)))
     (subst (λ (z : ℤ). IsOver (n * 1 * m) (balance (cell_at f c) (share k (Y c)) (λ z. share k (Y z))) z) zero
-    (balance_over (n * 1) m (share k (Y c)) (X c *ℤ pos (k * n)) (others n c) (λ z. share k (Y z)) (λ z. X z *ℤ pos (k * n)) (others n) (cell_at f c) (whole_at w c) (AllZip-at (CellOver (n * 1) m) f w c no_cell no_whole over' i)))
+    (balance_over (n * 1) m (share k (Y c)) (X c *ℤ pos (k * n)) (others n c) (λ z. share k (Y z)) (λ z. X z *ℤ pos (k * n)) (others n) (cell_at f c)
+    (whole_at w c) (AllZip-at (CellOver (n * 1) m) f w c no_cell no_whole over' i)))
   where
     order : (n d k : ℕ) → d * (k * n) ≡ n * (d * k)
     order n d k = omega arith
@@ -105,8 +106,17 @@ module _ (m : FlowModel) (p n : ℕ) (old new : ℕ → Fraction) where
 
   pub cells_agree : (cs : List ℕ) → All (λ c. Same (old c) (new c)) cs → AllZip CellAgrees (map (exact_cell m p n old) cs) (map (exact_cell m p n new) cs)
   cells_agree [] same = tt
-  cells_agree (c ∷ cs) same =
-      (record { flows = refl; links = refl; fixed = fixed_agree c (All-head (λ c. Same (old c) (new c)) c cs same) (fixed_sources m p c); rivers = refl; drains = refl; evaps = refl }, cells_agree cs (All-tail (λ c. Same (old c) (new c)) c cs same))
+  cells_agree (c ∷ cs) same = (
+    record {
+      flows = refl;
+      links = refl;
+      fixed = fixed_agree c (All-head (λ c. Same (old c) (new c)) c cs same) (fixed_sources m p c);
+      rivers = refl;
+      drains = refl;
+      evaps = refl;
+    },
+    cells_agree cs (All-tail (λ c. Same (old c) (new c)) c cs same),
+  )
 
   pub ids_agree : (cs : List ℕ) (k : ℕ) → (get_or (map (exact_cell m p n old) cs) k no_cell).id ≡ (get_or (map (exact_cell m p n new) cs) k no_cell).id
   ids_agree [] k = refl
@@ -121,12 +131,15 @@ over_again d k f x y some e over = record {
 }
 
 -- the same heads, however they and those before are written, have zero balances at the same time
-pub balances_same : (m : FlowModel) (p n : ℕ) (old new : ℕ → Fraction) → All (λ c. Same (old c) (new c)) (variable_cells m p) → (d k : ℕ) (X Y : ℕ → ℤ) → 0 < d → 0 < k → ((c : ℕ) → X c *ℤ pos k ≡ Y c *ℤ pos d) → SolvesStep (exact_step m p n old) d (variable_heads (exact_step m p n old) X) → SolvesStep (exact_step m p n new) k (variable_heads (exact_step m p n new) Y)
+pub balances_same : (m : FlowModel) (p n : ℕ) (old new : ℕ → Fraction) → All (λ c. Same (old c) (new c)) (variable_cells m p) → (d k : ℕ) (X Y : ℕ → ℤ) →
+    0 < d → 0 < k → ((c : ℕ) → X c *ℤ pos k ≡ Y c *ℤ pos d) → SolvesStep (exact_step m p n old) d (variable_heads (exact_step m p n old) X) →
+    SolvesStep (exact_step m p n new) k (variable_heads (exact_step m p n new) Y)
 balances_same m p n old new same d k X Y some_d some_k heads solves =
     same_heads_solve (exact_step m p n old) (exact_step m p n new) (cells_agree m p n old new (variable_cells m p) same) d k _ _ some_d some_k
     (λ c. heads (cell_at (exact_step m p n old) c).id ∙ ap (λ (i : ℕ). Y i *ℤ pos d) (ids_agree m p n old new (variable_cells m p) c)) solves
 
-pub solves_same : (m : FlowModel) (at : TimeStep) (old new : ℕ → Fraction) → ((c : ℕ) → Same (old c) (new c)) → (d k : ℕ) (X Y : ℕ → ℤ) → 0 < d → 0 < k → ((c : ℕ) → X c *ℤ pos k ≡ Y c *ℤ pos d) → SolvesAt m at old d X → SolvesAt m at new k Y
+pub solves_same : (m : FlowModel) (at : TimeStep) (old new : ℕ → Fraction) → ((c : ℕ) → Same (old c) (new c)) → (d k : ℕ) (X Y : ℕ → ℤ) → 0 < d → 0 < k →
+    ((c : ℕ) → X c *ℤ pos k ≡ Y c *ℤ pos d) → SolvesAt m at old d X → SolvesAt m at new k Y
 solves_same m at old new same d k X Y some_d some_k heads solves = record {
   constant = λ c h is. over_again d k _ (X c) (Y c) some_d (heads c) (solves.constant c h is);
   balances = balances_same m at.period at.step old new (all_same (variable_cells m at.period)) d k X Y some_d some_k heads solves.balances;

@@ -21,7 +21,9 @@ module _ (limits : Limits) (ds : Decks) (s : ℕ) where
   AreTurns old (at ∷ ats) [] = ⊥
   AreTurns old (at ∷ ats) (new ∷ news) = IsTurn limits ds s at old new × AreTurns new ats news
 
-  pub turns_of : (kind : PairKind) (decks : AreDecks ds) (old : List Bound) (ats : List TimeStep) (xs : List Solved) → ((at : TimeStep) → Contains ats at → Contains (times ds.first) at) → AreGridHeads ds.first old → AreSteps limits ds s kind old ats xs → AreTurns old ats (map heads_at xs)
+  pub turns_of : (kind : PairKind) (decks : AreDecks ds) (old : List Bound) (ats : List TimeStep) (xs : List Solved) →
+      ((at : TimeStep) → Contains ats at → Contains (times ds.first) at) → AreGridHeads ds.first old → AreSteps limits ds s kind old ats xs →
+      AreTurns old ats (map heads_at xs)
   turns_of kind decks old [] [] these grid steps = tt
   turns_of kind decks old [] (x ∷ xs) these grid steps = absurd steps
   turns_of kind decks old (at ∷ ats) [] these grid steps = absurd steps
@@ -33,7 +35,8 @@ module _ (limits : Limits) (ds : Decks) (s : ℕ) where
   abbrev pub AreMembers : List Choice → Type 0
   AreMembers cs = All (λ c. IsMember ds c.model) cs
 
-  pub goes_on : (cs : List Choice) → AreMembers cs → (old : List Bound) (news : List (List Bound)) (before : ℕ → Fraction) → HeadsEnclose ds.first old before → AreTurns old (map time_of cs) news → GoOn cs before
+  pub goes_on : (cs : List Choice) → AreMembers cs → (old : List Bound) (news : List (List Bound)) (before : ℕ → Fraction) → HeadsEnclose ds.first old before →
+      AreTurns old (map time_of cs) news → GoOn cs before
   goes_on [] members old news before olds turns = tt
   goes_on (c ∷ cs) members old [] before olds turns = absurd turns
   goes_on (c ∷ cs) members old (new ∷ news) before olds (turn, turns) =
@@ -42,7 +45,8 @@ module _ (limits : Limits) (ds : Decks) (s : ℕ) where
         (λ d X some solves. goes_on cs (All-tail (λ c. IsMember ds c.model) c cs members) new news (heads_of d X) (turn.lands c.model here before d X olds some solves) turns),
       )
 
-  pub are_one : (cs : List Choice) → AreMembers cs → (old : List Bound) (news : List (List Bound)) (before other : ℕ → Fraction) → HeadsEnclose ds.first old before → AreSameHeads ds.first other before → AreTurns old (map time_of cs) news →
+  pub are_one : (cs : List Choice) → AreMembers cs → (old : List Bound) (news : List (List Bound)) (before other : ℕ → Fraction) →
+      HeadsEnclose ds.first old before → AreSameHeads ds.first other before → AreTurns old (map time_of cs) news →
       (d e : ℕ) (Xs Ys : List (ℕ → ℤ)) → 0 < d → 0 < e → SolvesChoicesFrom d before cs Xs → SolvesChoicesFrom e other cs Ys → AreSame ds.first d e Xs Ys
   are_one [] members old news before other olds same turns d e [] [] some_d some_e first second = tt
   are_one [] members old news before other olds same turns d e [] (Y ∷ Ys) some_d some_e first second = absurd second

@@ -26,7 +26,8 @@ module _ (n : ℕ) (a : ℕ → ℕ → ℤ) where
   net_flow-cons b q r rs d X i = omega (arith, ints)
 
   -- a step with no less deep flow at the cells without a known head is held too
-  pub held_where_deeper : (b b' : ℕ → ℕ) (q q' : ℕ → ℤ) (rs rs' : List Ramp) → IsHeldFromBelow n a b q rs → ((i : ℕ) → i < n → b' i ≡ 0 → b i ≡ 0) → ((i : ℕ) → i < n → b' i ≡ 0 → deep n a b q rs i ≤ℤ deep n a b' q' rs' i) → IsHeldFromBelow n a b' q' rs'
+  pub held_where_deeper : (b b' : ℕ → ℕ) (q q' : ℕ → ℤ) (rs rs' : List Ramp) → IsHeldFromBelow n a b q rs → ((i : ℕ) → i < n → b' i ≡ 0 → b i ≡ 0) →
+      ((i : ℕ) → i < n → b' i ≡ 0 → deep n a b q rs i ≤ℤ deep n a b' q' rs' i) → IsHeldFromBelow n a b' q' rs'
   held_where_deeper b b' q q' rs rs' held loose more S closed none c h inside =
       let (T, carried) = held S closed (λ i k e. loose i k (none i k e)) c h inside in (
         T,
@@ -70,7 +71,8 @@ conductance_added-at c v b i = cases (nat_eq c i)
     cases false = refl
 
 -- the step with a conductance v and a flow w more at cell c
-pub net_flow-added : (n : ℕ) (a : ℕ → ℕ → ℤ) (b : ℕ → ℕ) (q : ℕ → ℤ) (rs : List Ramp) (c v : ℕ) (w : ℤ) (d : ℕ) (X : ℕ → ℤ) (i : ℕ) → net_flow n a (conductance_added c v b) (flow_added c w q) rs d X i ≡ net_flow n a b q rs d X i +ℤ cond (nat_eq c i) (pos d *ℤ w -ℤ pos v *ℤ X i) (pos 0)
+pub net_flow-added : (n : ℕ) (a : ℕ → ℕ → ℤ) (b : ℕ → ℕ) (q : ℕ → ℤ) (rs : List Ramp) (c v : ℕ) (w : ℤ) (d : ℕ) (X : ℕ → ℤ) (i : ℕ) →
+    net_flow n a (conductance_added c v b) (flow_added c w q) rs d X i ≡ net_flow n a b q rs d X i +ℤ cond (nat_eq c i) (pos d *ℤ w -ℤ pos v *ℤ X i) (pos 0)
 unfolding conductance_added flow_added
 net_flow-added n a b q rs c v w d X i = cases (nat_eq c i) (link_flow n a X i) (pos d) (q i) (b i) (X i) (total (ramp_flow d (X i) i) rs)
   where

@@ -64,7 +64,8 @@ reduced_inverse_positive n a D s some same mono X draws i h =
     rows k kh =
         rw (sum_below-with_last n (a k) X (pos s) (sent_to_last n a X)) (elim (cases_eq k n) [
           | inl e ↦ rw e (rw (with_last-at n (pos s) (sent_to_last n a X) X) (last (sent_to_last n a X) (D n) (a n n) (pos s) same))
-          | inr e ↦ rw (with_last-below n (pos s) (sent_to_last n a X) X k (omega arith)) (within _ (pos s) (D k) (X k) (rw (sum_below-combined n (a k) (a n) X (pos s) (a k n)) at (draws k (omega arith))))
+          | inr e ↦ rw (with_last-below n (pos s) (sent_to_last n a X) X k (omega arith))
+              (within _ (pos s) (D k) (X k) (rw (sum_below-combined n (a k) (a n) X (pos s) (a k n)) at (draws k (omega arith))))
         ])
       where
         last : (t d b s : ℤ) → d -ℤ b ≡ s → (s *ℤ t +ℤ b *ℤ t) ≤ℤ (d *ℤ t)
@@ -83,14 +84,19 @@ reduced_inverse_positive n a D s some same mono X draws i h =
             ring s d x = rw (as_diff s, as_diff d, as_diff x) (simp diffs (same_diff _ _ _ _ (omega arith)))
 
 -- the solution of what is left gives one of the whole
-solution_extended : (n : ℕ) (a : ℕ → ℕ → ℤ) (D q : ℕ → ℤ) (s : ℕ) → 0 < s → D n -ℤ a n n ≡ pos s → (d : ℕ) (X : ℕ → ℤ) → IsLinearSolution n (reduced_a n a s) (λ i. pos s *ℤ D i) (reduced_q n a q s) d X → IsLinearSolution (suc n) a D q (d * s) (with_last n (pos s) (sent_to_last n a X +ℤ pos d *ℤ q n) X)
+solution_extended : (n : ℕ) (a : ℕ → ℕ → ℤ) (D q : ℕ → ℤ) (s : ℕ) → 0 < s → D n -ℤ a n n ≡ pos s → (d : ℕ) (X : ℕ → ℤ) →
+    IsLinearSolution n (reduced_a n a s) (λ i. pos s *ℤ D i) (reduced_q n a q s) d X →
+    IsLinearSolution (suc n) a D q (d * s) (with_last n (pos s) (sent_to_last n a X +ℤ pos d *ℤ q n) X)
 solution_extended n a D q s some same d X left = record { some = mul-pos left.some some; solves = rows }
   where
-    rows : (k : ℕ) → k < suc n → D k *ℤ with_last n (pos s) (sent_to_last n a X +ℤ pos d *ℤ q n) X k ≡ sum_below (suc n) (λ j. a k j *ℤ with_last n (pos s) (sent_to_last n a X +ℤ pos d *ℤ q n) X j) +ℤ pos (d * s) *ℤ q k
+    rows : (k : ℕ) → k < suc n → D k *ℤ with_last n (pos s) (sent_to_last n a X +ℤ pos d *ℤ q n) X k ≡
+        sum_below (suc n) (λ j. a k j *ℤ with_last n (pos s) (sent_to_last n a X +ℤ pos d *ℤ q n) X j) +ℤ pos (d * s) *ℤ q k
     rows k kh =
         rw (sum_below-with_last n (a k) X (pos s) (sent_to_last n a X +ℤ pos d *ℤ q n)) (elim (cases_eq k n) [
           | inl e ↦ rw e (rw (with_last-at n (pos s) (sent_to_last n a X +ℤ pos d *ℤ q n) X) (last (sent_to_last n a X) (D n) (a n n) (pos s) (pos d) (q n) same))
-          | inr e ↦ rw (with_last-below n (pos s) (sent_to_last n a X +ℤ pos d *ℤ q n) X k (omega arith)) (within (pos s) (D k) (X k) (sum_below n (λ j. a k j *ℤ X j)) (a k n) (sent_to_last n a X) (pos d) (q k) (q n) (left.solves k (omega arith) ∙ ap (λ (z : ℤ). z +ℤ pos d *ℤ reduced_q n a q s k) (sum_below-combined n (a k) (a n) X (pos s) (a k n))))
+          | inr e ↦ rw (with_last-below n (pos s) (sent_to_last n a X +ℤ pos d *ℤ q n) X k (omega arith))
+              (within (pos s) (D k) (X k) (sum_below n (λ j. a k j *ℤ X j)) (a k n) (sent_to_last n a X) (pos d) (q k) (q n)
+              (left.solves k (omega arith) ∙ ap (λ (z : ℤ). z +ℤ pos d *ℤ reduced_q n a q s k) (sum_below-combined n (a k) (a n) X (pos s) (a k n))))
         ])
       where
         last : (l D b s d r : ℤ) → D -ℤ b ≡ s → D *ℤ (l +ℤ d *ℤ r) ≡ s *ℤ l +ℤ b *ℤ (l +ℤ d *ℤ r) +ℤ (d *ℤ s) *ℤ r

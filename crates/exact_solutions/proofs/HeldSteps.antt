@@ -50,8 +50,14 @@ module _ (m n : ℕ) (some_m : 0 < m) (some_n : 0 < n) (p : List Entries) (w : L
             (rw (ramps_at_cell (λ r. pos (open_conductance r.c r.top)) k w) at e) in
             elim anchored [
               | inl (x, has, conducts) ↦ All-contains (λ x. 0 < x.lo → ⊥) (entries_at p k).fixed x (no_fixed m n some_m some_n p w within k k_in no_b) has conducts
-              | inr (inl (x, has, conducts)) ↦ All-contains (λ x. 0 < x.lo → ⊥) (entries_at p k).rivers x (All-back (RiverWithin m n) (λ x. 0 < x.lo → ⊥) (λ x. x.c ≡ 0) (λ x y r e. some_conducts m n some_m some_n p w within x.lo x.hi y.c r.c e) (entries_at p k).rivers u.rivers (cell_within m n p w within k k_in).rivers (none_conduct (λ (x : WholeEntry). x.c) u.rivers no_r)) has conducts
-              | inr (inr (x, has, conducts)) ↦ All-contains (λ x. 0 < x.lo → ⊥) (entries_at p k).drains x (All-back (DrainWithin m n) (λ x. 0 < x.lo → ⊥) (λ x. x.c ≡ 0) (λ x y r e. some_conducts m n some_m some_n p w within x.lo x.hi y.c r.c e) (entries_at p k).drains u.drains (cell_within m n p w within k k_in).drains (none_conduct (λ (x : WholeEntry). x.c) u.drains no_d)) has conducts
+              | inr (inl (x, has, conducts)) ↦ All-contains (λ x. 0 < x.lo → ⊥) (entries_at p k).rivers x
+                  (All-back (RiverWithin m n) (λ x. 0 < x.lo → ⊥) (λ x. x.c ≡ 0) (λ x y r e. some_conducts m n some_m some_n p w within x.lo x.hi y.c r.c e)
+                  (entries_at p k).rivers u.rivers (cell_within m n p w within k k_in).rivers (none_conduct (λ (x : WholeEntry). x.c) u.rivers no_r)) has
+                  conducts
+              | inr (inr (x, has, conducts)) ↦ All-contains (λ x. 0 < x.lo → ⊥) (entries_at p k).drains x
+                  (All-back (DrainWithin m n) (λ x. 0 < x.lo → ⊥) (λ x. x.c ≡ 0) (λ x y r e. some_conducts m n some_m some_n p w within x.lo x.hi y.c r.c e)
+                  (entries_at p k).drains u.drains (cell_within m n p w within k k_in).drains (none_conduct (λ (x : WholeEntry). x.c) u.drains no_d)) has
+                  conducts
             ]
 
 pub solution_exists : HeldHaveASolution
@@ -60,7 +66,8 @@ solution_exists p fits held above s e encloses =
     let (w, over) = whole_step n (10 ^ s) (10 ^ 9) e common in
     let within = step_within s n n (length p) p e w encloses.cells over (links_good p fits) in
     let both = mutual_whole (n * 10 ^ s) (n * 10 ^ 9) e w (linked s p e fits encloses) over in
-    let (d, X, is) = whole_solution_exists (length w) (a_of w) (both_ways w both) (b_of w) (q_of w) (ramps_from 0 w) (held_below n n some_n some_n p w within held) (held_above n n some_n some_n p w within above) in (
+    let (d, X, is) = whole_solution_exists (length w) (a_of w) (both_ways w both) (b_of w) (q_of w) (ramps_from 0 w)
+    (held_below n n some_n some_n p w within held) (held_above n n some_n some_n p w within above) in (
       n * 10 ^ 9 * d,
       X,
       mul-pos (mul-pos some_n (ten_pos 9)) is.some,
@@ -77,5 +84,7 @@ solution_is_one p fits held s e encloses d k X Y some_d some_k solves_x solves_y
     let some_m = mul-pos some_n (ten_pos 9) in
     let x = solves_whole (n * 10 ^ s) (n * 10 ^ 9) some_k' some_m e w over both d X some_d solves_x in
     let y = solves_whole (n * 10 ^ s) (n * 10 ^ 9) some_k' some_m e w over both k Y some_k solves_y in
-    let same = one_whole_solution (length w) (a_of w) (b_of w) (q_of w) (ramps_from 0 w) (both_ways w both) (held_below n n some_n some_n p w within held) d k _ _ x y c (omega (arith, i, AllZip-length (CellEncloses s) p e encloses.cells, AllZip-length (CellWithin n n (length p)) p w within)) in
+    let same = one_whole_solution (length w) (a_of w) (b_of w) (q_of w) (ramps_from 0 w) (both_ways w both)
+    (held_below n n some_n some_n p w within held) d k _ _ x y c
+    (omega (arith, i, AllZip-length (CellEncloses s) p e encloses.cells, AllZip-length (CellWithin n n (length p)) p w within)) in
     crossed_same d k (X c) (Y c) some_d some_k (cancel_same (n * 10 ^ 9) _ _ some_m (swap (X c) (pos k) (pos (n * 10 ^ 9)) ∙ same ∙ swap (Y c) (pos (n * 10 ^ 9)) (pos d)))

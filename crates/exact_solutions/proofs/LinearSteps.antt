@@ -45,10 +45,12 @@ module _ (n : ℕ) (a : ℕ → ℕ → ℤ) (b : ℕ → ℕ) (both : AreMutual
       )
 
 -- where there are heads at which no cell gains water, a step that is held from below has a known head at each closed set
-pub not_loose : (n : ℕ) (a : ℕ → ℕ → ℤ) (b : ℕ → ℕ) (q : ℕ → ℤ) → AreMutual n a → IsHeldFromBelow n a b q [] → (d : ℕ) (Z : ℕ → ℤ) → 0 < d → ((i : ℕ) → i < n → net_flow n a b q [] d Z i ≤ℤ pos 0) → IsNowhereLoose n a b
+pub not_loose : (n : ℕ) (a : ℕ → ℕ → ℤ) (b : ℕ → ℕ) (q : ℕ → ℤ) → AreMutual n a → IsHeldFromBelow n a b q [] → (d : ℕ) (Z : ℕ → ℤ) → 0 < d →
+    ((i : ℕ) → i < n → net_flow n a b q [] d Z i ≤ℤ pos 0) → IsNowhereLoose n a b
 not_loose n a b q both held d Z some loses S closed none c h inside =
     let (T, carried) = held S closed none c h inside in
-    carried_gain n a T Z (λ i. q i -ℤ pos 0) d both carried.closed some carried.carries (λ i k e. let still : pos (b i) *ℤ Z i ≡ pos 0 = rw (none i k (carried.within i k e)) (zero-*ℤ (Z i)) in omega (arith, ints, same (pos d) (q i), loses i k))
+    carried_gain n a T Z (λ i. q i -ℤ pos 0) d both carried.closed some carried.carries (λ i k e.
+    let still : pos (b i) *ℤ Z i ≡ pos 0 = rw (none i k (carried.within i k e)) (zero-*ℤ (Z i)) in omega (arith, ints, same (pos d) (q i), loses i k))
   where
     same : (d q : ℤ) → d *ℤ (q -ℤ pos 0) ≡ d *ℤ q
     same d q = rw (zero q) refl
@@ -67,7 +69,13 @@ cancel_same m a b some e = le_anti a b (cancel_right m a b some (same_at_most _ 
 -- heads, feet and tops times k
 rise_scaled : (t : ℤ) (top : Option ℤ) (d k : ℕ) (x : ℤ) → rise t top (d * k) (x *ℤ pos k) ≡ rise t top d x *ℤ pos k
 rise_scaled t None d k x = sym (max_times k (x -ℤ t *ℤ pos d) (pos 0) ∙ rw (sub_mul x (t *ℤ pos d) (pos k), mul_assoc t (pos d) (pos k), zero-*ℤ (pos k)) refl)
-rise_scaled t (Some u) d k x = sym (max_times k (int_min x (u *ℤ pos d) -ℤ t *ℤ pos d) (pos 0) ∙ rw (sub_mul (int_min x (u *ℤ pos d)) (t *ℤ pos d) (pos k), min_times k x (u *ℤ pos d), mul_assoc t (pos d) (pos k), mul_assoc u (pos d) (pos k), zero-*ℤ (pos k)) refl)
+rise_scaled t (Some u) d k x = sym (max_times k (int_min x (u *ℤ pos d) -ℤ t *ℤ pos d) (pos 0) ∙ rw (
+  sub_mul (int_min x (u *ℤ pos d)) (t *ℤ pos d) (pos k),
+  min_times k x (u *ℤ pos d),
+  mul_assoc t (pos d) (pos k),
+  mul_assoc u (pos d) (pos k),
+  zero-*ℤ (pos k),
+) refl)
 
 flow_scaled : (d k : ℕ) (x : ℤ) (i : ℕ) (r : Ramp) → ramp_flow (d * k) (x *ℤ pos k) i r ≡ ramp_flow d x i r *ℤ pos k
 flow_scaled d k x i r = cases (nat_eq r.cell i)
@@ -98,7 +106,9 @@ module _ (n : ℕ) (a : ℕ → ℕ → ℤ) where
       ring l d q b x r k = rw (as_diff l, as_diff d, as_diff q, as_diff b, as_diff x, as_diff r, as_diff k) (simp diffs (same_diff _ _ _ _ (omega arith)))
 
   -- the comparison of heads over two denominators
-  pub comparison_over : (b : ℕ → ℕ) (q : ℕ → ℤ) (rs : List Ramp) → AreMutual n a → IsHeldFromBelow n a b q rs → (d e : ℕ) (X Y : ℕ → ℤ) → 0 < d → 0 < e → ((i : ℕ) → i < n → net_flow n a b q rs d X i ≤ℤ pos 0) → ((i : ℕ) → i < n → pos 0 ≤ℤ net_flow n a b q rs e Y i) → (i : ℕ) → i < n → (Y i *ℤ pos d) ≤ℤ (X i *ℤ pos e)
+  pub comparison_over : (b : ℕ → ℕ) (q : ℕ → ℤ) (rs : List Ramp) → AreMutual n a → IsHeldFromBelow n a b q rs → (d e : ℕ) (X Y : ℕ → ℤ) → 0 < d → 0 < e →
+      ((i : ℕ) → i < n → net_flow n a b q rs d X i ≤ℤ pos 0) → ((i : ℕ) → i < n → pos 0 ≤ℤ net_flow n a b q rs e Y i) → (i : ℕ) → i < n →
+      (Y i *ℤ pos d) ≤ℤ (X i *ℤ pos e)
   comparison_over b q rs both held d e X Y some_d some_e loses gains i h =
       comparison n a b q rs both held (d * e) (λ j. X j *ℤ pos e) (λ j. Y j *ℤ pos d) (mul-pos some_d some_e)
       (λ k j up. rw (net_flow-scaled b q rs d e X k) (less e _ (loses k j)))

@@ -40,7 +40,8 @@ flows_at_most_deep u v h fixed evaps =
     drains (x ∷ xs) = omega (arith, ints, drain x, drains xs)
 
 -- and are its constant flows, where no river or drain conducts either
-flows_constant : (u : WholeCell) (v : ℤ) (h : ℕ → ℤ) → All (λ x. x.c ≡ 0) u.fixed → All (λ x. x.c ≡ 0) u.rivers → All (λ x. x.c ≡ 0) u.drains → length u.evaps ≡ 0 → whole_balance (without_links u) v h ≡ total (λ q. q) u.flows
+flows_constant : (u : WholeCell) (v : ℤ) (h : ℕ → ℤ) → All (λ x. x.c ≡ 0) u.fixed → All (λ x. x.c ≡ 0) u.rivers → All (λ x. x.c ≡ 0) u.drains → length u.evaps ≡
+    0 → whole_balance (without_links u) v h ≡ total (λ q. q) u.flows
 flows_constant u v h fixed rivers drains evaps =
     omega (
       arith,
@@ -53,7 +54,8 @@ flows_constant u v h fixed rivers drains evaps =
 
 module _ (e : List ExactCell) (inside : ℕ → Bool) (linked : AreLinked e) (loose : HasNoKnownHead e inside) (k m : ℕ) (w : List WholeCell) (over : AllZip (CellOver k m) e w) where
   no_fixed : (c : ℕ) → c < length e → inside c ≡ true → All (λ x. x.c ≡ 0) (whole_at w c).fixed
-  no_fixed c i t = All-zip (FixedOver k m) (λ x. x.conductance.num ≡ 0) (λ x. x.c ≡ 0) (λ x y r h. none_shared k y.c x.conductance h r.c) (cell_at e c).fixed (whole_at w c).fixed (cell_over k m e w over c i).fixed (loose.fixed c i t)
+  no_fixed c i t = All-zip (FixedOver k m) (λ x. x.conductance.num ≡ 0) (λ x. x.c ≡ 0) (λ x y r h. none_shared k y.c x.conductance h r.c) (cell_at e c).fixed
+      (whole_at w c).fixed (cell_over k m e w over c i).fixed (loose.fixed c i t)
 
   no_evaps : (c : ℕ) → c < length e → inside c ≡ true → length (whole_at w c).evaps ≡ 0
   no_evaps c i t = sym (AllZip-length (EvapOver k m) (cell_at e c).evaps (whole_at w c).evaps (cell_over k m e w over c i).evaps) ∙ ap length (loose.evaps c i t)
@@ -67,16 +69,21 @@ module _ (e : List ExactCell) (inside : ℕ → Bool) (linked : AreLinked e) (lo
             arith,
             ints,
             balance-links (whole_at w c) (Y c) Y,
-            (rw t at (sum_below-tight (length w) (λ c. cond (inside c) (whole_balance (whole_at w c) (Y c) Y) (pos 0)) (λ c. cond (inside c) (total (whole_link Y (Y c)) (whole_at w c).links +ℤ whole_deep (whole_at w c)) (pos 0)) (λ c i. less c i (inside c) refl) sums c i)),
+            (rw t at (sum_below-tight (length w) (λ c. cond (inside c) (whole_balance (whole_at w c) (Y c) Y) (pos 0)) (λ c.
+                cond (inside c) (total (whole_link Y (Y c)) (whole_at w c).links +ℤ whole_deep (whole_at w c)) (pos 0)) (λ c i.
+                less c i (inside c) refl) sums c i)),
           )
         where
-          less : (c : ℕ) → c < length w → (s : Bool) → inside c ≡ s → cond s (whole_balance (whole_at w c) (Y c) Y) (pos 0) ≤ℤ cond s (total (whole_link Y (Y c)) (whole_at w c).links +ℤ whole_deep (whole_at w c)) (pos 0)
+          less : (c : ℕ) → c < length w → (s : Bool) → inside c ≡ s →
+              cond s (whole_balance (whole_at w c) (Y c) Y) (pos 0) ≤ℤ cond s (total (whole_link Y (Y c)) (whole_at w c).links +ℤ whole_deep (whole_at w c))
+              (pos 0)
           less c i true t =
               let here : c < length e = omega (arith, i, same_length k m e w over) in
               omega (arith, ints, balance-links (whole_at w c) (Y c) Y, flows_at_most_deep (whole_at w c) (Y c) Y (no_fixed c here t) (no_evaps c here t))
           less c i false t = omega (arith, ints)
 
-          sums : sum_below (length w) (λ c. cond (inside c) (total (whole_link Y (Y c)) (whole_at w c).links +ℤ whole_deep (whole_at w c)) (pos 0)) ≤ℤ sum_below (length w) (λ c. cond (inside c) (whole_balance (whole_at w c) (Y c) Y) (pos 0))
+          sums : sum_below (length w) (λ c. cond (inside c) (total (whole_link Y (Y c)) (whole_at w c).links +ℤ whole_deep (whole_at w c)) (pos 0)) ≤ℤ sum_below
+              (length w) (λ c. cond (inside c) (whole_balance (whole_at w c) (Y c) Y) (pos 0))
           sums =
               omega (
                 arith,
@@ -96,9 +103,11 @@ module _ (e : List ExactCell) (inside : ℕ → Bool) (linked : AreLinked e) (lo
 abbrev AnotherSolution : List ExactCell → ℕ → (ℕ → ℤ) → Type 0
 AnotherSolution e d X = (k : ℕ) × (Z : ℕ → ℤ) × (0 < k) × SolvesStep e k Z × (c : ℕ) × (c < length e) × (Same (share d (X c)) (share k (Z c)) → ⊥)
 
-lowered_solution : (e : List ExactCell) (inside : ℕ → Bool) → AreLinked e → HasNoKnownHead e inside → (n d : ℕ) (X : ℕ → ℤ) → 0 < n → 0 < d → (w : List WholeCell) → AllZip (CellOver (n * 1) (n * d)) e w →
+lowered_solution : (e : List ExactCell) (inside : ℕ → Bool) → AreLinked e → HasNoKnownHead e inside → (n d : ℕ) (X : ℕ → ℤ) → 0 < n → 0 < d →
+    (w : List WholeCell) → AllZip (CellOver (n * 1) (n * d)) e w →
     ((c : ℕ) → c < length w → whole_balance (whole_at w c) (X c *ℤ pos n) (λ k. X k *ℤ pos n) ≡ pos 0) →
-    ((c : ℕ) → c < length e → inside c ≡ true → whole_balance (without_links (whole_at w c)) (X c *ℤ pos n -ℤ pos 1) (λ k. X k *ℤ pos n) ≡ whole_balance (without_links (whole_at w c)) (X c *ℤ pos n) (λ k. X k *ℤ pos n)) →
+    ((c : ℕ) → c < length e → inside c ≡ true → whole_balance (without_links (whole_at w c)) (X c *ℤ pos n -ℤ pos 1) (λ k. X k *ℤ pos n) ≡
+    whole_balance (without_links (whole_at w c)) (X c *ℤ pos n) (λ k. X k *ℤ pos n)) →
     AnotherSolution e d X
 lowered_solution e inside linked loose n d X some_n some_d w over zeros stays =
     let (c, here, t) = loose.member in
@@ -106,7 +115,8 @@ lowered_solution e inside linked loose n d X some_n some_d w over zeros stays =
       n * d,
       lowered inside (λ k. X k *ℤ pos n),
       some,
-      whole_balances_solve (n * 1) (n * d) e w (lowered inside (λ k. X k *ℤ pos n)) (omega (arith, some_n)) some over (lowered_balances e inside linked loose.closed (n * 1) (n * d) w over (λ k. X k *ℤ pos n) stays zeros),
+      whole_balances_solve (n * 1) (n * d) e w (lowered inside (λ k. X k *ℤ pos n)) (omega (arith, some_n)) some over
+          (lowered_balances e inside linked loose.closed (n * 1) (n * d) w over (λ k. X k *ℤ pos n) stays zeros),
       c,
       here,
       (λ same. differ (X c) n d some_d (inside c) t (same_crossed d (n * d) (X c) _ some_d some same)),
@@ -122,21 +132,27 @@ drained_have_another e inside linked loose most d X some solves =
     let zeros = whole_solves (n * 1) (n * d) e w d X (λ k. X k *ℤ pos n) over solves (λ c. heads_over n d some (X c)) in
     let same = AllZip-length (CellOver (n * 1) (n * d)) e w over in
     let deep = over_le (n * 1 * (n * d)) _ _ _ _
-    (IsOver-inside (n * 1 * (n * d)) (length e) inside (λ c. deep_flow (cell_at e c)) (λ c. whole_deep (whole_at w c)) (λ c i. deep_over (n * 1) (n * d) (cell_at e c) (whole_at w c) (AllZip-at (CellOver (n * 1) (n * d)) e w c no_cell no_whole over i)))
+    (IsOver-inside (n * 1 * (n * d)) (length e) inside (λ c. deep_flow (cell_at e c)) (λ c. whole_deep (whole_at w c)) (λ c i.
+    deep_over (n * 1) (n * d) (cell_at e c) (whole_at w c) (AllZip-at (CellOver (n * 1) (n * d)) e w c no_cell no_whole over i)))
     (IsOver-none (n * 1 * (n * d))) most in
-    lowered_solution e inside linked loose n d X some_n some w over zeros (drained_stays e inside linked loose (n * 1) (n * d) w over (λ k. X k *ℤ pos n) zeros (mutual_whole (n * 1) (n * d) e w linked over) (rw same at deep))
+    lowered_solution e inside linked loose n d X some_n some w over zeros (drained_stays e inside linked loose (n * 1) (n * d) w over (λ k. X k *ℤ pos n) zeros
+    (mutual_whole (n * 1) (n * d) e w linked over) (rw same at deep))
 
 pub afloat_have_another : AfloatHaveAnother
 afloat_have_another e inside linked afloat d X some solves =
     let (n, some_n, common) = step_common e in
     let (w, over) = whole_step n 1 d e common in
     let zeros = whole_solves (n * 1) (n * d) e w d X (λ k. X k *ℤ pos n) over solves (λ c. heads_over n d some (X c)) in
-    lowered_solution e inside linked afloat.loose n d X some_n some w over zeros (λ c i t. constant n w over c i t (X c *ℤ pos n -ℤ pos 1) (λ k. X k *ℤ pos n) ∙ sym (constant n w over c i t (X c *ℤ pos n) (λ k. X k *ℤ pos n)))
+    lowered_solution e inside linked afloat.loose n d X some_n some w over zeros (λ c i t.
+    constant n w over c i t (X c *ℤ pos n -ℤ pos 1) (λ k. X k *ℤ pos n) ∙ sym (constant n w over c i t (X c *ℤ pos n) (λ k. X k *ℤ pos n)))
   where
-    constant : (n : ℕ) (w : List WholeCell) (over : AllZip (CellOver (n * 1) (n * d)) e w) (c : ℕ) → c < length e → inside c ≡ true → (v : ℤ) (h : ℕ → ℤ) → whole_balance (without_links (whole_at w c)) v h ≡ total (λ q. q) (whole_at w c).flows
+    constant : (n : ℕ) (w : List WholeCell) (over : AllZip (CellOver (n * 1) (n * d)) e w) (c : ℕ) → c < length e → inside c ≡ true → (v : ℤ) (h : ℕ → ℤ) →
+        whole_balance (without_links (whole_at w c)) v h ≡ total (λ q. q) (whole_at w c).flows
     constant n w over c i t v h =
         let cell = AllZip-at (CellOver (n * 1) (n * d)) e w c no_cell no_whole over i in
         flows_constant (whole_at w c) v h (no_fixed e inside linked afloat.loose (n * 1) (n * d) w over c i t)
-        (All-zip (RiverOver (n * 1) (n * d)) (λ x. x.conductance.num ≡ 0) (λ x. x.c ≡ 0) (λ x y r h. none_shared (n * 1) y.c x.conductance h r.c) (cell_at e c).rivers (whole_at w c).rivers cell.rivers (afloat.rivers c i t))
-        (All-zip (DrainOver (n * 1) (n * d)) (λ x. x.conductance.num ≡ 0) (λ x. x.c ≡ 0) (λ x y r h. none_shared (n * 1) y.c x.conductance h r.c) (cell_at e c).drains (whole_at w c).drains cell.drains (afloat.drains c i t))
+        (All-zip (RiverOver (n * 1) (n * d)) (λ x. x.conductance.num ≡ 0) (λ x. x.c ≡ 0) (λ x y r h. none_shared (n * 1) y.c x.conductance h r.c)
+        (cell_at e c).rivers (whole_at w c).rivers cell.rivers (afloat.rivers c i t))
+        (All-zip (DrainOver (n * 1) (n * d)) (λ x. x.conductance.num ≡ 0) (λ x. x.c ≡ 0) (λ x y r h. none_shared (n * 1) y.c x.conductance h r.c)
+        (cell_at e c).drains (whole_at w c).drains cell.drains (afloat.drains c i t))
         (no_evaps e inside linked afloat.loose (n * 1) (n * d) w over c i t)

@@ -22,9 +22,14 @@ OthersSolved n a rs = (b : ℕ → ℕ) (q : ℕ → ℤ) → IsHeldFromBelow n 
 
 module _ (n : ℕ) (a : ℕ → ℕ → ℤ) (both : AreMutual n a) (rs : List Ramp) (others : OthersSolved n a rs) where
   -- a ramp that never carries anything
-  pub solution-idle : (b : ℕ → ℕ) (q : ℕ → ℤ) (r : Ramp) → IsHeldFromBelow n a b q (r ∷ rs) → HasSinking n a b q (r ∷ rs) → ((d : ℕ) (x : ℤ) (i : ℕ) → i < n → ramp_flow d x i r ≡ pos 0) → HasWholeSolution n a b q (r ∷ rs)
+  pub solution-idle : (b : ℕ → ℕ) (q : ℕ → ℤ) (r : Ramp) → IsHeldFromBelow n a b q (r ∷ rs) → HasSinking n a b q (r ∷ rs) →
+      ((d : ℕ) (x : ℤ) (i : ℕ) → i < n → ramp_flow d x i r ≡ pos 0) → HasWholeSolution n a b q (r ∷ rs)
   solution-idle b q r held (e, Z, sinks) idle =
-      let (d, X, is) = others b q (held_without n a b q rs r held) (e, Z, record { some = sinks.some; loses = λ i h. omega (arith, ints, net_flow-cons n a b q r rs e Z i, idle e (Z i) i h, sinks.loses i h) }) in
+      let (d, X, is) = others b q (held_without n a b q rs r held) (
+        e,
+        Z,
+        record { some = sinks.some; loses = λ i h. omega (arith, ints, net_flow-cons n a b q r rs e Z i, idle e (Z i) i h, sinks.loses i h) },
+      ) in
       (d, X, record { some = is.some; solves = λ i h. net_flow-cons n a b q r rs d X i ∙ omega (arith, ints, is.solves i h, idle d (X i) i h) })
 
   module _ (k c : ℕ) (t : ℤ) (b : ℕ → ℕ) (q : ℕ → ℤ) where
@@ -32,11 +37,13 @@ module _ (n : ℕ) (a : ℕ → ℕ → ℤ) (both : AreMutual n a) (rs : List R
     abbrev MiddleSolution : ℕ → (ℕ → ℤ) → Type 0
     MiddleSolution d X = IsSolution n a (conductance_added k c b) (flow_added k (pos c *ℤ t) q) rs d X
 
-    middle_flow : (e : ℕ) (X : ℕ → ℤ) (i : ℕ) → net_flow n a (conductance_added k c b) (flow_added k (pos c *ℤ t) q) rs e X i ≡ net_flow n a b q rs e X i +ℤ cond (nat_eq k i) (pos e *ℤ (pos c *ℤ t) -ℤ pos c *ℤ X i) (pos 0)
+    middle_flow : (e : ℕ) (X : ℕ → ℤ) (i : ℕ) → net_flow n a (conductance_added k c b) (flow_added k (pos c *ℤ t) q) rs e X i ≡
+        net_flow n a b q rs e X i +ℤ cond (nat_eq k i) (pos e *ℤ (pos c *ℤ t) -ℤ pos c *ℤ X i) (pos 0)
     middle_flow e X i = net_flow-added n a b q rs k c (pos c *ℤ t) e X i
 
     -- its head lies below the foot: then it lets no cell gain water without the ramp, and the solution without the ramp lies lower still
-    pub solution-below_foot : (top : Option ℤ) → k < n → IsHeldFromBelow n a b q (ramp k c t top ∷ rs) → (e : ℕ) (X : ℕ → ℤ) → MiddleSolution e X → X k ≤ℤ (t *ℤ pos e) → HasWholeSolution n a b q (ramp k c t top ∷ rs)
+    pub solution-below_foot : (top : Option ℤ) → k < n → IsHeldFromBelow n a b q (ramp k c t top ∷ rs) → (e : ℕ) (X : ℕ → ℤ) → MiddleSolution e X →
+        X k ≤ℤ (t *ℤ pos e) → HasWholeSolution n a b q (ramp k c t top ∷ rs)
     solution-below_foot top inside held e X middle under =
         let sinks : IsSinking n a b q rs e X = record { some = middle.some; loses = λ i h. omega (arith, ints, middle_flow e X i, middle.solves i h, gives i) } in
         let held' = held_without n a b q rs (ramp k c t top) held in
@@ -65,25 +72,45 @@ module _ (n : ℕ) (a : ℕ → ℕ → ℤ) (both : AreMutual n a) (rs : List R
       record {
         some = middle.some;
         solves = λ i h. net_flow-cons n a b q (ramp k c t top) rs e X i
-            ∙ ap (λ (z : ℤ). net_flow n a b q rs e X i +ℤ z) (cond_same k i _ _ (λ same. ap (λ (z : ℤ). neg_ℤ (pos c *ℤ z)) (subst (λ (z : ℕ). rise t top e (X z) ≡ X z -ℤ t *ℤ pos e) same on) ∙ flow-middle (pos e) (pos c) t (X i)))
+            ∙ ap (λ (z : ℤ). net_flow n a b q rs e X i +ℤ z)
+            (cond_same k i _ _ (λ same. ap (λ (z : ℤ). neg_ℤ (pos c *ℤ z)) (subst (λ (z : ℕ). rise t top e (X z) ≡ X z -ℤ t *ℤ pos e) same on) ∙ flow-middle
+            (pos e) (pos c) t (X i)))
             ∙ sym (middle_flow e X i)
             ∙ middle.solves i h;
       },
     )
 
     -- its head lies above the top: then no cell loses water at it with the full rate, and the solution with the full rate lies higher still
-    pub solution-above_top : (u : ℤ) → t ≤ℤ u → k < n → IsHeldFromBelow n a b q (ramp k c t (Some u) ∷ rs) → HasSinking n a b q (ramp k c t (Some u) ∷ rs) → (d : ℕ) (X : ℕ → ℤ) → MiddleSolution d X → (u *ℤ pos d) ≤ℤ X k → HasWholeSolution n a b q (ramp k c t (Some u) ∷ rs)
+    pub solution-above_top : (u : ℤ) → t ≤ℤ u → k < n → IsHeldFromBelow n a b q (ramp k c t (Some u) ∷ rs) → HasSinking n a b q (ramp k c t (Some u) ∷ rs) →
+        (d : ℕ) (X : ℕ → ℤ) → MiddleSolution d X → (u *ℤ pos d) ≤ℤ X k → HasWholeSolution n a b q (ramp k c t (Some u) ∷ rs)
     solution-above_top u up inside held (e, Z, sinks) d X middle over =
         let held' = held_full n a b q rs k c t u up held in
-        let (f, Y, is) = others (conductance_added k 0 b) full_q held' (e, Z, record { some = sinks.some; loses = λ i h. omega (arith, ints, full_flow e Z i, net_flow-cons n a b q (ramp k c t (Some u)) rs e Z i, takes i, sinks.loses i h) }) in
-        let more = comparison_over n a (conductance_added k 0 b) full_q rs both held' f d Y X is.some middle.some (λ i h. same_at_most _ _ (is.solves i h)) (λ i h. omega (arith, ints, full_flow d X i, middle_flow d X i, gives i, middle.solves i h)) k inside in
+        let (f, Y, is) = others (conductance_added k 0 b) full_q held' (
+          e,
+          Z,
+          record {
+            some = sinks.some;
+            loses = λ i h. omega (
+              arith,
+              ints,
+              full_flow e Z i,
+              net_flow-cons n a b q (ramp k c t (Some u)) rs e Z i,
+              takes i,
+              sinks.loses i h,
+            );
+          },
+        ) in
+        let more = comparison_over n a (conductance_added k 0 b) full_q rs both held' f d Y X is.some middle.some (λ i h. same_at_most _ _ (is.solves i h))
+        (λ i h. omega (arith, ints, full_flow d X i, middle_flow d X i, gives i, middle.solves i h)) k inside in
         let high = above_over d f (X k) (Y k) u middle.some more over in (
           f,
           Y,
           record {
             some = is.some;
             solves = λ i h. net_flow-cons n a b q (ramp k c t (Some u)) rs f Y i
-                ∙ ap (λ (z : ℤ). net_flow n a b q rs f Y i +ℤ z) (cond_same k i _ _ (λ same. ap (λ (z : ℤ). neg_ℤ (pos c *ℤ z)) (rise-above_top t u f (Y i) up (subst (λ (z : ℕ). (u *ℤ pos f) ≤ℤ Y z) same high)) ∙ flow-full (pos f) (pos c) (u -ℤ t) (Y i)))
+                ∙ ap (λ (z : ℤ). net_flow n a b q rs f Y i +ℤ z)
+                (cond_same k i _ _ (λ same. ap (λ (z : ℤ). neg_ℤ (pos c *ℤ z))
+                (rise-above_top t u f (Y i) up (subst (λ (z : ℕ). (u *ℤ pos f) ≤ℤ Y z) same high)) ∙ flow-full (pos f) (pos c) (u -ℤ t) (Y i)))
                 ∙ sym (full_flow f Y i)
                 ∙ is.solves i h;
           },
@@ -92,19 +119,22 @@ module _ (n : ℕ) (a : ℕ → ℕ → ℤ) (both : AreMutual n a) (rs : List R
         full_q : ℕ → ℤ
         full_q = flow_added k (neg_ℤ (pos c *ℤ (u -ℤ t))) q
 
-        full_flow : (e : ℕ) (X : ℕ → ℤ) (i : ℕ) → net_flow n a (conductance_added k 0 b) (flow_added k (neg_ℤ (pos c *ℤ (u -ℤ t))) q) rs e X i ≡ net_flow n a b q rs e X i +ℤ cond (nat_eq k i) (pos e *ℤ neg_ℤ (pos c *ℤ (u -ℤ t)) -ℤ pos 0 *ℤ X i) (pos 0)
+        full_flow : (e : ℕ) (X : ℕ → ℤ) (i : ℕ) → net_flow n a (conductance_added k 0 b) (flow_added k (neg_ℤ (pos c *ℤ (u -ℤ t))) q) rs e X i ≡
+            net_flow n a b q rs e X i +ℤ cond (nat_eq k i) (pos e *ℤ neg_ℤ (pos c *ℤ (u -ℤ t)) -ℤ pos 0 *ℤ X i) (pos 0)
         full_flow e X i = net_flow-added n a b q rs k 0 (neg_ℤ (pos c *ℤ (u -ℤ t))) e X i
 
         takes : (i : ℕ) → cond (nat_eq k i) (pos e *ℤ neg_ℤ (pos c *ℤ (u -ℤ t)) -ℤ pos 0 *ℤ Z i) (pos 0) ≤ℤ ramp_flow e (Z i) i (ramp k c t (Some u))
         takes i = cond_less k i _ _ (λ same. rw (← flow-full (pos e) (pos c) (u -ℤ t) (Z i)) (loss_falls c _ _ (rw (extent-between t u up) at (rise_within_extent t u e (Z i)))))
 
         gives : (i : ℕ) → cond (nat_eq k i) (pos d *ℤ (pos c *ℤ t) -ℤ pos c *ℤ X i) (pos 0) ≤ℤ cond (nat_eq k i) (pos d *ℤ neg_ℤ (pos c *ℤ (u -ℤ t)) -ℤ pos 0 *ℤ X i) (pos 0)
-        gives i = cond_less k i _ _ (λ same. rw (← flow-full (pos d) (pos c) (u -ℤ t) (X i), ← flow-middle (pos d) (pos c) t (X i)) (loss_falls c _ _ (rw sub_mul (omega (arith, ints, subst (λ (z : ℕ). (u *ℤ pos d) ≤ℤ X z) same over)))))
+        gives i = cond_less k i _ _ (λ same. rw (← flow-full (pos d) (pos c) (u -ℤ t) (X i), ← flow-middle (pos d) (pos c) t (X i))
+            (loss_falls c _ _ (rw sub_mul (omega (arith, ints, subst (λ (z : ℕ). (u *ℤ pos d) ≤ℤ X z) same over)))))
 
 -- A step with ramps that is held from below and above has a solution: by induction on its ramps.
 module _ (n : ℕ) (a : ℕ → ℕ → ℤ) (both : AreMutual n a) (rs : List Ramp) (others : OthersSolved n a rs) where
   -- a ramp that conducts, in a cell of the step
-  conducting_ramp : (k c : ℕ) (t : ℤ) (top : Option ℤ) (b : ℕ → ℕ) (q : ℕ → ℤ) → k < n → IsHeldFromBelow n a b q (ramp k (suc c) t top ∷ rs) → HasSinking n a b q (ramp k (suc c) t top ∷ rs) → HasWholeSolution n a b q (ramp k (suc c) t top ∷ rs)
+  conducting_ramp : (k c : ℕ) (t : ℤ) (top : Option ℤ) (b : ℕ → ℕ) (q : ℕ → ℤ) → k < n → IsHeldFromBelow n a b q (ramp k (suc c) t top ∷ rs) →
+      HasSinking n a b q (ramp k (suc c) t top ∷ rs) → HasWholeSolution n a b q (ramp k (suc c) t top ∷ rs)
   conducting_ramp k c t None b q inside held sinks =
       let (d, X, middle) = others (conductance_added k (suc c) b) (flow_added k (pos (suc c) *ℤ t) q) (held_middle n a b q rs k c t None held) (sinking_middle n a b q rs k (suc c) t None sinks) in
       by_lt_z (X k) (t *ℤ pos d)
@@ -114,7 +144,8 @@ module _ (n : ℕ) (a : ℕ → ℕ → ℤ) (both : AreMutual n a) (rs : List R
       by_lt_z u t
       (λ lt. solution-idle n a both rs others b q (ramp k (suc c) t (Some u)) held sinks (λ d x i h. cond_same k i _ (pos 0) (λ same. gone (rise-no_extent t u d x (weaken _ _ lt))) ∙ cond_none k i))
       (λ up.
-      let (d, X, middle) = others (conductance_added k (suc c) b) (flow_added k (pos (suc c) *ℤ t) q) (held_middle n a b q rs k c t (Some u) held) (sinking_middle n a b q rs k (suc c) t (Some u) sinks) in
+      let (d, X, middle) = others (conductance_added k (suc c) b) (flow_added k (pos (suc c) *ℤ t) q) (held_middle n a b q rs k c t (Some u) held)
+      (sinking_middle n a b q rs k (suc c) t (Some u) sinks) in
       by_lt_z (X k) (t *ℤ pos d)
       (λ lt. solution-below_foot n a both rs others k (suc c) t b q (Some u) inside held d X middle (weaken _ _ lt))
       (λ le.
@@ -128,7 +159,8 @@ module _ (n : ℕ) (a : ℕ → ℕ → ℤ) (both : AreMutual n a) (rs : List R
       gone : {z : ℤ} → z ≡ pos 0 → neg_ℤ (pos (suc c) *ℤ z) ≡ pos 0
       gone {z} e = rw (e, *ℤ-zero (pos (suc c))) refl
 
-  one_more : (k c : ℕ) (t : ℤ) (top : Option ℤ) (b : ℕ → ℕ) (q : ℕ → ℤ) → IsHeldFromBelow n a b q (ramp k c t top ∷ rs) → HasSinking n a b q (ramp k c t top ∷ rs) → HasWholeSolution n a b q (ramp k c t top ∷ rs)
+  one_more : (k c : ℕ) (t : ℤ) (top : Option ℤ) (b : ℕ → ℕ) (q : ℕ → ℤ) → IsHeldFromBelow n a b q (ramp k c t top ∷ rs) →
+      HasSinking n a b q (ramp k c t top ∷ rs) → HasWholeSolution n a b q (ramp k c t top ∷ rs)
   one_more k zero t top b q held sinks = solution-idle n a both rs others b q (ramp k 0 t top) held sinks (λ d x i h. cond_same k i _ (pos 0) (λ same. gone (rise t top d x)) ∙ cond_none k i)
     where
       gone : (z : ℤ) → neg_ℤ (pos 0 *ℤ z) ≡ pos 0

@@ -38,7 +38,8 @@ module _ (n : ℕ) (a : ℕ → ℕ → ℤ) (b : ℕ → ℕ) (q : ℕ → ℤ)
   pub held_without : (r : Ramp) → IsHeldFromBelow n a b q (r ∷ rs) → IsHeldFromBelow n a b q rs
   held_without r held = held_where_deeper n a b b q q (r ∷ rs) rs held (λ i h e. e) (λ i h e. omega (arith, ints, full_rate_nonneg i r))
 
-  pub held_middle : (k c : ℕ) (t : ℤ) (top : Option ℤ) → IsHeldFromBelow n a b q (ramp k (suc c) t top ∷ rs) → IsHeldFromBelow n a (conductance_added k (suc c) b) (flow_added k (pos (suc c) *ℤ t) q) rs
+  pub held_middle : (k c : ℕ) (t : ℤ) (top : Option ℤ) → IsHeldFromBelow n a b q (ramp k (suc c) t top ∷ rs) →
+      IsHeldFromBelow n a (conductance_added k (suc c) b) (flow_added k (pos (suc c) *ℤ t) q) rs
   held_middle k c t top held =
       held_where_deeper n a b (conductance_added k (suc c) b) q (flow_added k (pos (suc c) *ℤ t) q) (ramp k (suc c) t top ∷ rs) rs held
       (λ i h e. added_zero k (suc c) b i e) (λ i h e. more i (added_zero_away k c b i e))
@@ -88,7 +89,9 @@ module _ (n : ℕ) (a : ℕ → ℕ → ℤ) (b : ℕ → ℕ) (q : ℕ → ℤ)
     (λ j. Z j +ℤ lift k t e Z),
     record {
       some = sinks.some;
-      loses = λ i h. loss _ _ _ _ _ _ (net_flow-added n a b q rs k c (pos c *ℤ t) e (λ j. Z j +ℤ lift k t e Z) i) (net_flow-cons n a b q (ramp k c t top) rs e (λ j. Z j +ℤ lift k t e Z) i) (takes i) (net_flow_lifted n a b q (ramp k c t top ∷ rs) e Z (lift k t e Z) i (lift_nonneg k t e Z)) (sinks.loses i h);
+      loses = λ i h. loss _ _ _ _ _ _ (net_flow-added n a b q rs k c (pos c *ℤ t) e (λ j. Z j +ℤ lift k t e Z) i)
+          (net_flow-cons n a b q (ramp k c t top) rs e (λ j. Z j +ℤ lift k t e Z) i) (takes i)
+          (net_flow_lifted n a b q (ramp k c t top ∷ rs) e Z (lift k t e Z) i (lift_nonneg k t e Z)) (sinks.loses i h);
     },
   )
     where
@@ -96,7 +99,9 @@ module _ (n : ℕ) (a : ℕ → ℕ → ℤ) (b : ℕ → ℕ) (q : ℕ → ℤ)
       loss mid part flow whole ramps old e f h k s = omega (arith, ints)
 
       takes : (i : ℕ) → cond (nat_eq k i) (pos e *ℤ (pos c *ℤ t) -ℤ pos c *ℤ (Z i +ℤ lift k t e Z)) (pos 0) ≤ℤ ramp_flow e (Z i +ℤ lift k t e Z) i (ramp k c t top)
-      takes i = cond_less k i _ _ (λ same. rw (← flow-middle (pos e) (pos c) t (Z i +ℤ lift k t e Z)) (loss_falls c _ _ (rise_within_height t top e (Z i +ℤ lift k t e Z) (lifted-at_foot k t e Z i same))))
+      takes i = cond_less k i _ _ (λ same.
+          rw (← flow-middle (pos e) (pos c) t (Z i +ℤ lift k t e Z))
+          (loss_falls c _ _ (rise_within_height t top e (Z i +ℤ lift k t e Z) (lifted-at_foot k t e Z i same))))
 
   -- and just as much, where it has no top
   sinking_no_top : (k c : ℕ) (t : ℤ) → HasSinking n a (conductance_added k c b) (flow_added k (pos c *ℤ t) q) rs → HasSinking n a b q (ramp k c t None ∷ rs)
@@ -105,7 +110,9 @@ module _ (n : ℕ) (a : ℕ → ℕ → ℤ) (b : ℕ → ℕ) (q : ℕ → ℤ)
     (λ j. Z j +ℤ lift k t e Z),
     record {
       some = sinks.some;
-      loses = λ i h. loss _ _ _ _ _ _ (net_flow-added n a b q rs k c (pos c *ℤ t) e (λ j. Z j +ℤ lift k t e Z) i) (net_flow-cons n a b q (ramp k c t None) rs e (λ j. Z j +ℤ lift k t e Z) i) (same_flow i) (net_flow_lifted n a (conductance_added k c b) (flow_added k (pos c *ℤ t) q) rs e Z (lift k t e Z) i (lift_nonneg k t e Z)) (sinks.loses i h);
+      loses = λ i h. loss _ _ _ _ _ _ (net_flow-added n a b q rs k c (pos c *ℤ t) e (λ j. Z j +ℤ lift k t e Z) i)
+          (net_flow-cons n a b q (ramp k c t None) rs e (λ j. Z j +ℤ lift k t e Z) i) (same_flow i)
+          (net_flow_lifted n a (conductance_added k c b) (flow_added k (pos c *ℤ t) q) rs e Z (lift k t e Z) i (lift_nonneg k t e Z)) (sinks.loses i h);
     },
   )
     where
@@ -113,14 +120,18 @@ module _ (n : ℕ) (a : ℕ → ℕ → ℤ) (b : ℕ → ℕ) (q : ℕ → ℤ)
       loss mid part flow whole ramps old e f h k s = omega (arith, ints)
 
       same_flow : (i : ℕ) → ramp_flow e (Z i +ℤ lift k t e Z) i (ramp k c t None) ≡ cond (nat_eq k i) (pos e *ℤ (pos c *ℤ t) -ℤ pos c *ℤ (Z i +ℤ lift k t e Z)) (pos 0)
-      same_flow i = cond_same k i _ _ (λ same. ap (λ (z : ℤ). neg_ℤ (pos c *ℤ z)) (rise-no_top t e (Z i +ℤ lift k t e Z) (lifted-at_foot k t e Z i same)) ∙ flow-middle (pos e) (pos c) t (Z i +ℤ lift k t e Z))
+      same_flow i = cond_same k i _ _ (λ same.
+          ap (λ (z : ℤ). neg_ℤ (pos c *ℤ z)) (rise-no_top t e (Z i +ℤ lift k t e Z) (lifted-at_foot k t e Z i same)) ∙ flow-middle (pos e) (pos c) t
+          (Z i +ℤ lift k t e Z))
 
   -- a ramp only takes
   sinking_with : (r : Ramp) → HasSinking n a b q rs → HasSinking n a b q (r ∷ rs)
   sinking_with r (e, Z, sinks) = (e, Z, record { some = sinks.some; loses = λ i h. omega (arith, ints, net_flow-cons n a b q r rs e Z i, flow_leaves e (Z i) i r, sinks.loses i h) })
 
 module _ (n : ℕ) (a : ℕ → ℕ → ℤ) (both : AreMutual n a) where
-  one_more : (k c : ℕ) (t : ℤ) (top : Option ℤ) (b : ℕ → ℕ) (q : ℕ → ℤ) (rs : List Ramp) → ((b : ℕ → ℕ) (q : ℕ → ℤ) → IsHeldFromAbove n a b q rs → HasSinking n a b q rs) → IsHeldFromAbove n a b q (ramp k c t top ∷ rs) → HasSinking n a b q (ramp k c t top ∷ rs)
+  one_more : (k c : ℕ) (t : ℤ) (top : Option ℤ) (b : ℕ → ℕ) (q : ℕ → ℤ) (rs : List Ramp) →
+      ((b : ℕ → ℕ) (q : ℕ → ℤ) → IsHeldFromAbove n a b q rs → HasSinking n a b q rs) → IsHeldFromAbove n a b q (ramp k c t top ∷ rs) →
+      HasSinking n a b q (ramp k c t top ∷ rs)
   one_more k c t None b q rs others held = sinking_no_top n a b q rs k c t (others (conductance_added k c b) (flow_added k (pos c *ℤ t) q) (held_above_middle n a b q rs k c t held))
   one_more k c t (Some u) b q rs others held = sinking_with n a b q rs (ramp k c t (Some u)) (others b q (held_above_without n a b q rs k c t u held))
 

@@ -22,7 +22,8 @@ module _ (k m d : ℕ) where
 
   cell_scaled : (e : ExactCell) (w : WholeCell) → CellOver k m e w → CellOver k (m * d) e (scaled d w)
   cell_scaled e w h = record {
-    flows = AllZip-map (FlowOver k m) (FlowOver k (m * d)) (λ z. z *ℤ pos d) (λ x y r. record { flow = subst (λ (n : ℕ). IsOver n x.flow (y *ℤ pos d)) (assoc k m d) (IsOver-scaled (k * m) d x.flow y r.flow) }) e.flows w.flows h.flows;
+    flows = AllZip-map (FlowOver k m) (FlowOver k (m * d)) (λ z. z *ℤ pos d) (λ x y r.
+        record { flow = subst (λ (n : ℕ). IsOver n x.flow (y *ℤ pos d)) (assoc k m d) (IsOver-scaled (k * m) d x.flow y r.flow) }) e.flows w.flows h.flows;
     links = AllZip-links e.links w.links h.links;
     fixed = AllZip-map (FixedOver k m) (FixedOver k (m * d)) (scaled_entry d) (λ x y r. entry_scaled x.conductance x.head x.head y r) e.fixed w.fixed h.fixed;
     rivers = AllZip-map (RiverOver k m) (RiverOver k (m * d)) (scaled_entry d) (λ x y r. entry_scaled x.conductance x.stage x.bottom y r) e.rivers w.rivers h.rivers;
@@ -54,9 +55,11 @@ pub share_is_over : (d : ℕ) (z : ℤ) → 0 < d → IsOver d (share d z) z
 share_is_over d z some = record { is = ap (λ (k : ℕ). z *ℤ pos k) (omega arith) }
 
 -- heads over d at which the balances of a step's whole numbers are zero solve the step
-pub whole_balances_solve : (k d : ℕ) (e : List ExactCell) (w : List WholeCell) (X : ℕ → ℤ) → 0 < k → 0 < d → AllZip (CellOver k d) e w → ((c : ℕ) → c < length w → whole_balance (whole_at w c) (X c) X ≡ pos 0) → SolvesStep e d X
+pub whole_balances_solve : (k d : ℕ) (e : List ExactCell) (w : List WholeCell) (X : ℕ → ℤ) → 0 < k → 0 < d → AllZip (CellOver k d) e w →
+    ((c : ℕ) → c < length w → whole_balance (whole_at w c) (X c) X ≡ pos 0) → SolvesStep e d X
 whole_balances_solve k d e w X some_k some_d over balanced c i =
-    let sum = balance_over k d (share d (X c)) (X c) (share_is_over d (X c) some_d) (λ z. share d (X z)) X (λ z. share_is_over d (X z) some_d) (cell_at e c) (whole_at w c) (AllZip-at (CellOver k d) e w c no_cell no_whole over i) in
+    let sum = balance_over k d (share d (X c)) (X c) (share_is_over d (X c) some_d) (λ z. share d (X z)) X (λ z. share_is_over d (X z) some_d) (cell_at e c)
+    (whole_at w c) (AllZip-at (CellOver k d) e w c no_cell no_whole over i) in
     over_zero (k * d) _ (mul-pos some_k some_d)
     (subst (λ (z : ℤ). IsOver (k * d) (balance (cell_at e c) (share d (X c)) (λ z. share d (X z))) z) (balanced c (omega (arith, i, AllZip-length (CellOver k d) e w over))) sum)
 
@@ -116,7 +119,8 @@ module _ (e : List ExactCell) (inside : ℕ → Bool) (linked : AreLinked e) (cl
     links_same c i =
         let cell = AllZip-at (CellOver k m) e w c no_cell no_whole over i in
         total-same (λ x. inside x.cell ≡ inside c) (whole_link (lowered inside Y) (lowered inside Y c)) (whole_link Y (Y c)) (whole_at w c).links each
-        (All-zip (LinkOver k m) (λ x. inside x.cell ≡ inside c) (λ x. inside x.cell ≡ inside c) (λ x y r h. sym (ap inside r.same) ∙ h) (cell_at e c).links (whole_at w c).links cell.links (links_stay c i))
+        (All-zip (LinkOver k m) (λ x. inside x.cell ≡ inside c) (λ x. inside x.cell ≡ inside c) (λ x y r h. sym (ap inside r.same) ∙ h) (cell_at e c).links
+        (whole_at w c).links cell.links (links_stay c i))
       where
         level : (x y : ℤ) (s : Bool) → x -ℤ cond s (pos 1) (pos 0) -ℤ (y -ℤ cond s (pos 1) (pos 0)) ≡ x -ℤ y
         level x y true = omega (arith, ints)

@@ -28,13 +28,27 @@ abbrev IsBalanced : ℕ → ℕ → ℤ → Type 0
 IsBalanced taken d x = int_max x (pos 0) +ℤ pos taken *ℤ pos d ≡ pos 5 *ℤ pos d
 
 abbrev river_whole : ℕ → ℕ → List WholeCell
-river_whole taken d = record { flows = (neg_ℤ (pos taken) *ℤ pos d) ∷ []; links = []; fixed = []; rivers = record { c = 1; top = pos 5 *ℤ pos d; foot = pos 0 *ℤ pos d } ∷ []; drains = []; evaps = [] } ∷ []
+river_whole taken d = record {
+  flows = (neg_ℤ (pos taken) *ℤ pos d) ∷ [];
+  links = [];
+  fixed = [];
+  rivers =
+      record { c = 1; top = pos 5 *ℤ pos d; foot = pos 0 *ℤ pos d } ∷ [];
+  drains = [];
+  evaps = [];
+} ∷ []
 
 river_over : (taken d : ℕ) → AllZip (CellOver 1 d) (river_and_well taken) (river_whole taken d)
 river_over taken d = grind (arith, whole_flow_over, whole_over)
 
 river_balance : (taken d : ℕ) (X : ℕ → ℤ) → 0 < d → SolvesStep (river_and_well taken) d X → IsBalanced taken d (X 0)
-river_balance taken d X some solves = omega (arith, ints, clamps, neg_mul (pos taken) (pos d), whole_solves 1 d (river_and_well taken) (river_whole taken d) d X X (river_over taken d) solves (λ c. share_is_over d (X c) some) 0 (omega arith))
+river_balance taken d X some solves = omega (
+  arith,
+  ints,
+  clamps,
+  neg_mul (pos taken) (pos d),
+  whole_solves 1 d (river_and_well taken) (river_whole taken d) d X X (river_over taken d) solves (λ c. share_is_over d (X c) some) 0 (omega arith),
+)
 
 river_solved : (taken d : ℕ) (X : ℕ → ℤ) → 0 < d → IsBalanced taken d (X 0) → SolvesStep (river_and_well taken) d X
 river_solved taken d X some balanced = whole_balances_solve 1 d (river_and_well taken) (river_whole taken d) X (omega arith) some (river_over taken d) zeros
@@ -59,7 +73,9 @@ well_within_deep_flow taken less = (
     head_is d X some solves = (omega (arith, ints, clamps, mul_mono_right d (pos taken) (pos 4) (omega (arith, ints)), river_balance taken d X some solves)) ∙ sym (sub_mul (pos 5) (pos taken) (pos d))
 
     one : (d k : ℕ) (X Y : ℕ → ℤ) → 0 < d → 0 < k → SolvesStep (river_and_well taken) d X → SolvesStep (river_and_well taken) k Y → (c : ℕ) → c < 1 → Same (share d (X c)) (share k (Y c))
-    one d k X Y some_d some_k solves_x solves_y zero h = crossed_same d k (X 0) (Y 0) some_d some_k (crossed (pos 5 -ℤ pos taken) (pos d) (pos k) (X 0) (Y 0) (head_is d X some_d solves_x) (head_is k Y some_k solves_y))
+    one d k X Y some_d some_k solves_x solves_y zero h =
+        crossed_same d k (X 0) (Y 0) some_d some_k (crossed (pos 5 -ℤ pos taken) (pos d) (pos k) (X 0) (Y 0) (head_is d X some_d solves_x)
+        (head_is k Y some_k solves_y))
       where
         crossed : (h d k x y : ℤ) → x ≡ h *ℤ d → y ≡ h *ℤ k → x *ℤ k ≡ y *ℤ d
         crossed h d k x y e f = rw (e, f) (swap h d k)
@@ -105,7 +121,9 @@ two_loose_cells = ((1, (λ c. pos 0), omega arith, level_solves 1 (λ c. pos 0) 
       d,
       (λ c. X c +ℤ pos 1),
       some,
-      level_solves d (λ c. X c +ℤ pos 1) some (raised (X 0) (X 1) (whole_solves 1 d two_cells (linked_whole 1 ∷ linked_whole 0 ∷ []) d X X (cells_over d) solves (λ c. share_is_over d (X c) some) 0 (omega arith))),
+      level_solves d (λ c. X c +ℤ pos 1) some
+          (raised (X 0) (X 1) (whole_solves 1 d two_cells (linked_whole 1 ∷ linked_whole 0 ∷ []) d X X (cells_over d) solves (λ c. share_is_over d (X c) some) 0
+          (omega arith))),
       0,
       omega arith,
       one_apart d (X 0) (X 0 +ℤ pos 1) some refl,

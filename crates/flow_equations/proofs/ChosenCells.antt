@@ -39,7 +39,8 @@ module _ (m : FlowModel) (layers : List ℤ) (a b : ℕ) (place : place_in_layer
   -- no active cell lies above the highest one
   not_above : is_active m a ≡ true → is_highest m b ≡ true → layer_of m.grid a < layer_of m.grid b → ⊥
   not_above active highest lt =
-      let here : is_active m (layer_of m.grid a * layer_size m.grid + place_in_layer m.grid b) ≡ true = ap (is_active m) ((λ i. layer_of m.grid a * layer_size m.grid + sym place i) ∙ div-add-mod' a (layer_size m.grid)) ∙ active in
+      let here : is_active m (layer_of m.grid a * layer_size m.grid + place_in_layer m.grid b) ≡ true =
+      ap (is_active m) ((λ i. layer_of m.grid a * layer_size m.grid + sym place i) ∙ div-add-mod' a (layer_size m.grid)) ∙ active in
       let some = any_at (λ k. is_active m (k * layer_size m.grid + place_in_layer m.grid b)) (layer_of m.grid b) (layer_of m.grid a) lt here in
       false≢true (sym (not-true _ highest) ∙ some)
 

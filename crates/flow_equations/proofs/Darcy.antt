@@ -16,7 +16,8 @@ from_both_ends m = record {
   row = (λ a b e. let width = ap (λ i. size (dec_at m.grid.delc i)) e in
       Same-of (in_turn _ _ ∙ (λ i. in_a_row (half (size (delr_at m b)) (width i) (size (hk_at m b)) (thickness m b)) (half (size (delr_at m a)) (width i) (size (hk_at m a)) (thickness m a)))));
   column = (λ a b e. let width = ap (λ j. size (dec_at m.grid.delr j)) e in
-      Same-of (in_turn _ _ ∙ (λ i. in_a_row (half (size (delc_at m b)) (width i) (times (size (hk_at m b)) (size (hani_at m b))) (thickness m b)) (half (size (delc_at m a)) (width i) (times (size (hk_at m a)) (size (hani_at m a))) (thickness m a)))));
+      Same-of (in_turn _ _ ∙ (λ i. in_a_row (half (size (delc_at m b)) (width i) (times (size (hk_at m b)) (size (hani_at m b))) (thickness m b))
+      (half (size (delc_at m a)) (width i) (times (size (hk_at m a)) (size (hani_at m a))) (thickness m a)))));
 }
 
 -- d / (2 w k t), twice in a row, is one over d / (w k t)
@@ -41,11 +42,15 @@ darcy_of d w k t hd hw hk ht =
 pub meets_darcy : (m : FlowModel) (a b : ℕ) → AreAlike m a b → Same (row_conductance m a b) (over (times (times (size (hk_at m a)) (thickness m a)) (size (delc_at m a))) (size (delr_at m a)))
 unfolding row_conductance
 meets_darcy m a b h =
-    let same : row_conductance m a b ≡ in_a_row (half (size (delr_at m a)) (size (delc_at m a)) (size (hk_at m a)) (thickness m a)) (half (size (delr_at m a)) (size (delc_at m a)) (size (hk_at m a)) (thickness m a)) =
+    let same : row_conductance m a b ≡ in_a_row (half (size (delr_at m a)) (size (delc_at m a)) (size (hk_at m a)) (thickness m a))
+    (half (size (delr_at m a)) (size (delc_at m a)) (size (hk_at m a)) (thickness m a)) =
     λ i. in_a_row (half (size (delr_at m a)) (size (delc_at m a)) (size (hk_at m a)) (thickness m a)) (half (size (sym h.delr i)) (size (delc_at m a)) (size (sym h.hk i)) (sym h.thickness_of i)) in
-    Same-trans (Same-of same) (darcy_of (size (delr_at m a)) (size (delc_at m a)) (size (hk_at m a)) (thickness m a) (size_positive _ h.positive.0) (size_positive _ h.positive.1) (size_positive _ h.positive.2) h.positive.3)
+    Same-trans (Same-of same) (darcy_of (size (delr_at m a)) (size (delc_at m a)) (size (hk_at m a)) (thickness m a) (size_positive _ h.positive.0)
+    (size_positive _ h.positive.1) (size_positive _ h.positive.2) h.positive.3)
 
-pub meets_darcy_along_columns : (m : FlowModel) (a b : ℕ) → AreAlikeInAColumn m a b → Same (column_conductance m a b) (over (times (times (times (size (hk_at m a)) (size (hani_at m a))) (thickness m a)) (size (delr_at m a))) (size (delc_at m a)))
+pub meets_darcy_along_columns : (m : FlowModel) (a b : ℕ) → AreAlikeInAColumn m a b →
+    Same (column_conductance m a b) (over (times (times (times (size (hk_at m a)) (size (hani_at m a))) (thickness m a)) (size (delr_at m a)))
+    (size (delc_at m a)))
 unfolding column_conductance
 meets_darcy_along_columns m a b h =
     let d = size (delc_at m a) in
@@ -63,7 +68,8 @@ meets_darcy_along_columns m a b h =
 units : (k z t u w y d x : ℕ) → k * 1 ≡ 1 * z → t * 1 ≡ 1 * u → d * y ≡ w * x → (((k * t) * w) * x) * 1 ≡ 1 * (((z * u) * y) * d)
 units k z t u w y d x e f g = grind (arith)
 
-pub unit_branch : (m : FlowModel) (a b : ℕ) → AreAlike m a b → Same (size (delr_at m a)) (size (delc_at m a)) → Same (size (hk_at m a)) one → Same (thickness m a) one → Same (row_conductance m a b) one
+pub unit_branch : (m : FlowModel) (a b : ℕ) → AreAlike m a b → Same (size (delr_at m a)) (size (delc_at m a)) → Same (size (hk_at m a)) one →
+    Same (thickness m a) one → Same (row_conductance m a b) one
 unit_branch m a b h square k t =
     let d = size (delr_at m a) in
     let w = size (delc_at m a) in

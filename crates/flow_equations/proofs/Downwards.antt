@@ -55,7 +55,8 @@ join : (a x b y k z : ℕ) → ((a * z) * (y * k) + (b * z) * (x * k)) * ((x * y
 join a x b y k z = omega arith
 
 joined : (k f g : Ratio) → 0 < k.num → Same (plus (over f k) (over g k)) (over (plus f g) k)
-joined k f g some = same_by (value_plus (value_over some (itself f) (itself k)) (value_over some (itself g) (itself k))) (value_over some (value_plus (itself f) (itself g)) (itself k)) (join f.num (den f) g.num (den g) k.num (den k))
+joined k f g some = same_by (value_plus (value_over some (itself f) (itself k)) (value_over some (itself g) (itself k)))
+    (value_over some (value_plus (itself f) (itself g)) (itself k)) (join f.num (den f) g.num (den g) k.num (den k))
 
 -- A / (D / k) = k A / D
 turned_over : (k A D : Ratio) → 0 < k.num → 0 < D.num → Same (over A (over D k)) (over (times k A) D)
@@ -89,7 +90,13 @@ module _ (m : FlowModel) (k : Ratio) (a b : ℕ) (h : IsOneMaterial m k a b) whe
   room =
       let upper = value_over (omega (arith, value_two.num)) (itself (thickness m a)) value_two in
       let whole = value_plus (value_plus upper (itself (bed_thickness m a))) (value_over (omega (arith, value_two.num)) (itself (thickness m b)) value_two) in
-      omega (arith, whole.num, some (thickness m a).num (den (bed_thickness m a)) (den (thickness m b) * 2) ((bed_thickness m a).num * (den (thickness m a) * 2)) (((thickness m b).num * 1) * ((den (thickness m a) * 2) * den (bed_thickness m a))) h.thick (omega arith) (omega arith))
+      omega (
+        arith,
+        whole.num,
+        some (thickness m a).num (den (bed_thickness m a)) (den (thickness m b) * 2)
+            ((bed_thickness m a).num * (den (thickness m a) * 2)) (((thickness m b).num * 1) * ((den (thickness m a) * 2) * den (bed_thickness m a))) h.thick
+            (omega arith) (omega arith),
+      )
     where
       some : (t x y r s : ℕ) → 0 < t → 0 < x → 0 < y → 0 < ((t * 1) * x + r) * y + s
       some t x y r s p q w = let e : 0 < (t * 1) * x = product t x p q in let f : 0 < ((t * 1) * x + r) * y = mul-pos (omega (arith, e)) w in omega (arith, f)
@@ -103,7 +110,9 @@ module _ (m : FlowModel) (k : Ratio) (a b : ℕ) (h : IsOneMaterial m k a b) whe
       let sum = resistance in
       let across : 0 < (distance m a b).num * den k = mul-pos room (omega arith) in
       let above : 0 < (over (distance m a b) k).num = omega (arith, (value_over h.positive (itself (distance m a b)) (itself k)).num, across) in
-      Same-trans (over-Same (above_zero (over (distance m a b) k).num _ (den (plus (plus (vertical_half m a) (over (bed_thickness m a) (size (vkcb_at m a)))) (vertical_half m b))) (den (over (distance m a b) k)) above (omega arith) sum.cross) above (Same-self (area m a)) sum) (turned_over k (area m a) (distance m a b) h.positive room)
+      Same-trans (over-Same (above_zero (over (distance m a b) k).num _
+      (den (plus (plus (vertical_half m a) (over (bed_thickness m a) (size (vkcb_at m a)))) (vertical_half m b))) (den (over (distance m a b) k)) above
+      (omega arith) sum.cross) above (Same-self (area m a)) sum) (turned_over k (area m a) (distance m a b) h.positive room)
 
 pub vertical_conductivity_of : (m : FlowModel) (c : ℕ) → HasVerticalConductivity m c
 vertical_conductivity_of m c = record {

@@ -45,7 +45,8 @@ gaps_add_up f g h k p q r =
 
 -- below a cell the next layer's top is the lowest elevation of the cell's own layer
 top_below : (m : FlowModel) (a : ℕ) → top_at m (a + layer_size m.grid) ≡ lowest m a
-top_below m a = ap (λ b. cond b (dec_at m.grid.top (a + layer_size m.grid)) (lowest m (a + layer_size m.grid - layer_size m.grid))) (past a (layer_size m.grid)) ∙ ap (lowest m) (back a (layer_size m.grid))
+top_below m a = ap (λ b. cond b (dec_at m.grid.top (a + layer_size m.grid)) (lowest m (a + layer_size m.grid - layer_size m.grid)))
+    (past a (layer_size m.grid)) ∙ ap (lowest m) (back a (layer_size m.grid))
   where
     past : (a n : ℕ) → nat_lt (a + n) n ≡ false
     past a n = grind arith

@@ -18,9 +18,11 @@ pub wider : (m k : ℕ) (g : Fraction) (z : ℤ) → IsOver m g z → IsOver (m 
 wider m k g z p = record { is = sym (mul_assoc g.num (pos m) (pos k)) ∙ ap (λ (y : ℤ). y *ℤ pos k) p.is ∙ swap z (pos (den g)) (pos k) }
 
 -- Shead + (Ehead - Shead) * f, where f is n over k
-pub between_over : (x : Given) (f : Ratio) (m k n : ℕ) (a b : ℤ) → IsShare k f n → IsOver m (number x.shead) a → IsOver m (number x.ehead) b → IsOver (m * k) (between_heads x f) (a *ℤ pos k +ℤ (b +ℤ neg_ℤ a) *ℤ pos n)
+pub between_over : (x : Given) (f : Ratio) (m k n : ℕ) (a b : ℤ) → IsShare k f n → IsOver m (number x.shead) a → IsOver m (number x.ehead) b →
+    IsOver (m * k) (between_heads x f) (a *ℤ pos k +ℤ (b +ℤ neg_ℤ a) *ℤ pos n)
 between_over x f m k n a b share s e = IsOver-plus (m * k) (number x.shead) (times (plus (number x.ehead) (opposite (number x.shead))) (as_fraction f)) _ _ (wider m k (number x.shead) a s)
-    (IsOver-times m k (plus (number x.ehead) (opposite (number x.shead))) (as_fraction f) (b +ℤ neg_ℤ a) (pos n) (IsOver-plus m (number x.ehead) (opposite (number x.shead)) b (neg_ℤ a) e (IsOver-negated m (number x.shead) a s)) (IsOver-signed k f n share))
+    (IsOver-times m k (plus (number x.ehead) (opposite (number x.shead))) (as_fraction f) (b +ℤ neg_ℤ a) (pos n)
+    (IsOver-plus m (number x.ehead) (opposite (number x.shead)) b (neg_ℤ a) e (IsOver-negated m (number x.shead) a s)) (IsOver-signed k f n share))
 
 module _ (x : Given) (f : Ratio) (k n : ℕ) (some : 0 < k) (share : IsShare k f n) where
   abbrev s : Fraction
@@ -53,7 +55,8 @@ module _ (x : Given) (f : Ratio) (k n : ℕ) (some : 0 < k) (share : IsShare k f
 
   -- half of it
   half_way : 2 * n ≡ k → Same (plus (between_heads x f) (between_heads x f)) (plus s e)
-  half_way twice = same_over (m * k) _ _ _ _ some_over (IsOver-plus (m * k) _ _ _ _ between between) (IsOver-plus (m * k) s e _ _ (wider m k s a (over_first s e)) (wider m k e b (over_second s e))) (half a b (pos n) (pos k) (omega (arith, ints)))
+  half_way twice = same_over (m * k) _ _ _ _ some_over (IsOver-plus (m * k) _ _ _ _ between between)
+      (IsOver-plus (m * k) s e _ _ (wider m k s a (over_first s e)) (wider m k e b (over_second s e))) (half a b (pos n) (pos k) (omega (arith, ints)))
     where
       halves : (u v w : ℤ) → (u *ℤ (w +ℤ w) +ℤ (v +ℤ neg_ℤ u) *ℤ w) +ℤ (u *ℤ (w +ℤ w) +ℤ (v +ℤ neg_ℤ u) *ℤ w) ≡ u *ℤ (w +ℤ w) +ℤ v *ℤ (w +ℤ w)
       halves u v w = rw (as_diff u, as_diff v, as_diff w) (simp diffs (same_diff _ _ _ _ (omega arith)))
@@ -79,7 +82,8 @@ passed_half p h equal two =
     let is : part_passed p 1 ≡ over (geometric T 1) (geometric T p.nstp) = λ i. cond (first i || lasts i) one (over (geometric (transient i) 1) (geometric (transient i) p.nstp)) in
     subst (λ (f : Ratio). 2 * f.num ≡ ratio_den f) (sym is) (half_of T p.nstp two (geometric_one T 1 equal) (geometric_one T p.nstp equal))
   where
-    half_of : (T : Ratio) (n : ℕ) → n ≡ 2 → SameRatio (geometric T 1) (ratio 1 1) → SameRatio (geometric T n) (ratio n 1) → 2 * (over (geometric T 1) (geometric T n)).num ≡ ratio_den (over (geometric T 1) (geometric T n))
+    half_of : (T : Ratio) (n : ℕ) → n ≡ 2 → SameRatio (geometric T 1) (ratio 1 1) → SameRatio (geometric T n) (ratio n 1) →
+        2 * (over (geometric T 1) (geometric T n)).num ≡ ratio_den (over (geometric T 1) (geometric T n))
     half_of T n two e f =
         let sum : (geometric T n).num * 1 ≡ n * ratio_den (geometric T n) = cross_by (itself (geometric T n)) (value_ratio n) f in
         let first : (geometric T 1).num * 1 ≡ 1 * ratio_den (geometric T 1) = cross_by (itself (geometric T 1)) (value_ratio 1) e in
@@ -105,27 +109,33 @@ module _ (m : FlowModel) (p c : ℕ) (x : Given) (given : given_in (period_at m 
   named n = ap (λ o. head_or_kept m p n o c) given
 
   at_last : Same (constant_head m p (period_at m p).nstp c) (number x.ehead)
-  at_last = subst (λ (f : Fraction). Same f (number x.ehead)) (sym (named (period_at m p).nstp ∙ ap (between_heads x) (passed_at_end (period_at m p)))) (at_end x one 1 1 (omega arith) (record { is = omega (arith, value_one.num, value_one.bottom) }) refl)
+  at_last = subst (λ (f : Fraction). Same f (number x.ehead)) (sym (named (period_at m p).nstp ∙ ap (between_heads x) (passed_at_end (period_at m p))))
+      (at_end x one 1 1 (omega arith) (record { is = omega (arith, value_one.num, value_one.bottom) }) refl)
 
   at_half : Lasts (period_at m p) → HasEqualSteps (period_at m p) → (period_at m p).nstp ≡ 2 → Same (plus (constant_head m p 1 c) (constant_head m p 1 c)) (plus (number x.shead) (number x.ehead))
   at_half h e two =
       let f = part_passed (period_at m p) 1 in
-      subst (λ (z : Fraction). Same (plus z z) (plus (number x.shead) (number x.ehead))) (sym (named 1)) (half_way x f (ratio_den f) f.num (omega arith) (record { is = refl }) (passed_half (period_at m p) h e two))
+      subst (λ (z : Fraction). Same (plus z z) (plus (number x.shead) (number x.ehead))) (sym (named 1))
+      (half_way x f (ratio_den f) f.num (omega arith) (record { is = refl }) (passed_half (period_at m p) h e two))
 
 given_last : (us vs : List Given) (c : ℕ) (x : Given) → given_in vs c ≡ Some x → given_in (us ++ vs) c ≡ Some x
 unfolding given_in
-given_last us vs c x e = ap (find (λ y. y.cell.0 == c)) (reverse-append us vs) ∙ find-append (λ (y : Given). y.cell.0 == c) (reverse vs) (reverse us) ∙ ap (λ (o : Option Given). option_or o (given_in us c)) e
+given_last us vs c x e = ap (find (λ y. y.cell.0 == c)) (reverse-append us vs) ∙ find-append (λ (y : Given). y.cell.0 == c) (reverse vs) (reverse us) ∙ ap
+    (λ (o : Option Given). option_or o (given_in us c)) e
 
 given_before : (us vs : List Given) (c : ℕ) → given_in vs c ≡ None → given_in (us ++ vs) c ≡ given_in us c
 unfolding given_in
-given_before us vs c e = ap (find (λ y. y.cell.0 == c)) (reverse-append us vs) ∙ find-append (λ (y : Given). y.cell.0 == c) (reverse vs) (reverse us) ∙ ap (λ (o : Option Given). option_or o (given_in us c)) e
+given_before us vs c e = ap (find (λ y. y.cell.0 == c)) (reverse-append us vs) ∙ find-append (λ (y : Given). y.cell.0 == c) (reverse vs) (reverse us) ∙ ap
+    (λ (o : Option Given). option_or o (given_in us c)) e
 
 module _ (ps : List Period) (c : ℕ) where
   abbrev list_at : ℕ → List Given
   list_at k = (get_or ps k no_period).stresses.given
 
   lists_more : (k : ℕ) → k < length ps → flat_map (λ q. q.stresses.given) (take (suc k) ps) ≡ flat_map (λ q. q.stresses.given) (take k ps) ++ list_at k
-  lists_more k lt = (let on : suc k ≡ k + 1 = omega arith in ap (λ n. flat_map (λ q. q.stresses.given) (take n ps)) on) ∙ ap (flat_map (λ q. q.stresses.given)) (take_more ps k no_period lt) ∙ flat_map-append (λ q. q.stresses.given) (take k ps) (get_or ps k no_period ∷ []) ∙ ap (λ zs. flat_map (λ q. q.stresses.given) (take k ps) ++ zs) (append-nil (list_at k))
+  lists_more k lt = (let on : suc k ≡ k + 1 = omega arith in ap (λ n. flat_map (λ q. q.stresses.given) (take n ps)) on) ∙ ap (flat_map (λ q. q.stresses.given))
+      (take_more ps k no_period lt) ∙ flat_map-append (λ q. q.stresses.given) (take k ps) (get_or ps k no_period ∷ []) ∙ ap (λ zs.
+      flat_map (λ q. q.stresses.given) (take k ps) ++ zs) (append-nil (list_at k))
 
   -- the last list that names the cell is that of period p, counted from 0 here, as long as no later one does
   lasting : (p k : ℕ) (x : Given) → given_in (list_at p) c ≡ Some x → p < length ps → p ≤ k → ((r : ℕ) → p < r → r ≤ k → given_in (list_at r) c ≡ None) → last_given (take (suc k) ps) c ≡ Some x
@@ -134,18 +144,26 @@ module _ (ps : List Period) (c : ℕ) where
       ap (λ xs. given_in xs c) (lists_more 0 (omega (arith, here, within))) ∙ given_last [] (list_at 0) c x (subst (λ j. given_in (list_at j) c ≡ Some x) here e)
   lasting p (suc k) x e within le none = elim (cases_lt p (suc k)) [
     | inl before ↦ elim (cases_lt (suc k) (length ps)) [
-      | inl inside ↦ ap (λ xs. given_in xs c) (lists_more (suc k) inside) ∙ given_before _ (list_at (suc k)) c (none (suc k) before (omega arith)) ∙ lasting p k x e within (omega (arith, before)) (λ r lt more. none r lt (omega (arith, more)))
-      | inr past ↦ ap (λ xs. last_given xs c) (take_all (suc (suc k)) ps (omega (arith, past)) ∙ sym (take_all (suc k) ps (omega (arith, past)))) ∙ lasting p k x e within (omega (arith, before)) (λ r lt more. none r lt (omega (arith, more)))
+      | inl inside ↦ ap (λ xs. given_in xs c) (lists_more (suc k) inside) ∙ given_before _ (list_at (suc k)) c
+          (none (suc k) before (omega arith)) ∙ lasting p k x e within (omega (arith, before)) (λ r lt more. none r lt (omega (arith, more)))
+      | inr past ↦ ap (λ xs. last_given xs c) (take_all (suc (suc k)) ps (omega (arith, past)) ∙ sym (take_all (suc k) ps (omega (arith, past)))) ∙ lasting p k
+          x e within (omega (arith, before)) (λ r lt more. none r lt (omega (arith, more)))
     ]
-    | inr after ↦ (let here : p ≡ suc k = omega (arith, le, after) in ap (λ xs. given_in xs c) (lists_more (suc k) (omega (arith, here, within))) ∙ given_last _ (list_at (suc k)) c x (subst (λ j. given_in (list_at j) c ≡ Some x) here e))
+    | inr after ↦ (let here : p ≡ suc k = omega (arith, le, after) in ap (λ xs. given_in xs c) (lists_more (suc k) (omega (arith, here, within))) ∙ given_last _
+        (list_at (suc k)) c x (subst (λ j. given_in (list_at j) c ≡ Some x) here e))
   ]
 
-kept_after : (m : FlowModel) (p c : ℕ) (x : Given) → given_in (period_at m p).stresses.given c ≡ Some x → (q n : ℕ) → 1 ≤ p → p ≤ length m.periods → p < q → ((r : ℕ) → p < r → r ≤ q → given_in (period_at m r).stresses.given c ≡ None) → Same (constant_head m q n c) (number x.ehead)
+kept_after : (m : FlowModel) (p c : ℕ) (x : Given) → given_in (period_at m p).stresses.given c ≡ Some x → (q n : ℕ) → 1 ≤ p → p ≤ length m.periods → p < q →
+    ((r : ℕ) → p < r → r ≤ q → given_in (period_at m r).stresses.given c ≡ None) → Same (constant_head m q n c) (number x.ehead)
 unfolding constant_head
 kept_after m p c x e q n first within later none =
-    let last : last_given (take (suc (q - 2)) m.periods) c ≡ Some x = lasting m.periods c (p - 1) (q - 2) x e (omega (arith, first, within)) (omega (arith, later)) (λ r lt le. subst (λ (j : ℕ). given_in (get_or m.periods j no_period).stresses.given c ≡ None) (omega (arith, lt)) (none (suc r) (omega (arith, lt, first)) (omega (arith, le, later, first)))) in
+    let last : last_given (take (suc (q - 2)) m.periods) c ≡ Some x =
+    lasting m.periods c (p - 1) (q - 2) x e (omega (arith, first, within)) (omega (arith, later)) (λ r lt le.
+    subst (λ (j : ℕ). given_in (get_or m.periods j no_period).stresses.given c ≡ None) (omega (arith, lt))
+    (none (suc r) (omega (arith, lt, first)) (omega (arith, le, later, first)))) in
     let before : suc (q - 2) ≡ q - 1 = omega (arith, later, first) in
-    let is : constant_head m q n c ≡ number x.ehead = ap (λ o. head_or_kept m q n o c) (none q later (omega arith)) ∙ ap (λ o. kept_head m o c) (ap (λ k. last_given (take k m.periods) c) (sym before) ∙ last) in
+    let is : constant_head m q n c ≡ number x.ehead = ap (λ o. head_or_kept m q n o c) (none q later (omega arith)) ∙ ap (λ o. kept_head m o c)
+    (ap (λ k. last_given (take k m.periods) c) (sym before) ∙ last) in
     subst (λ (f : Fraction). Same f (number x.ehead)) (sym is) (record { same = refl })
 
 pub given_heads_of : (m : FlowModel) (p c : ℕ) (x : Given) → given_in (period_at m p).stresses.given c ≡ Some x → HasGivenHead m p c x

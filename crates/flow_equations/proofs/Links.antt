@@ -80,7 +80,8 @@ module _ (m : FlowModel) (p n : ℕ) (old : ℕ → Fraction) (size : HasSize m.
         let inside = end_within m.grid here f size (place i lt).within g in
         let there : x.cell ≡ rank test f.end = sym (ap (λ (y : ExactLink). y.cell) e) ∙ index_is m p f.end in
         let named : number x.cell ≡ f.end = ap number there ∙ at_rank test (cell_count m.grid) f.end v inside in
-        let links : (cell_at step x.cell).links ≡ map (exact_link m p n old) (variable_faces m p f.end) = ap (λ (y : ExactCell). y.links) (cell_is x.cell (in_range x j)) ∙ ap (λ c. map (exact_link m p n old) (variable_faces m p c)) named in
+        let links : (cell_at step x.cell).links ≡ map (exact_link m p n old) (variable_faces m p f.end) =
+        ap (λ (y : ExactCell). y.links) (cell_is x.cell (in_range x j)) ∙ ap (λ c. map (exact_link m p n old) (variable_faces m p c)) named in
         let member : In (variable_faces m p f.end) (turned here f) = passing_have m.grid test f.end (turned here f) (face_back m.grid here f size g) (place i lt).passes in
         record {
           back = exact_link m p n old (turned here f);
@@ -91,7 +92,12 @@ module _ (m : FlowModel) (p n : ℕ) (old : ℕ → Fraction) (size : HasSize m.
         }
 
     distinct : (a b : ℕ) → a < b → b < length (cell_at step i).links → (get_or (cell_at step i).links a no_link).cell ≡ (get_or (cell_at step i).links b no_link).cell → ⊥
-    distinct a b less k same = omega (arith, same, Ordered-at (λ (x y : ExactLink). x.cell < y.cell) (cell_at step i).links a b no_link (subst (Ordered (λ (x y : ExactLink). x.cell < y.cell)) (sym links_are) ordered) less k)
+    distinct a b less k same = omega (
+      arith,
+      same,
+      Ordered-at (λ (x y : ExactLink). x.cell < y.cell) (cell_at step i).links a b no_link
+          (subst (Ordered (λ (x y : ExactLink). x.cell < y.cell)) (sym links_are) ordered) less k,
+    )
 
   pub are_linked : AreLinked step
   are_linked = record {

@@ -77,7 +77,8 @@ module _ (m : FlowModel) (c : ℕ) (x : EvapSource) (h : IsPositive x.depth) whe
   -- the surface less the extinction elevation is the extinction depth
   room_over : IsOver D (greater (minus s (plus s (opposite (number x.depth)))) (whole (pos 0))) (pos (deep.num * den s))
   room_over = subst (λ (z : ℤ). IsOver D (greater (minus s (plus s (opposite (number x.depth)))) (whole (pos 0))) z) (room (s.num *ℤ pos (ratio_den deep)) (deep.num * den s))
-      (IsOver-greater D _ _ _ _ (IsOver-minus D s (plus s (opposite (number x.depth))) _ _ surface_over (IsOver-plus D s (opposite (number x.depth)) _ _ surface_over (IsOver-negated D (number x.depth) _ depth_over))) (IsOver-none D))
+      (IsOver-greater D _ _ _ _ (IsOver-minus D s (plus s (opposite (number x.depth))) _ _ surface_over
+      (IsOver-plus D s (opposite (number x.depth)) _ _ surface_over (IsOver-negated D (number x.depth) _ depth_over))) (IsOver-none D))
     where
       room : (a : ℤ) (n : ℕ) → int_max (a -ℤ (a +ℤ neg_ℤ (pos n))) (pos 0) ≡ pos n
       room a n = omega (arith, ints, clamps)
@@ -89,10 +90,15 @@ module _ (m : FlowModel) (c : ℕ) (x : EvapSource) (h : IsPositive x.depth) whe
   taken = C.num * (deep.num * den s)
 
   full_over : IsOver (ratio_den C * D) full (pos taken)
-  full_over = IsOver-times (ratio_den C) D (as_fraction C) (greater (minus s (plus s (opposite (number x.depth)))) (whole (pos 0))) (pos C.num) (pos (deep.num * den s)) (IsOver-signed (ratio_den C) C C.num (own_share C)) room_over
+  full_over = IsOver-times (ratio_den C) D (as_fraction C) (greater (minus s (plus s (opposite (number x.depth)))) (whole (pos 0))) (pos C.num)
+      (pos (deep.num * den s)) (IsOver-signed (ratio_den C) C C.num (own_share C)) room_over
 
   rates_over : IsOver (ratio_den C * D) (as_fraction rates) (pos taken)
-  rates_over = IsOver-signed (ratio_den C * D) rates taken (record { is = (λ i. rates.num * (value.bottom i * D)) ∙ turn rates.num (ratio_den rates) deep.num (den s) (ratio_den deep) ∙ (λ i. (sym value.num i * (deep.num * den s)) * ratio_den rates) })
+  rates_over = IsOver-signed (ratio_den C * D) rates taken
+      (record {
+        is = (λ i. rates.num * (value.bottom i * D)) ∙ turn rates.num (ratio_den rates) deep.num (den s) (ratio_den deep) ∙ (λ i.
+            (sym value.num i * (deep.num * den s)) * ratio_den rates);
+      })
     where
       turn : (r d n s z : ℕ) → r * ((d * n) * (s * z)) ≡ ((r * z) * (n * s)) * d
       turn r d n s z = omega arith

@@ -39,19 +39,25 @@ total_more f (y ∷ xs) x = Same-trans (plus-Same (Same-self (f y)) (total_more 
 -- terms of a period's length P, a sum g of powers above 0, and others
 module _ (P g : Ratio) (some : 0 < g.num) where
   grown : (t q : Ratio) → Same (over (times P (times q t)) g) (times t (over (times P q) g))
-  grown t q = same_by (value_over some (value_times (itself P) (value_times (itself q) (itself t))) (itself g)) (value_times (itself t) (value_over some (value_times (itself P) (itself q)) (itself g))) (omega arith)
+  grown t q = same_by (value_over some (value_times (itself P) (value_times (itself q) (itself t))) (itself g))
+      (value_times (itself t) (value_over some (value_times (itself P) (itself q)) (itself g))) (omega arith)
 
   first_left : (w : Ratio) → Same (plus (times (over (times P one) g) w) P) (over (times P (plus g w)) g)
-  first_left w = same_by (value_plus (value_times (value_over some (value_times (itself P) value_one) (itself g)) (itself w)) (itself P)) (value_over some (value_times (itself P) (value_plus (itself g) (itself w))) (itself g)) (omega arith)
+  first_left w = same_by (value_plus (value_times (value_over some (value_times (itself P) value_one) (itself g)) (itself w)) (itself P))
+      (value_over some (value_times (itself P) (value_plus (itself g) (itself w))) (itself g)) (omega arith)
 
   first_right : (t : Ratio) → Same (over (times P (plus (times g t) one)) g) (plus (times P t) (over (times P one) g))
-  first_right t = same_by (value_over some (value_times (itself P) (value_plus (value_times (itself g) (itself t)) value_one)) (itself g)) (value_plus (value_times (itself P) (itself t)) (value_over some (value_times (itself P) value_one) (itself g))) (right_sums P.num (den P) g.num (den g) t.num (den t))
+  first_right t = same_by (value_over some (value_times (itself P) (value_plus (value_times (itself g) (itself t)) value_one)) (itself g))
+      (value_plus (value_times (itself P) (itself t)) (value_over some (value_times (itself P) value_one) (itself g)))
+      (right_sums P.num (den P) g.num (den g) t.num (den t))
 
   nothing_yet : Same (ratio 0 1) (over (times P (ratio 0 1)) g)
   nothing_yet = same_by (value_ratio 0) (value_over some (value_times (itself P) (value_ratio 0)) (itself g)) (omega arith)
 
   one_more : (q w : Ratio) → Same (plus (over (times P q) g) (over (times P w) g)) (over (times P (plus q w)) g)
-  one_more q w = same_by (value_plus (value_over some (value_times (itself P) (itself q)) (itself g)) (value_over some (value_times (itself P) (itself w)) (itself g))) (value_over some (value_times (itself P) (value_plus (itself q) (itself w))) (itself g)) (more_sums P.num (den P) q.num (den q) w.num (den w) g.num (den g))
+  one_more q w = same_by (value_plus (value_over some (value_times (itself P) (itself q)) (itself g))
+      (value_over some (value_times (itself P) (itself w)) (itself g))) (value_over some (value_times (itself P) (value_plus (itself q) (itself w))) (itself g))
+      (more_sums P.num (den P) q.num (den q) w.num (den w) g.num (den g))
 
   all_of_it : Same (over (times P g) g) P
   all_of_it = same_by (value_over some (value_times (itself P) (itself g)) (itself g)) (itself P) (omega arith)
@@ -60,7 +66,8 @@ module _ (P g : Ratio) (some : 0 < g.num) where
   as_part q = same_by (value_over some (value_times (itself P) (itself q)) (itself g)) (value_times (value_over some (itself q) (itself g)) (itself P)) (omega arith)
 
   capacity_over : (c w : Ratio) → 0 < P.num → 0 < w.num → Same (times (over (times c g) (times P w)) (over (times P w) g)) c
-  capacity_over c w h k = same_by (value_times (value_over (mul-pos h k) (value_times (itself c) (itself g)) (value_times (itself P) (itself w))) (value_over some (value_times (itself P) (itself w)) (itself g))) (itself c) (omega arith)
+  capacity_over c w h k = same_by (value_times (value_over (mul-pos h k) (value_times (itself c) (itself g)) (value_times (itself P) (itself w)))
+      (value_over some (value_times (itself P) (itself w)) (itself g))) (itself c) (omega arith)
 
 -- where t is 1
 power_one : (t : Ratio) (n : ℕ) → Same t one → Same (power t n) one

@@ -42,7 +42,8 @@ module _ (r : Ratio) (f g : Fraction) where
   whole = IsOver-negated (ratio_den r * m) flow (pos r.num *ℤ (a -ℤ b)) (flow_over r m f g a b (over_first f g) (over_second f g))
 
   pub signs_turned : Same (times (as_fraction r) (minus (opposite f) (opposite g))) (opposite flow)
-  signs_turned = same_over (ratio_den r * m) _ _ _ _ some (flow_over r m (opposite f) (opposite g) (neg_ℤ a) (neg_ℤ b) (IsOver-negated m f a (over_first f g)) (IsOver-negated m g b (over_second f g))) whole (turned (pos r.num) a b)
+  signs_turned = same_over (ratio_den r * m) _ _ _ _ some (flow_over r m (opposite f) (opposite g) (neg_ℤ a) (neg_ℤ b) (IsOver-negated m f a (over_first f g))
+      (IsOver-negated m g b (over_second f g))) whole (turned (pos r.num) a b)
     where
       turned : (c a b : ℤ) → c *ℤ (neg_ℤ a -ℤ neg_ℤ b) ≡ neg_ℤ (c *ℤ (a -ℤ b))
       turned c a b = let e : neg_ℤ a -ℤ neg_ℤ b ≡ neg_ℤ (a -ℤ b) = omega (arith, ints) in rw e (mul_neg c (a -ℤ b))

@@ -56,7 +56,8 @@ dec_meets P xs i all none = grind (arith, cases_lt, get_or-eq_default)
 -- a row of cells is a grid
 row_grid : (n : ℕ) → 1 ≤ n → n ≤ 4096 → IsGrid (row_of_cells n)
 row_grid n some few =
-    let zeros : (length (replicate n no_number) ≡ 1 * (1 * n)) × All IsDec (replicate n no_number) = (length-replicate n no_number ∙ (let e : n ≡ 1 * (1 * n) = omega arith in e), All-replicate IsDec n no_number zero_dec) in
+    let zeros : (length (replicate n no_number) ≡ 1 * (1 * n)) × All IsDec (replicate n no_number) =
+    (length-replicate n no_number ∙ (let e : n ≡ 1 * (1 * n) = omega arith in e), All-replicate IsDec n no_number zero_dec) in
     record {
       size = record { layers = (omega arith, omega arith); rows = (omega arith, omega arith); cols = (some, few); cells = omega (arith, few) };
       delr = (length-replicate n (decimal 1 0), All-replicate IsPositive n (decimal 1 0) one_positive);
@@ -104,7 +105,8 @@ module _ (ibound : List ℤ) (strt ss : List Dec) (steady : Bool) (lasting : Dec
     none : AreStresses (row_of_cells n) (pos 0) (pos 0) no_stresses
     none = no_stresses_fit (row_of_cells n) (pos 0) (pos 0) refl refl
 
-    module _ (counts : length ibound ≡ n) (heads : length strt ≡ n) (storing : (steady ≡ true) ⊎ (length ss ≡ n)) (timed : IsTimed period) (many : steps ≤ 100000) (pumped : IsEntryList (1 * (1 * n)) wells) where
+    module _ (counts : length ibound ≡ n) (heads : length strt ≡ n) (storing : (steady ≡ true) ⊎ (length ss ≡ n)) (timed : IsTimed period)
+        (many : steps ≤ 100000) (pumped : IsEntryList (1 * (1 * n)) wells) where
       whole : (xs : List Dec) → length xs ≡ n → length xs ≡ 1 * (1 * n)
       whole xs e = omega (arith, e)
 
@@ -163,14 +165,25 @@ well_valid cells c q lt is = (lt, is)
 
 pub three_valid : IsModel three_cells
 three_valid = row_valid (negsuc 0 ∷ pos 1 ∷ negsuc 0 ∷ []) (decimal 1 1 ∷ no_number ∷ decimal 2 1 ∷ []) [] true (decimal 1 0) 1 [] 3 (omega arith) (omega arith)
-    (All-cons IsHeadNumber (decimal 1 1) (no_number ∷ decimal 2 1 ∷ []) ten_head (All-cons IsHeadNumber no_number (decimal 2 1 ∷ []) zero_head (All-cons IsHeadNumber (decimal 2 1) [] twenty_head (All-nil IsHeadNumber)))) (All-nil IsNotNegative)
+    (All-cons IsHeadNumber (decimal 1 1) (no_number ∷ decimal 2 1 ∷ []) ten_head
+    (All-cons IsHeadNumber no_number (decimal 2 1 ∷ []) zero_head (All-cons IsHeadNumber (decimal 2 1) [] twenty_head (All-nil IsHeadNumber))))
+    (All-nil IsNotNegative)
     refl refl (inl refl) (one_timed true (decimal 1 0) 1 [] one_positive (omega arith) (omega arith)) (omega arith) (record { few = omega arith; entries = All-nil _ })
 
 pub idle_valid : IsModel idle_wells
-idle_valid = row_valid (negsuc 0 ∷ pos 1 ∷ negsuc 0 ∷ pos 0 ∷ []) (decimal 1 1 ∷ no_number ∷ decimal 2 1 ∷ below_zero 999 ∷ []) [] true (decimal 1 0) 1 (Well (cell 0) (decimal 7 0) ∷ Well (cell 3) (below_zero 3) ∷ []) 4 (omega arith) (omega arith)
-    (All-cons IsHeadNumber (decimal 1 1) (no_number ∷ decimal 2 1 ∷ below_zero 999 ∷ []) ten_head (All-cons IsHeadNumber no_number (decimal 2 1 ∷ below_zero 999 ∷ []) zero_head (All-cons IsHeadNumber (decimal 2 1) (below_zero 999 ∷ []) twenty_head (All-cons IsHeadNumber (below_zero 999) [] no_flow_head (All-nil IsHeadNumber))))) (All-nil IsNotNegative)
+idle_valid = row_valid (negsuc 0 ∷ pos 1 ∷ negsuc 0 ∷ pos 0 ∷ []) (decimal 1 1 ∷ no_number ∷ decimal 2 1 ∷ below_zero 999 ∷ []) [] true (decimal 1 0) 1
+    (Well (cell 0) (decimal 7 0) ∷ Well (cell 3) (below_zero 3) ∷ []) 4 (omega arith) (omega arith)
+    (All-cons IsHeadNumber (decimal 1 1) (no_number ∷ decimal 2 1 ∷ below_zero 999 ∷ []) ten_head
+    (All-cons IsHeadNumber no_number (decimal 2 1 ∷ below_zero 999 ∷ []) zero_head
+    (All-cons IsHeadNumber (decimal 2 1) (below_zero 999 ∷ []) twenty_head
+    (All-cons IsHeadNumber (below_zero 999) [] no_flow_head (All-nil IsHeadNumber))))) (All-nil IsNotNegative)
     refl refl (inl refl) (one_timed true (decimal 1 0) 1 _ one_positive (omega arith) (omega arith)) (omega arith)
-    (record { few = omega arith; entries = All-cons (IsEntryValid 4) (Well (cell 0) (decimal 7 0)) (Well (cell 3) (below_zero 3) ∷ []) (well_valid 4 0 (decimal 7 0) (omega arith) seven) (All-cons (IsEntryValid 4) (Well (cell 3) (below_zero 3)) [] (well_valid 4 3 (below_zero 3) (omega arith) three) (All-nil (IsEntryValid 4))) })
+    (record {
+      few = omega arith;
+      entries = All-cons (IsEntryValid 4) (Well (cell 0) (decimal 7 0)) (Well (cell 3) (below_zero 3) ∷ [])
+          (well_valid 4 0 (decimal 7 0) (omega arith) seven)
+          (All-cons (IsEntryValid 4) (Well (cell 3) (below_zero 3)) [] (well_valid 4 3 (below_zero 3) (omega arith) three) (All-nil (IsEntryValid 4)));
+    })
   where
     seven : IsDec (decimal 7 0)
     seven = is_dec false 7 0 (omega arith) (omega arith) (omega arith) (omega arith)

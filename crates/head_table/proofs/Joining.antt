@@ -33,7 +33,9 @@ module _ (cells : List Entries) (edges : Edges) where
   splits id v s r at = record {
     wide = r.wide;
     way = r.way;
-    each_seat = λ j u e l. let old : (i : ℕ) (y : Known) → get_elem? (set s.views id v) i ≡ some y → get_elem? s.views i ≡ some y = λ i y g. subst (λ (vs : List Known). get_elem? vs i ≡ some y) (set_again s.views id v at) g in
+    each_seat = λ j u e l.
+        let old : (i : ℕ) (y : Known) → get_elem? (set s.views id v) i ≡ some y → get_elem? s.views i ≡ some y =
+                λ i y g. subst (λ (vs : List Known). get_elem? vs i ≡ some y) (set_again s.views id v at) g in
         ⊎_elim (λ (g : get_elem? (set s.views id v) j ≡ some u). r.each_seat j u (old j u g) l)
         (λ (g : v ≡ u). r.each_seat id u (subst (λ (y : Known). get_elem? s.views id ≡ some y) g at) l)
         (at_snoc (set s.views id v) v u j e);
@@ -55,7 +57,8 @@ pub tighter_within : (side : Side) (x y z : ℤ) → IsAsTight side x z → IsAs
 tighter_within Low x y z p q = omega (arith, ints, clamps)
 tighter_within High x y z p q = omega (arith, ints, clamps)
 
-pub joined_at : (side : Side) (v w : Known) (n : ℕ) → length v.seen ≡ n → length w.seen ≡ n → (c : ℕ) → c < n → heads_on side (join_views v w).seen c ≡ tighter_of side (heads_on side v.seen c) (heads_on side w.seen c)
+pub joined_at : (side : Side) (v w : Known) (n : ℕ) → length v.seen ≡ n → length w.seen ≡ n → (c : ℕ) → c < n → heads_on side (join_views v w).seen c ≡
+    tighter_of side (heads_on side v.seen c) (heads_on side w.seen c)
 joined_at side v w n a b c h = tightest_at side v.seen w.seen c (omega arith) (omega arith)
 
 pub joins : (cells : List Entries) (edges : Edges) (id other : ℕ) (v w : Known) → v.live ≡ true → w.live ≡ true → Joins (IsTableKept cells edges) id v other w (join_views v w) spent_view
@@ -63,15 +66,17 @@ joins cells edges id other v w live live' s r at apart at' = let mine = r.each_s
     let theirs = r.each_seat other w (sym (set_else s.views id other (join_views v w) apart) ∙ at') live' in record {
       wide = r.wide;
       way = r.way;
-      each_seat = views_stay (IsKnown cells edges s.words) (set s.views id (join_views v w)) other spent_view (λ l. (cc)) (views_stay (IsKnown cells edges s.words) s.views id (join_views v w) (λ _. record {
-        problem_is = mine.problem_is;
-        barrier_is = mine.barrier_is;
-        whole = length_tightest v.seen w.seen (mine.whole ∙ sym theirs.whole) ∙ mine.whole;
-        heads = λ side. record {
-          behind = λ c h. subst (λ (y : ℤ). IsAsTight side y (words_on side s.words c)) (sym (joined_at side v w (length cells) mine.whole theirs.whole c h)) (tighter_within side _ _ _ ((mine.heads side).behind c h) ((theirs.heads side).behind c h));
-          heads = λ c h. subst IsHead (sym (joined_at side v w (length cells) mine.whole theirs.whole c h)) (tighter_head side _ _ ((mine.heads side).heads c h) ((theirs.heads side).heads c h));
-        };
-      }) r.each_seat);
+      each_seat = views_stay (IsKnown cells edges s.words) (set s.views id (join_views v w)) other spent_view (λ l. (cc))
+          (views_stay (IsKnown cells edges s.words) s.views id (join_views v w) (λ _. record {
+            problem_is = mine.problem_is;
+            barrier_is = mine.barrier_is;
+            whole = length_tightest v.seen w.seen (mine.whole ∙ sym theirs.whole) ∙ mine.whole;
+            heads = λ side. record {
+              behind = λ c h. subst (λ (y : ℤ). IsAsTight side y (words_on side s.words c)) (sym (joined_at side v w (length cells) mine.whole theirs.whole c h))
+                  (tighter_within side _ _ _ ((mine.heads side).behind c h) ((theirs.heads side).behind c h));
+              heads = λ c h. subst IsHead (sym (joined_at side v w (length cells) mine.whole theirs.whole c h)) (tighter_head side _ _ ((mine.heads side).heads c h) ((theirs.heads side).heads c h));
+            };
+          }) r.each_seat);
     }
 
 -- what the seat that stays has seen
@@ -79,7 +84,8 @@ pub sound_joined : (v w : Known) → w.problem ≡ v.problem → IsSound v → I
 sound_joined v w e s t = grind (arith, length_tightest, joined_at, tighter_head)
 
 -- A new table meets the rule; and what closed words keep.
-only_one : (cells : List Entries) (edges : Edges) (raw : List ℕ) (u : Known) → IsKnown cells edges raw u → (j : ℕ) (v : Known) → get_elem? (u ∷ []) j ≡ some v → v.live ≡ true → IsKnown cells edges raw v
+only_one : (cells : List Entries) (edges : Edges) (raw : List ℕ) (u : Known) → IsKnown cells edges raw u → (j : ℕ) (v : Known) → get_elem? (u ∷ []) j ≡ some v →
+    v.live ≡ true → IsKnown cells edges raw v
 only_one cells edges raw u k zero v e l = subst (IsKnown cells edges raw) (some-injective u v e) k
 only_one cells edges raw u k (suc j) v e l = absurd (some-ne-none v (sym e))
 
@@ -91,7 +97,8 @@ opens cells edges ok words raw wide same k = let n = k.whole in
       problem_is = refl;
       barrier_is = refl;
       whole = k.whole;
-      heads = λ side. same_seen (is_side side cells ok) (heads_on side words) (words_on side raw) (heads_on side words) (heads_on side words) (same' side) (λ c h. refl) (seen_itself (is_side side cells ok) (edge_on side edges) (heads_on side words) (way_on side cells edges words k));
+      heads = λ side. same_seen (is_side side cells ok) (heads_on side words) (words_on side raw) (heads_on side words) (heads_on side words) (same' side)
+          (λ c h. refl) (seen_itself (is_side side cells ok) (edge_on side edges) (heads_on side words) (way_on side cells edges words k));
     } in record {
       wide = omega arith;
       way = λ side. same_on_the_way (is_side side cells ok) (edge_on side edges) (heads_on side words) (words_on side raw) (same' side) (way_on side cells edges words k);
@@ -109,7 +116,8 @@ ends cells edges id v ws xs live f = let k = f.1.0 in subst (λ (z : List ℕ). 
 pub closes : (cells : List Entries) (edges : Edges) → IsProblem cells → (ws : List ℕ) (v : Known) → AtEnd cells edges ws v → (bs : List Bound) → length bs ≡ length cells
     → ((side : Side) (c : ℕ) → c < length cells → heads_on side bs c ≡ words_on side ws c) → AreOnTheWay cells edges bs × AreNoLooser cells v.seen bs
 closes cells edges ok ws v e bs n same =
-    let way : (side : Side) → OnTheWay side cells (edge_on side edges) (heads_on side bs) = λ side. same_on_the_way (is_side side cells ok) (edge_on side edges) (words_on side ws) (heads_on side bs) (same side) (e.way side) in (
+    let way : (side : Side) → OnTheWay side cells (edge_on side edges) (heads_on side bs) = λ side.
+    same_on_the_way (is_side side cells ok) (edge_on side edges) (words_on side ws) (heads_on side bs) (same side) (e.way side) in (
       record { whole = n; low = way Low; high = way High },
       λ side c h. subst (IsAsTight side (heads_on side v.seen c)) (sym (same side c h)) ((e.seat.heads side).behind c h),
     )

@@ -81,7 +81,8 @@ module _ (bs : List Bound) (raw : List ℕ) (i a b : ℕ) (long : length raw ≡
   kept : (k : ℕ) → k < 2 * i + 1 → get_or more k 0 ≡ get_or raw k 0
   kept k h = get_or-append (raw ++ a ∷ []) (b ∷ []) 0 k (omega (arith, longer)) ∙ get_or-append raw (a ∷ []) 0 k (omega arith)
 
-  pub row_more : (side : Side) → head_of_word (get_or (a ∷ b ∷ []) (place_of side) 0) ≡ heads_on side bs i → ((c : ℕ) → c < i → words_on side raw c ≡ heads_on side bs c) → (c : ℕ) → c < i + 1 → words_on side more c ≡ heads_on side bs c
+  pub row_more : (side : Side) → head_of_word (get_or (a ∷ b ∷ []) (place_of side) 0) ≡ heads_on side bs i →
+      ((c : ℕ) → c < i → words_on side raw c ≡ heads_on side bs c) → (c : ℕ) → c < i + 1 → words_on side more c ≡ heads_on side bs c
   row_more side here old c h = dite (ℕ_discrete c i)
       (λ e. subst (λ (k : ℕ). words_on side more k ≡ heads_on side bs k) (sym e) (ap head_of_word (put side) ∙ here))
       (λ ne. ap head_of_word (kept (word_of side c) (word_within side c i (omega arith))) ∙ old c (omega arith))
@@ -96,7 +97,8 @@ at_get (x ∷ xs) zero a d e = some-injective x a e
 at_get (x ∷ xs) (suc i) a d e = at_get xs i a d e
 
 -- one more bound, read of the words
-pub row_next : (side : Side) (ws : List ℕ) (bs : List Bound) (i : ℕ) (x : Bound) → length bs ≡ i → head_of side x ≡ words_on side ws i → ((c : ℕ) → c < i → heads_on side bs c ≡ words_on side ws c) → (c : ℕ) → c < i + 1 → heads_on side (bs ++ x ∷ []) c ≡ words_on side ws c
+pub row_next : (side : Side) (ws : List ℕ) (bs : List Bound) (i : ℕ) (x : Bound) → length bs ≡ i → head_of side x ≡ words_on side ws i →
+    ((c : ℕ) → c < i → heads_on side bs c ≡ words_on side ws c) → (c : ℕ) → c < i + 1 → heads_on side (bs ++ x ∷ []) c ≡ words_on side ws c
 row_next side ws bs i x long here old c h = grind (arith, get_or_at, get_or-append)
 
 -- Seats that loosen nothing.
@@ -108,7 +110,8 @@ tight_trans : (side : Side) (x y z : ℤ) → IsAsTight side x y → IsAsTight s
 tight_trans Low x y z p q = omega (arith, ints)
 tight_trans High x y z p q = omega (arith, ints)
 
-pub moves_no_looser : (side : Side) (cells : List Entries) (a b : HeadSeat) (c : ℕ) (r : ℤ) → seen_on side b c ≡ r → IsAsTight side (seen_on side a c) r → SameOnBut side c a b → SameOn (other side) a b → AreNoLooser cells (seen_of a) (seen_of b)
+pub moves_no_looser : (side : Side) (cells : List Entries) (a b : HeadSeat) (c : ℕ) (r : ℤ) → seen_on side b c ≡ r → IsAsTight side (seen_on side a c) r →
+    SameOnBut side c a b → SameOn (other side) a b → AreNoLooser cells (seen_of a) (seen_of b)
 moves_no_looser side cells a b c r here later others opposite = grind (arith, each_side, tight_refl)
 
 pub same_no_looser : (cells : List Entries) (a b : HeadSeat) → seen_of b ≡ seen_of a → AreNoLooser cells (seen_of a) (seen_of b)

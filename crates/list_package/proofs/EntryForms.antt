@@ -77,7 +77,8 @@ module _ {E : Type 0} (kind : Kind E) (placed : (c : CellId) (ds : List Dec) →
       let wrong : true ≡ false = sym marked ∙ ap (λ (k : ℕ). get_or after k false) same ∙ free in
       absurd cc
 
-  was_free : (before after : List Bool) (x y : E) → length before ≡ cell_count g → IsNewAt kind (cell_count g) before after x → get_or after (kind.place y) false ≡ false → get_or before (kind.place y) false ≡ false
+  was_free : (before after : List Bool) (x y : E) → length before ≡ cell_count g → IsNewAt kind (cell_count g) before after x →
+      get_or after (kind.place y) false ≡ false → get_or before (kind.place y) false ≡ false
   was_free before after x y many new free =
       let other : kind.place y ≡ kind.place x → ⊥ = λ e. apart before after x y many new free (sym e) in
       let kept : get_or (set before (kind.place x) true) (kind.place y) false ≡ get_or before (kind.place y) false = get_or-set_other before (kind.place x) (kind.place y) true false other in
@@ -91,7 +92,12 @@ module _ {E : Type 0} (kind : Kind E) (placed : (c : CellId) (ds : List Dec) →
   Are n s x = AreEntries kind (cell_count g) n s.0 x.0
 
   no_entries : (s : List Bool × Left) → Are 0 s ([], s)
-  no_entries s = record { count = refl; entries = All-nil (IsEntry kind (cell_count g)); free = λ many. All-nil (λ y. get_or s.0 (kind.place y) false ≡ false); once = λ many. no_pairs kind (cell_count g) }
+  no_entries s = record {
+    count = refl;
+    entries = All-nil (IsEntry kind (cell_count g));
+    free = λ many. All-nil (λ y. get_or s.0 (kind.place y) false ≡ false);
+    once = λ many. no_pairs kind (cell_count g);
+  }
 
   one_entry : (n : ℕ) (s : List Bool × Left) → GivesOnly (λ x. (more : List E × (List Bool × Left)) → Are n x.1 more → Are (suc n) s (x.0 ∷ more.0, more.1)) (entry_at kind file g s)
   one_entry n s = weaker (entry_at_is s) (λ x new more rest. record {

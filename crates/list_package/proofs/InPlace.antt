@@ -6,7 +6,8 @@ use Rattle.outside.specs.declared.inputs.InputFault.{InputFault}
 use Rattle.outside.specs.declared.inputs.TextFault.{TextFault}
 use Rattle.std.proofs.Math.Seq.{drop-cons}
 
-module _ {X S : Type 0} (read : X → S → Result (X × S) Refusal) (xs : List X) (i : ℕ) (s : S) (total : Result (List X × S) Refusal) (so_far : with_front (take i xs) (for_each read (drop i xs) s) ≡ total) where
+module _ {X S : Type 0} (read : X → S → Result (X × S) Refusal) (xs : List X) (i : ℕ) (s : S) (total : Result (List X × S) Refusal)
+    (so_far : with_front (take i xs) (for_each read (drop i xs) s) ≡ total) where
   module _ (d : X) (inside : i < length xs) where
     next_is : drop i xs ≡ get_or xs i d ∷ drop (i + 1) xs
     next_is = rw (add-one, drop-cons xs i d) refl

@@ -120,8 +120,14 @@ candidate_is front f p good lo hi =
     let wide_lo = fits_wide (nat_abs p.lo) f.limit good.small lo in
     let wide_hi = fits_wide (nat_abs p.hi) f.limit good.small hi in
     let blank = NoBlank-fixed f.places p.lo wide_lo in
-    let first : value_of (first_word (drop (length front) (front ++ rest))) ≡ p.lo = ap (λ (t : List ℕ). value_of (first_word t)) behind ∙ ap value_of (first_word_is (fixed_text f.places p.lo) (fixed_text f.places p.hi ++ f.back) blank ∙ sym (append-nil (fixed_text f.places p.lo))) ∙ value_is f.places p.lo [] good.some wide_lo no_more in
-    let second : value_of (after_word (drop (length front) (front ++ rest))) ≡ p.hi = ap (λ (t : List ℕ). value_of (after_word t)) behind ∙ ap value_of (behind_word_is (fixed_text f.places p.lo) (fixed_text f.places p.hi ++ f.back) blank) ∙ value_is f.places p.hi f.back good.some wide_hi good.behind in
+    let first : value_of (first_word (drop (length front) (front ++ rest))) ≡ p.lo =
+    ap (λ (t : List ℕ). value_of (first_word t)) behind ∙ ap value_of
+    (first_word_is (fixed_text f.places p.lo) (fixed_text f.places p.hi ++ f.back) blank ∙ sym (append-nil (fixed_text f.places p.lo))) ∙ value_is
+    f.places p.lo [] good.some wide_lo no_more in
+    let second : value_of (after_word (drop (length front) (front ++ rest))) ≡ p.hi =
+    ap (λ (t : List ℕ). value_of (after_word t)) behind ∙ ap value_of
+    (behind_word_is (fixed_text f.places p.lo) (fixed_text f.places p.hi ++ f.back) blank) ∙ value_is f.places p.hi f.back good.some wide_hi good.behind
+    in
     rw (first, second) refl
 
 is_same : (xs ys : List ℕ) → bytes_eq xs ys ≡ true → xs ≡ ys
@@ -146,7 +152,11 @@ line_sound front f line p h =
 
 pub line_whole : (front : List ℕ) (f : Form) (p : TermPair) → IsForm f → nat_abs p.lo ≤ f.limit → nat_abs p.hi ≤ f.limit → pair_in front f (pair_line front f p) ≡ Some p
 unfolding pair_in
-line_whole front f p good lo hi = rw (candidate_is front f p good lo hi, and_from (is_within f p) (bytes_eq (pair_line front f p) (pair_line front f p)) (fit_numbers f p lo hi) (same_is (pair_line front f p))) refl
+line_whole front f p good lo hi = rw (
+  candidate_is front f p good lo hi,
+  and_from (is_within f p) (bytes_eq (pair_line front f p) (pair_line front f p))
+      (fit_numbers f p lo hi) (same_is (pair_line front f p)),
+) refl
 
 pub lines_read_exactly : LinesReadExactly
 lines_read_exactly front f good = record {

@@ -80,7 +80,8 @@ cells_below a (suc n) few = (omega (arith, few), cells_below (a + 1) n (omega (a
 
 heads_without : (m : FlowModel) (bs : List Bound) → cell_count m.grid ≤ 4194304 → AllZip (IsCellBound m) (range_with_len 0 (cell_count m.grid)) bs → AllByRecursion NoFeed (head_lines m bs)
 unfolding head_lines
-heads_without m bs few h = each_without (λ c. c < 4194304) (IsCellBound m) (cell_lines m) (cell_without m) (range_with_len 0 (cell_count m.grid)) bs (cells_below 0 (cell_count m.grid) (omega (arith, few))) h
+heads_without m bs few h = each_without (λ c. c < 4194304) (IsCellBound m) (cell_lines m) (cell_without m) (range_with_len 0 (cell_count m.grid)) bs
+    (cells_below 0 (cell_count m.grid) (omega (arith, few))) h
 
 dir_without : (dir : Dir) → NoFeed (dir_front dir)
 dir_without In = by_test 10 (dir_front In) refl
@@ -94,10 +95,12 @@ term_without : (flag : Bool) (s : ℕ) (dir : Dir) (t : Term) (p : TermPair) →
 term_without true s dir t p few h = (pair_without (dir_front dir) (term_form s t) p (term_is_form s t few) (in_limit s (codes " " ++ term_name t) p h.small) (dir_without dir) (name_without t), tt)
 term_without false s dir t p few h = tt
 
-terms_without : (m : FlowModel) (s : ℕ) (dir : Dir) (rows : List Line) (pairs : List TermPair) → s ≤ 18 → AreTerms m pairs → each_lines (term_rows (has_evt m) s dir) all_terms pairs ≡ rows → AllByRecursion NoFeed rows
+terms_without : (m : FlowModel) (s : ℕ) (dir : Dir) (rows : List Line) (pairs : List TermPair) → s ≤ 18 → AreTerms m pairs →
+    each_lines (term_rows (has_evt m) s dir) all_terms pairs ≡ rows → AllByRecursion NoFeed rows
 terms_without m s dir rows pairs few h are =
     let evt = has_evt m in
-    rw (← are) (each_without (λ t. Unit {0}) (IsTermPair evt) (term_rows evt s dir) (λ t p any good. term_without (is_printed evt t) s dir t p few good) all_terms pairs (tt, (tt, (tt, (tt, (tt, (tt, (tt, (tt, tt)))))))) h)
+    rw (← are) (each_without (λ t. Unit {0}) (IsTermPair evt) (term_rows evt s dir) (λ t p any good.
+    term_without (is_printed evt t) s dir t p few good) all_terms pairs (tt, (tt, (tt, (tt, (tt, (tt, (tt, (tt, tt)))))))) h)
 
 title_without : (at : TimeStep) → IsTime at → NoFeed (step_line at)
 title_without at h =
@@ -116,28 +119,36 @@ zone_without s v few pair h =
     let b = pair.1 in
     pair_without (zone_front v.from v.to) (flow_form s []) (zone_pair v) (flow_is_form s few) (in_limit s [] (zone_pair v) h)
     (Without-append 10 (codes "ZONE" ++ numbers_text (v.from ∷ v.to ∷ [])) (codes " ")
-    (Without-append 10 (codes "ZONE") (numbers_text (v.from ∷ v.to ∷ [])) (by_test 10 (codes "ZONE") refl) (numbers_without 10 low refl (v.from ∷ v.to ∷ []) (omega (arith, a), (omega (arith, b), tt))))
+    (Without-append 10 (codes "ZONE") (numbers_text (v.from ∷ v.to ∷ [])) (by_test 10 (codes "ZONE") refl)
+    (numbers_without 10 low refl (v.from ∷ v.to ∷ []) (omega (arith, a), (omega (arith, b), tt))))
     (by_test 10 (codes " ") refl))
     tt
 
 flows_without : (s : ℕ) (zs : List ZonePair) (vs : List ZoneFlow) → s ≤ 18 → All IsPair zs → AreFlows zs vs → AllByRecursion NoFeed (map (zone_line s) vs)
 flows_without s zs vs few pairs h =
     let are = flows_of zs vs h in
-    rw (← flow_lines s zs vs are) (each_without IsPair IsFlowOf (flow_rows s) (λ z v pair of. (zone_without s v few (subst IsPair (sym of.pair) pair) of.small, tt)) zs vs (recursion_from_All IsPair zs pairs) are)
+    rw (← flow_lines s zs vs are) (each_without IsPair IsFlowOf (flow_rows s) (λ z v pair of.
+    (zone_without s v few (subst IsPair (sym of.pair) pair) of.small, tt)) zs vs (recursion_from_All IsPair zs pairs) are)
 
-step_without : (m : FlowModel) (s : ℕ) (zs : List ZonePair) (at : TimeStep) (x : ListedStep) → IsWritable m s → All IsPair zs → IsTime at → IsListedStep m x → AreFlows zs x.zones → AllByRecursion NoFeed (step_lines m s at x.heads x.budget x.zones)
+step_without : (m : FlowModel) (s : ℕ) (zs : List ZonePair) (at : TimeStep) (x : ListedStep) → IsWritable m s → All IsPair zs → IsTime at → IsListedStep m x →
+    AreFlows zs x.zones → AllByRecursion NoFeed (step_lines m s at x.heads x.budget x.zones)
 unfolding step_lines
 step_without m s zs at x good pairs time h g = (
   title_without at time,
   all_appended NoFeed (head_lines m x.heads) (term_lines m s In x.budget ++ (term_lines m s Out x.budget ++ map (zone_line s) x.zones)) (heads_without m x.heads good.size.cells (bounds_of m x h))
-      (all_appended NoFeed (term_lines m s In x.budget) (term_lines m s Out x.budget ++ map (zone_line s) x.zones) (terms_without m s In (term_lines m s In x.budget) x.budget.into good.digits h.into (lines_in m s x.budget h.into))
-      (all_appended NoFeed (term_lines m s Out x.budget) (map (zone_line s) x.zones) (terms_without m s Out (term_lines m s Out x.budget) x.budget.out good.digits h.out (lines_out m s x.budget h.out)) (flows_without s zs x.zones good.digits pairs g))),
+      (all_appended NoFeed (term_lines m s In x.budget) (term_lines m s Out x.budget ++ map (zone_line s) x.zones)
+      (terms_without m s In (term_lines m s In x.budget) x.budget.into good.digits h.into (lines_in m s x.budget h.into))
+      (all_appended NoFeed (term_lines m s Out x.budget) (map (zone_line s) x.zones)
+      (terms_without m s Out (term_lines m s Out x.budget) x.budget.out good.digits h.out (lines_out m s x.budget h.out))
+      (flows_without s zs x.zones good.digits pairs g))),
 )
 
-steps_without : (m : FlowModel) (s : ℕ) (pairs : ℕ → List ZonePair) (xs : List ListedStep) → IsWritable m s → AreZonePairs pairs → AllZip (IsListedAt m pairs) (times m) xs → AllByRecursion NoFeed (all_step_lines m s (times m) xs)
+steps_without : (m : FlowModel) (s : ℕ) (pairs : ℕ → List ZonePair) (xs : List ListedStep) → IsWritable m s → AreZonePairs pairs →
+    AllZip (IsListedAt m pairs) (times m) xs → AllByRecursion NoFeed (all_step_lines m s (times m) xs)
 unfolding all_step_lines
 steps_without m s pairs xs good are h =
-    each_without IsTime (IsListedAt m pairs) (λ at x. step_lines m s at x.heads x.budget x.zones) (λ at x time step. step_without m s (pairs at.period) at x good (are at.period) time step.0 step.1) (times m) xs (recursion_from_All IsTime (times m) good.times) h
+    each_without IsTime (IsListedAt m pairs) (λ at x. step_lines m s at x.heads x.budget x.zones) (λ at x time step.
+    step_without m s (pairs at.period) at x good (are at.period) time step.0 step.1) (times m) xs (recursion_from_All IsTime (times m) good.times) h
 
 model_fed : (m : FlowModel) (s : ℕ) → IsWritable m s → NoFeed (model_line m s)
 model_fed m s good = model_without 10 low refl m s good (by_test 10 (codes "HEADS 2 DIGITS") refl) (by_test 10 (codes " UNIT ") refl)
@@ -146,7 +157,8 @@ first_without : (between : Bool) (m : FlowModel) (s : ℕ) → IsWritable m s �
 first_without false m s good = model_fed m s good
 first_without true m s good = Without-append 10 (model_line m s) (codes " TO") (model_fed m s good) (by_test 10 (codes " TO") refl)
 
-listing_without : (between : Bool) (m : FlowModel) (s : ℕ) (pairs : ℕ → List ZonePair) (steps : List ListedStep) → IsWritable m s → AreZonePairs pairs → AreListed m pairs steps → AllByRecursion NoFeed (listing between m s steps)
+listing_without : (between : Bool) (m : FlowModel) (s : ℕ) (pairs : ℕ → List ZonePair) (steps : List ListedStep) → IsWritable m s → AreZonePairs pairs →
+    AreListed m pairs steps → AllByRecursion NoFeed (listing between m s steps)
 unfolding listing
 listing_without between m s pairs steps good are h =
     (first_without between m s good, all_appended NoFeed (all_step_lines m s (times m) steps) (end_line ∷ []) (steps_without m s pairs steps good are h.steps) (by_test 10 end_line refl, tt))

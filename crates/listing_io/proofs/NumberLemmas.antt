@@ -27,7 +27,8 @@ shifted n m [] = ones n m (10 ^ 0) refl
   where
     ones : (n m p : ℕ) → p ≡ 1 → n + m ≡ n * p + m
     ones n m p e = rw e (omega arith)
-shifted n m (c ∷ cs) = ap (λ (k : ℕ). digits_value_after 10 k cs) (ring n m (digit_value c)) ∙ shifted (n * 10) (m * 10 + digit_value c) cs ∙ ap (λ (k : ℕ). k + digits_value_after 10 (m * 10 + digit_value c) cs) (power n (10 ^ length cs) ∙ ap (λ (k : ℕ). n * k) (sym (pow-suc 10 (length cs))))
+shifted n m (c ∷ cs) = ap (λ (k : ℕ). digits_value_after 10 k cs) (ring n m (digit_value c)) ∙ shifted (n * 10) (m * 10 + digit_value c) cs ∙ ap (λ (k : ℕ).
+    k + digits_value_after 10 (m * 10 + digit_value c) cs) (power n (10 ^ length cs) ∙ ap (λ (k : ℕ). n * k) (sym (pow-suc 10 (length cs))))
   where
     ring : (n m d : ℕ) → (n + m) * 10 + d ≡ n * 10 + (m * 10 + d)
     ring n m d = omega arith
@@ -63,8 +64,10 @@ behind_zeros n (suc j) = ap (λ (k : ℕ). digits_behind k (replicate j 48)) (ze
 pub behind_padded : (n k r : ℕ) → 0 < k → r < 10 ^ k → r < 10 ^ 64 → digits_behind n (padded_digits k r) ≡ n * 10 ^ k + r
 behind_padded n k r some small wide =
     let short : length (decimal r) ≤ k = length-decimal-le_wide k r some small wide in
-    behind_append n (replicate (k - length (decimal r)) 48) (decimal r) ∙ ap (λ (m : ℕ). digits_behind m (decimal r)) (behind_zeros n (k - length (decimal r))) ∙ behind_decimal (n * 10 ^ (k - length (decimal r))) r wide
-    ∙ ap (λ (m : ℕ). m + r) (times n (10 ^ (k - length (decimal r))) (10 ^ length (decimal r)) ∙ ap (λ (m : ℕ). n * m) (sym (pow-add 10 (k - length (decimal r)) (length (decimal r))) ∙ ap (λ (m : ℕ). 10 ^ m) (back k (length (decimal r)) short)))
+    behind_append n (replicate (k - length (decimal r)) 48) (decimal r) ∙ ap (λ (m : ℕ). digits_behind m (decimal r))
+    (behind_zeros n (k - length (decimal r))) ∙ behind_decimal (n * 10 ^ (k - length (decimal r))) r wide
+    ∙ ap (λ (m : ℕ). m + r) (times n (10 ^ (k - length (decimal r))) (10 ^ length (decimal r)) ∙ ap (λ (m : ℕ). n * m)
+    (sym (pow-add 10 (k - length (decimal r)) (length (decimal r))) ∙ ap (λ (m : ℕ). 10 ^ m) (back k (length (decimal r)) short)))
   where
     times : (n p q : ℕ) → n * p * q ≡ n * (p * q)
     times n p q = omega arith
@@ -93,7 +96,9 @@ pub body_value : (k n : ℕ) → 0 < k → n < 10 ^ 64 → digits_behind 0 (body
 body_value k n some small =
     let p = ten_pos k in
     behind_append 0 (decimal (n / 10 ^ k) ++ codes ".") (padded_digits k (n % 10 ^ k))
-    ∙ ap (λ (m : ℕ). digits_behind m (padded_digits k (n % 10 ^ k))) (behind_append 0 (decimal (n / 10 ^ k)) (codes ".") ∙ point (digits_behind 0 (decimal (n / 10 ^ k))) ∙ behind_decimal 0 (n / 10 ^ k) (quotient_less n (10 ^ k) (10 ^ 64) p small) ∙ none (10 ^ length (decimal (n / 10 ^ k))) (n / 10 ^ k))
+    ∙ ap (λ (m : ℕ). digits_behind m (padded_digits k (n % 10 ^ k)))
+    (behind_append 0 (decimal (n / 10 ^ k)) (codes ".") ∙ point (digits_behind 0 (decimal (n / 10 ^ k))) ∙ behind_decimal 0 (n / 10 ^ k)
+    (quotient_less n (10 ^ k) (10 ^ 64) p small) ∙ none (10 ^ length (decimal (n / 10 ^ k))) (n / 10 ^ k))
     ∙ behind_padded (n / 10 ^ k) k (n % 10 ^ k) some (mod_below n (10 ^ k) p) (part_less n (10 ^ k) (10 ^ 64) p small)
     ∙ division n (10 ^ k) p
   where
@@ -128,7 +133,9 @@ negative_is k n rest = refl
 pub value_is : (k : ℕ) (z : ℤ) (rest : List ℕ) → 0 < k → nat_abs z < 10 ^ 64 → ((m : ℕ) → digits_behind m rest ≡ m) → value_of (fixed_text k z ++ rest) ≡ z
 value_is k (pos n) rest some small none =
     let (numeral, value) = decimal_is_IsNumeral_wide (n / 10 ^ k) (quotient_less n (10 ^ k) (10 ^ 64) (ten_pos k) small) in
-    let minus : is_negative (body k n ++ rest) ≡ false = ap is_negative (regrouped (decimal (n / 10 ^ k)) (codes ".") (padded_digits k (n % 10 ^ k)) rest) ∙ no_minus (decimal (n / 10 ^ k)) (codes "." ++ (padded_digits k (n % 10 ^ k) ++ rest)) numeral.0 numeral.1 in
+    let minus : is_negative (body k n ++ rest) ≡ false =
+    ap is_negative (regrouped (decimal (n / 10 ^ k)) (codes ".") (padded_digits k (n % 10 ^ k)) rest) ∙ no_minus (decimal (n / 10 ^ k))
+    (codes "." ++ (padded_digits k (n % 10 ^ k) ++ rest)) numeral.0 numeral.1 in
     value_without_sign (body k n ++ rest) n minus (behind_body k n rest some small none)
 value_is k (negsuc n) rest some small none = grind (arith, negative_is, negative, behind_minus, behind_body)
 

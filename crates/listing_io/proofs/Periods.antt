@@ -16,7 +16,8 @@ module _ (m : FlowModel) where
 
   of_periods : (first count : ℕ) → first + count ≤ length m.periods + 1 → AllByRecursion IsWithin (flat_map (steps_of m) (range_with_len first count))
   of_periods first zero h = tt
-  of_periods first (suc count) h = appended (steps_of m first) (flat_map (steps_of m) (range_with_len (first + 1) count)) (of_period first (range_with_len 1 (period_at m first).nstp) (omega (arith, h))) (of_periods (first + 1) count (omega (arith, h)))
+  of_periods first (suc count) h = appended (steps_of m first) (flat_map (steps_of m) (range_with_len (first + 1) count))
+      (of_period first (range_with_len 1 (period_at m first).nstp) (omega (arith, h))) (of_periods (first + 1) count (omega (arith, h)))
 
   pub times_within : All IsWithin (times m)
   unfolding times

@@ -45,7 +45,8 @@ text_row text left after h =
 abbrev pub IsInLimit : Form → TermPair → Type 0
 IsInLimit f p = (nat_abs p.lo ≤ f.limit) × (nat_abs p.hi ≤ f.limit)
 
-pair_again : (front : List ℕ) (f : Form) (p : TermPair) (rest : List Line) (n : ℕ) → IsForm f → IsInLimit f p → pair_at front f (left_of (pair_line front f p ∷ rest) n) ≡ Ok (p, left_of rest (next_number n))
+pair_again : (front : List ℕ) (f : Form) (p : TermPair) (rest : List Line) (n : ℕ) → IsForm f → IsInLimit f p →
+    pair_at front f (left_of (pair_line front f p ∷ rest) n) ≡ Ok (p, left_of rest (next_number n))
 unfolding pair_at
 pair_again front f p rest n form h = rw (line_whole front f p form h.0 h.1) refl
 
@@ -83,7 +84,14 @@ module _ (m : FlowModel) (s : ℕ) where
         let p = goes (pair_at (head_front m.grid c) head_form left) _ got h in
         let (small, row) = pair_was (head_front m.grid c) head_form left p.item p.first in
         let P : Bound × Left → Type 0 = λ x. IsCellBound m c x.0 × (left.lines ≡ head_line m.grid c x.0 ∷ x.1.lines) in
-        subst P (same_ok (bound_of p.item.0, p.item.1) got _ refl p.then_) (record { low = is_head p.item.0.lo small.0; high = is_head p.item.0.hi small.1; none = λ off. absurd (differ (is_active m c) is off) }, row);
+        subst P (same_ok (bound_of p.item.0, p.item.1) got _ refl p.then_) (
+          record {
+            low = is_head p.item.0.lo small.0;
+            high = is_head p.item.0.hi small.1;
+            none = λ off. absurd (differ (is_active m c) is off);
+          },
+          row,
+        );
   }
     where
       differ : (b : Bool) → b ≡ true → b ≡ false → ⊥

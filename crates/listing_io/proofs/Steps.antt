@@ -48,7 +48,8 @@ cells m = range_with_len 0 (cell_count m.grid)
 pub bounds_of : (m : FlowModel) (x : ListedStep) → IsListedStep m x → AllZip (IsCellBound m) (cells m) x.heads
 bounds_of m x h = subst (λ n. AllZip (IsCellBound m) (range_with_len 0 n) x.heads) h.whole h.heads
 
-step_again : (m : FlowModel) (s : ℕ) (zs : List ZonePair) (at : TimeStep) → s ≤ 18 → (x : ListedStep) (rest : List Line) (n : ℕ) → IsStepWith m zs x → (k : ℕ) × (step_with m s zs at (left_of (rows_at m s at x ++ rest) n) ≡ Ok (x, left_of rest k))
+step_again : (m : FlowModel) (s : ℕ) (zs : List ZonePair) (at : TimeStep) → s ≤ 18 → (x : ListedStep) (rest : List Line) (n : ℕ) → IsStepWith m zs x → (k : ℕ) ×
+    (step_with m s zs at (left_of (rows_at m s at x ++ rest) n) ≡ Ok (x, left_of rest k))
 unfolding step_with step_lines
 step_again m s zs at few x rest n h =
     let evt = has_evt m in
@@ -63,13 +64,17 @@ step_again m s zs at few x rest n h =
     let (l, flows_are) = (flows_read s zs).again few x.zones rest k flows in
     let into_read = rw (lines_in m s x.budget h.0.into) at into_are in
     let out_read = rw (lines_out m s x.budget h.0.out) at out_are in
-    let flows_read = rw (flow_lines s zs x.zones flows) at flows_are in
-    (l, ap (λ (t : List Line). step_with m s zs at (left_of (step_line at ∷ t) n)) (regroup a b c f rest) ∙ rw (text_again (step_line at) (a ++ (b ++ (c ++ (f ++ rest)))) n, heads_are, into_read, out_read, flows_read) refl)
+    let flows_read = rw (flow_lines s zs x.zones flows) at flows_are in (
+      l,
+      ap (λ (t : List Line). step_with m s zs at (left_of (step_line at ∷ t) n)) (regroup a b c f rest) ∙ rw
+          (text_again (step_line at) (a ++ (b ++ (c ++ (f ++ rest)))) n, heads_are, into_read, out_read, flows_read) refl,
+    )
   where
     regroup : (a b c f d : List Line) → (a ++ (b ++ (c ++ f))) ++ d ≡ a ++ (b ++ (c ++ (f ++ d)))
     regroup a b c f d = simp append_assoc
 
-step_was : (m : FlowModel) (s : ℕ) (zs : List ZonePair) (at : TimeStep) (left : Left) (got : ListedStep × Left) → step_with m s zs at left ≡ Ok got → IsStepWith m zs got.0 × (left.lines ≡ rows_at m s at got.0 ++ got.1.lines)
+step_was : (m : FlowModel) (s : ℕ) (zs : List ZonePair) (at : TimeStep) (left : Left) (got : ListedStep × Left) → step_with m s zs at left ≡ Ok got →
+    IsStepWith m zs got.0 × (left.lines ≡ rows_at m s at got.0 ++ got.1.lines)
 unfolding step_with step_lines
 step_was m s zs at left got h =
     let evt = has_evt m in
@@ -95,7 +100,9 @@ step_was m s zs at left got h =
     subst P (same_ok (record { heads = heads.item.0; budget = budget; zones = flows.item.0 }, flows.item.1) got _ refl flows.then_) (
       (record { whole = whole; heads = subst (λ n. AllZip (IsCellBound m) (range_with_len 0 n) heads.item.0) (sym whole) bounds; into = pairs_in; out = pairs_out }, are_flows zs flows.item.0 are),
       text_row (step_line at) left title.item title.first
-          ∙ ap (λ (t : List Line). step_line at ∷ t) (head_rows ∙ ap (λ (t : List Line). a ++ t) (into_rows ∙ ap (λ (t : List Line). b ++ t) (outward ∙ ap (λ (t : List Line). c ++ t) flow_rows_are)) ∙ regroup a b c f flows.item.1.lines),
+          ∙ ap (λ (t : List Line). step_line at ∷ t)
+          (head_rows ∙ ap (λ (t : List Line). a ++ t) (into_rows ∙ ap (λ (t : List Line). b ++ t) (outward ∙ ap (λ (t : List Line). c ++ t) flow_rows_are))
+          ∙ regroup a b c f flows.item.1.lines),
     )
   where
     regroup : (a b c f d : List Line) → a ++ (b ++ (c ++ (f ++ d))) ≡ (a ++ (b ++ (c ++ f))) ++ d
@@ -112,7 +119,8 @@ first_again false m s rest n = rw ((bytes_eq-Decides (first_line false m s) (fir
 first_again true m s rest n = rw ((bytes_eq-Decides (first_line true m s) (first_line true m s)).1 refl) refl
 
 -- The lines of a listing are read as its steps.
-pub rows_again : (between : Bool) (m : FlowModel) (s : ℕ) (pairs : ℕ → List ZonePair) (steps : List ListedStep) → s ≤ 18 → AreListed m pairs steps → listing_at between m s pairs (left_of (listing between m s steps) 1) ≡ Ok steps
+pub rows_again : (between : Bool) (m : FlowModel) (s : ℕ) (pairs : ℕ → List ZonePair) (steps : List ListedStep) → s ≤ 18 → AreListed m pairs steps →
+    listing_at between m s pairs (left_of (listing between m s steps) 1) ≡ Ok steps
 unfolding listing_at listing
 rows_again between m s pairs steps few h =
     let (k, read) = (steps_read m s pairs).again few steps (end_line ∷ []) (next_number 1) h.steps in
@@ -145,12 +153,14 @@ none_over n [] u h = refl
 none_over n (row ∷ rows) u h = absurd (clash n u (none_of n (row ∷ rows)) refl h)
 
 -- a first line and the further lines of a listing are the listing's lines
-whole_listing : (between : Bool) (m : FlowModel) (s : ℕ) (steps : List ListedStep) (row : Line) (rows : List Line) → IsKnown between m s row → rows ≡ row ∷ (all_step_lines m s (times m) steps ++ (end_line ∷ [])) → IsListing between m s steps rows
+whole_listing : (between : Bool) (m : FlowModel) (s : ℕ) (steps : List ListedStep) (row : Line) (rows : List Line) → IsKnown between m s row → rows ≡
+    row ∷ (all_step_lines m s (times m) steps ++ (end_line ∷ [])) → IsListing between m s steps rows
 unfolding listing
 whole_listing between m s steps row rows (inl e) h = inl (h ∙ ap (λ (r : Line). r ∷ (all_step_lines m s (times m) steps ++ (end_line ∷ []))) e)
 whole_listing between m s steps row rows (inr (is, e)) h = inr (is, h ∙ ap (λ (r : Line). r ∷ (all_step_lines m s (times m) steps ++ (end_line ∷ []))) e)
 
-listing_was : (between : Bool) (m : FlowModel) (s : ℕ) (pairs : ℕ → List ZonePair) (left : Left) (steps : List ListedStep) → listing_at between m s pairs left ≡ Ok steps → AreListed m pairs steps × IsListing between m s steps left.lines
+listing_was : (between : Bool) (m : FlowModel) (s : ℕ) (pairs : ℕ → List ZonePair) (left : Left) (steps : List ListedStep) → listing_at between m s pairs left ≡
+    Ok steps → AreListed m pairs steps × IsListing between m s steps left.lines
 unfolding listing_at
 listing_was between m s pairs left steps h =
     let first = goes (first_at between m s left) _ steps h in

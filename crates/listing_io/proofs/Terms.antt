@@ -74,7 +74,8 @@ term_rows evt s dir t p = line_if (is_printed evt t) s dir t p
 abbrev pub IsTermPair : Bool → Term → TermPair → Type 0
 IsTermPair evt t p = IsPairIf (is_printed evt t) p
 
-lines_of_pairs : (evt : Bool) (s : ℕ) (dir : Dir) (ps : List TermPair) → length ps ≡ 8 → each_lines (term_rows evt s dir) all_terms ps ≡ map (λ t. term_line s dir t (slice_index_or ps (place_of t) no_pair)) (printed_terms evt)
+lines_of_pairs : (evt : Bool) (s : ℕ) (dir : Dir) (ps : List TermPair) → length ps ≡ 8 → each_lines (term_rows evt s dir) all_terms ps ≡
+    map (λ t. term_line s dir t (slice_index_or ps (place_of t) no_pair)) (printed_terms evt)
 lines_of_pairs true s dir (a ∷ b ∷ c ∷ d ∷ e ∷ f ∷ g ∷ x ∷ []) h = refl
 lines_of_pairs false s dir (a ∷ b ∷ c ∷ d ∷ e ∷ f ∷ g ∷ x ∷ []) h = refl
 lines_of_pairs evt s dir other h = absurd (omega (arith, h))

@@ -15,7 +15,8 @@ pub no_cells : (n i : ℕ) → n ≤ i → range_with_len i (n - i) ≡ []
 no_cells n i le = let k : n - i ≡ 0 = omega arith in rw k refl
 
 -- a reading for each of a list that meets a fault
-pub each_stops : {A X S : Type 0} (read : A → S → Result (X × S) ℕ) (fault : Fault) (front : List X) (all others : List A) (a : A) (s : S) (total : Result (List X × S) ℕ) → all ≡ a ∷ others → Stops fault (read a s)
+pub each_stops : {A X S : Type 0} (read : A → S → Result (X × S) ℕ) (fault : Fault) (front : List X) (all others : List A) (a : A) (s : S)
+    (total : Result (List X × S) ℕ) → all ≡ a ∷ others → Stops fault (read a s)
     → with_front front (for_each read all s) ≡ total → Stops fault total
 unfolding for_each
 each_stops read (BadLine n) front all others a s total e h so_far =
@@ -51,7 +52,9 @@ pub step_joined : (title : Line) (a b c d : List Line) → [] ++ ended_line titl
 step_joined title a b c d = simp (append_assoc, flat_map-cons, flat_map-append)
 
 -- seven lines, and others after them
-pub seven_joined : (t : List ℕ) (a b c d e f g : Line) (more : List Line) → t ++ ended_line a ++ ended_line b ++ ended_line c ++ ended_line d ++ ended_line e ++ ended_line f ++ ended_line g ++ text_of more ≡ t ++ text_of (a ∷ b ∷ c ∷ d ∷ e ∷ f ∷ g ∷ more)
+pub seven_joined : (t : List ℕ) (a b c d e f g : Line) (more : List Line) →
+    t ++ ended_line a ++ ended_line b ++ ended_line c ++ ended_line d ++ ended_line e ++ ended_line f ++ ended_line g ++ text_of more ≡
+    t ++ text_of (a ∷ b ∷ c ∷ d ∷ e ∷ f ∷ g ∷ more)
 seven_joined t a b c d e f g more = simp (append_assoc, flat_map-cons)
 
 -- the line of what is there on a condition

@@ -49,4 +49,5 @@ pub histories_bound : (k : Task) (a : FlowModel) (o : Option FlowModel) (start :
 histories_bound k a None start values many moves starts = λ d Xs h.
     one_bound k a d h.some (times a) start values (start_head a) Xs many moves starts h.steps
 histories_bound k a (Some b) start values many moves starts = λ d Xs h.
-    two_bound k a d h.some b (times a) start values (start_head h.first) Xs many moves (encloses_first a h.first (between_cells a h.first b h.between) start (start_head h.first) (starts h.first h.between)) h.steps
+    two_bound k a d h.some b (times a) start values (start_head h.first) Xs many moves
+    (encloses_first a h.first (between_cells a h.first b h.between) start (start_head h.first) (starts h.first h.between)) h.steps

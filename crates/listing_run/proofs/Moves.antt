@@ -25,7 +25,8 @@ module _ (m : FlowModel) (p : List Entries) (named : (c : ℕ) → IsCellNamed p
   own P each k lt = each (entries_at p k).id (named (entries_at p k).id (k, lt, inl refl))
 
   of_sources : (P : ℕ → Type 0) → ((c : ℕ) → IsActive m c → P c) → (k : ℕ) → k < length p → All (λ x. P x.source) (entries_at p k).fixed
-  of_sources P each k lt = All-weaker (Contains (entries_at p k).fixed) (λ (x : Fixed). P x.source) (λ x i. each x.source (named x.source (k, lt, inr (x, i, refl)))) (entries_at p k).fixed (All-contains_itself (entries_at p k).fixed)
+  of_sources P each k lt = All-weaker (Contains (entries_at p k).fixed) (λ (x : Fixed). P x.source) (λ x i.
+      each x.source (named x.source (k, lt, inr (x, i, refl)))) (entries_at p k).fixed (All-contains_itself (entries_at p k).fixed)
 
   pub ids_within : (count : ℕ) → count ≡ cell_count m.grid → (k : ℕ) → k < length p → (entries_at p k).id < count
   ids_within count same = own (λ c. c < count) (λ c a. let w = a.within in omega (arith, same, w))
@@ -98,7 +99,8 @@ module _ (k : Task) (at : TimeStep) where
         record {
           heads = e.heads;
           budget = terms k.digits (exact_step m at.period at.step before) (heads_of d Y) e.step (within (length x.problem) d Y (lower_at x.bounds) (upper_at x.bounds) move.some e.variables);
-          zones = flows_enclose k.zones x.problem x.heads flows zones k.digits (exact_step m at.period at.step before) (heads_of d X) e.step (heads_named m x.problem named_in x.heads (heads_of d X) (lies_encloses m x.heads d X move.some e.heads));
+          zones = flows_enclose k.zones x.problem x.heads flows zones k.digits (exact_step m at.period at.step before) (heads_of d X) e.step
+              (heads_named m x.problem named_in x.heads (heads_of d X) (lies_encloses m x.heads d X move.some e.heads));
         })
 
 -- What is listed with plain limits is listed with wide ones: step by step.

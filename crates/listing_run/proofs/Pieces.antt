@@ -26,12 +26,15 @@ module _ (k : Task) where
   pub under_way_at_first : (s : Steps) (first : Text) → first ≡ first_text (is_between k) k.decks.first k.digits → IsWalk k s → IsAtFirst k s → IsUnderWay s first []
   under_way_at_first s first same w f = record { values = []; here = record { before = []; all = ap (λ t. t ∷ []) (sym same); written = refl }; solved = none_solved k s w f }
 
-  pub under_way_more : {S : Type 0} (leads : S → List Entries → Edges → Bool → S → Type 0) (s t : Steps) (before after : S) (pending text : Text) (puts tail : List Put) → IsUnderWay s pending puts → tail ≡ whole_put pending ∷ [] → IsNextText leads k s t before after text → IsUnderWay t text (puts ++ tail)
+  pub under_way_more : {S : Type 0} (leads : S → List Entries → Edges → Bool → S → Type 0) (s t : Steps) (before after : S) (pending text : Text)
+      (puts tail : List Put) → IsUnderWay s pending puts → tail ≡ whole_put pending ∷ [] → IsNextText leads k s t before after text →
+      IsUnderWay t text (puts ++ tail)
   under_way_more leads s t before after pending text puts tail u e n =
       let P : List Text → Type 0 = λ ts. IsAt (IsListing k) (IsCutListing k) ts text (puts ++ tail) in
       record {
         values = u.values ++ (n.value ∷ []);
-        here = subst P (ap (λ x. first_pieces k u.values ++ (x ∷ [])) n.written ∙ begun_more k u.values n.value) (at_more (IsListing k) (IsCutListing k) (first_pieces k u.values) pending text puts tail u.here e);
+        here = subst P (ap (λ x. first_pieces k u.values ++ (x ∷ [])) n.written ∙ begun_more k u.values n.value)
+            (at_more (IsListing k) (IsCutListing k) (first_pieces k u.values) pending text puts tail u.here e);
         solved = one_more_solved k leads s t before after n.value u.values u.solved n.next;
       }
 
@@ -48,8 +51,10 @@ module _ (k : Task) where
     pub ends_wanting : (rest : List Put) → tail ≡ whole_put pending ∷ [] → EndsOutOfMemory end rest → IsRunOf end (puts ++ tail ++ rest)
     ends_wanting rest e h = lacks_after (IsListing k) (IsCutListing k) (first_pieces k u.values) pending puts tail rest end u.here cut_here e h
 
-    pub ends_with_line : (rest : List Put) (last : ListingEnd) → tail ≡ whole_put pending ∷ [] → EndsAt k last s.heads (times_left s) → IsEnd (last_line k.decks.first.grid last) (status_of last) end rest → IsRunOf end (puts ++ tail ++ rest)
-    ends_with_line rest last e here h = ends_or_lacks (IsListing k) (IsCutListing k) (first_pieces k u.values) pending (last_line k.decks.first.grid last) (status_of last) end puts tail rest u.here cut_here e (is_listing k s.heads (times_left s) u.values last u.solved here) h
+    pub ends_with_line : (rest : List Put) (last : ListingEnd) → tail ≡ whole_put pending ∷ [] → EndsAt k last s.heads (times_left s) →
+        IsEnd (last_line k.decks.first.grid last) (status_of last) end rest → IsRunOf end (puts ++ tail ++ rest)
+    ends_with_line rest last e here h = ends_or_lacks (IsListing k) (IsCutListing k) (first_pieces k u.values) pending (last_line k.decks.first.grid last)
+        (status_of last) end puts tail rest u.here cut_here e (is_listing k s.heads (times_left s) u.values last u.solved here) h
 
 concat_append : (a b : List Text) → concat (a ++ b) ≡ concat a ++ concat b
 concat_append [] b = refl
@@ -70,21 +75,29 @@ module _ (k : Task) (start : Text) where
     pub written : text ≡ start ++ concat (first_pieces k values)
 
   pub text_at_first : (s : Steps) (first text : Text) → first ≡ first_text (is_between k) k.decks.first k.digits → text ≡ start ++ first → IsWalk k s → IsAtFirst k s → IsText s text
-  text_at_first s first text same is w f = record { values = []; solved = none_solved k s w f; written = is ∙ ap (λ t. start ++ t) (same ∙ sym (append-nil (first_text (is_between k) k.decks.first k.digits))) }
+  text_at_first s first text same is w f =
+      record {
+        values = [];
+        solved = none_solved k s w f;
+        written =
+            is ∙ ap (λ t. start ++ t) (same ∙ sym (append-nil (first_text (is_between k) k.decks.first k.digits)));
+      }
 
   -- a line was added
   with_line : (values : List Step) (text line new : Text) → text ≡ start ++ concat (first_pieces k values) → new ≡ text ++ line → new ≡ start ++ concat (listing k values line)
   with_line values text line new was is =
       is ∙ (ap (λ t. t ++ line) was ∙ (append_assoc start (concat (first_pieces k values)) line ∙ ap (λ t. start ++ t) (sym (concat_one (first_pieces k values) line))))
 
-  pub text_more : {S : Type 0} (leads : S → List Entries → Edges → Bool → S → Type 0) (s t : Steps) (before after : S) (text step new : Text) → IsNextText leads k s t before after step → new ≡ text ++ step → IsText s text → IsText t new
+  pub text_more : {S : Type 0} (leads : S → List Entries → Edges → Bool → S → Type 0) (s t : Steps) (before after : S) (text step new : Text) →
+      IsNextText leads k s t before after step → new ≡ text ++ step → IsText s text → IsText t new
   text_more leads s t before after text step new n is so = record {
     values = so.values ++ (n.value ∷ []);
     solved = one_more_solved k leads s t before after n.value so.values so.solved n.next;
     written = with_line so.values text (text_of k n.value) new so.written (is ∙ ap (λ x. text ++ x) n.written) ∙ ap (λ ts. start ++ concat ts) (begun_more k so.values n.value);
   }
 
-  pub text_ended : (s : Steps) (last : ListingEnd) (end : Status) (text new : Text) → EndsAt k last s.heads (times_left s) → end ≡ status_of last → new ≡ text ++ last_line k.decks.first.grid last → IsText s text → IsPushed k end start new
+  pub text_ended : (s : Steps) (last : ListingEnd) (end : Status) (text new : Text) → EndsAt k last s.heads (times_left s) → end ≡ status_of last → new ≡
+      text ++ last_line k.decks.first.grid last → IsText s text → IsPushed k end start new
   text_ended s last end text new here meant is so = record {
     pieces = listing k so.values (last_line k.decks.first.grid last);
     listed = record {
@@ -119,7 +132,8 @@ broken_not_ok k s at rest ends.Whole e h ok = let P : List TimeStep → Type 0 =
 broken_not_ok k s at rest (ends.NoBound t n) e h ok = let bad : status.NoBound t.period t.step n ≡ status.Ok = ok in cc
 broken_not_ok k s at rest (ends.Unfinished t) e h ok = let bad : status.Unfinished t.period t.step ≡ status.Ok = ok in cc
 
-pub end_not_ok : (k : Task) (s : Steps) (at : TimeStep) (rest : List TimeStep) (last : ListingEnd) (end : Status) (tail : List Put) → times_left s ≡ at ∷ rest → EndsAt k last s.heads (times_left s) → IsEnd (last_line k.decks.first.grid last) (status_of last) end tail → end ≡ status.Ok → ⊥
+pub end_not_ok : (k : Task) (s : Steps) (at : TimeStep) (rest : List TimeStep) (last : ListingEnd) (end : Status) (tail : List Put) → times_left s ≡ at ∷ rest →
+    EndsAt k last s.heads (times_left s) → IsEnd (last_line k.decks.first.grid last) (status_of last) end tail → end ≡ status.Ok → ⊥
 end_not_ok k s at rest last end tail e h = line_not_ok (last_line k.decks.first.grid last) (status_of last) end tail (broken_not_ok k s at rest last e h)
 
 pub stop_end_not_ok : (fault : SinkError) (end : Status) (tail : List Put) → IsStopEnd fault end tail → end ≡ status.Ok → ⊥
@@ -130,7 +144,8 @@ module _ (failed : Type 0) (k : Task) where
   pub beside : (end : Status) (puts : List Put) → IsRun (IsListing k) (IsCutListing k) end puts → IsRun (IsListingBeside failed k) (IsCutListing k) end puts
   beside end puts h = weaker (IsListing k) (IsListingBeside failed k) (IsCutListing k) (λ meant pieces d. listed meant pieces d) end puts h
 
-  pub ends_stopped : (fault : SinkError) (s : Steps) (pending : Text) (puts tail rest : List Put) (end : Status) → IsUnderWay k s pending puts → tail ≡ whole_put pending ∷ [] → (fault ≡ error.Write → failed) → IsStopEnd fault end rest →
+  pub ends_stopped : (fault : SinkError) (s : Steps) (pending : Text) (puts tail rest : List Put) (end : Status) → IsUnderWay k s pending puts → tail ≡
+      whole_put pending ∷ [] → (fault ≡ error.Write → failed) → IsStopEnd fault end rest →
       IsRun (IsListingBeside failed k) (IsCutListing k) end (puts ++ tail ++ rest)
   ends_stopped error.Write s pending puts tail rest end u e why (same, none) =
       let i = u.here in
@@ -147,7 +162,8 @@ beside_taken : (failed other : Type 0) (k : Task) → (failed → other) → (en
 beside_taken failed other k takes end pieces (listed meant all d) = listed meant all d
 beside_taken failed other k takes end pieces (left all f c) = left all (takes f) c
 
-pub beside_by : (failed other : Type 0) (k : Task) → (failed → other) → (end : Status) (puts : List Put) → IsRun (IsListingBeside failed k) (IsCutListing k) end puts → IsRun (IsListingBeside other k) (IsCutListing k) end puts
+pub beside_by : (failed other : Type 0) (k : Task) → (failed → other) → (end : Status) (puts : List Put) →
+    IsRun (IsListingBeside failed k) (IsCutListing k) end puts → IsRun (IsListingBeside other k) (IsCutListing k) end puts
 beside_by failed other k takes end puts h = weaker (IsListingBeside failed k) (IsListingBeside other k) (IsCutListing k) (beside_taken failed other k takes) end puts h
 
 -- nothing beside can fail to be written

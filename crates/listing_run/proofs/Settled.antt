@@ -14,17 +14,20 @@ use Rattle.listing_run.specs.declared.text.ListingEnd.TheVariants as ends
 
 module _ (k : Task) (s : ℕ) (at : TimeStep) (old : List Bound) (digits : s ≡ k.digits) where
   -- what lies between a pair lies between heads that hold it
-  between : (p : List Entries) (b : Edges) (d : ℕ) (X l u : ℕ → ℤ) (heads : List Bound) → IsSettledPair p b l u → HoldsPair p b heads → LiesBetween (length p) d X l u → LiesBetween (length p) d X (lower_at heads) (upper_at heads)
+  between : (p : List Entries) (b : Edges) (d : ℕ) (X l u : ℕ → ℤ) (heads : List Bound) → IsSettledPair p b l u → HoldsPair p b heads →
+      LiesBetween (length p) d X l u → LiesBetween (length p) d X (lower_at heads) (upper_at heads)
   between p b d X l u heads pair shown v = record {
     low = λ c lt. le_trans_z _ _ _ (mul_mono_right d (lower_at heads c) (l c) (shown.low l u pair c lt)) (v.low c lt);
     high = λ c lt. le_trans_z _ _ _ (v.high c lt) (mul_mono_right d (u c) (upper_at heads c) (shown.high l u pair c lt));
   }
 
-  between_by : (limits : Limits) (p : List Entries) (b : Edges) (d : ℕ) (X l u : ℕ → ℤ) (heads : List Bound) → IsSettledPair p b l u → HoldsPair p b heads → LiesBetweenBy limits (length p) d X l u → LiesBetweenBy limits (length p) d X (lower_at heads) (upper_at heads)
+  between_by : (limits : Limits) (p : List Entries) (b : Edges) (d : ℕ) (X l u : ℕ → ℤ) (heads : List Bound) → IsSettledPair p b l u → HoldsPair p b heads →
+      LiesBetweenBy limits (length p) d X l u → LiesBetweenBy limits (length p) d X (lower_at heads) (upper_at heads)
   between_by Plain p b d X l u heads pair shown v = between p b d X l u heads pair shown v
   between_by Wide p b d X l u heads pair shown v = λ range. between p b d X l u heads pair shown (v range)
 
-  pair_encloses : (p : List Entries) (b : Edges) (l u : ℕ → ℤ) → IsSettledPair p (edges_by k.limits b) l u → EachMember k.decks (λ m. LieBetween k.limits m at old p l u) → PairEncloses k.limits k.decks at old p b
+  pair_encloses : (p : List Entries) (b : Edges) (l u : ℕ → ℤ) → IsSettledPair p (edges_by k.limits b) l u →
+      EachMember k.decks (λ m. LieBetween k.limits m at old p l u) → PairEncloses k.limits k.decks at old p b
   pair_encloses p b l u pair encloses heads shown =
       each_member k.decks (λ m. LieBetween k.limits m at old p (lower_at heads) (upper_at heads)) (λ m member before d X move.
       between_by k.limits p (edges_by k.limits b) d (variable_heads (exact_step m at.period at.step before) X) l u heads pair shown
@@ -63,7 +66,9 @@ module _ {S : Type 0} (begins : S → ℕ → ℕ → S → Type 0) (leads : S �
       reaches = λ whole end h. let P : List TimeStep → Type 0 = λ ts. Reaches begins leads stop k whole s.heads ts first end in subst P (all_left k s w f) h;
     }
 
-    pub one_more_settled : (first before told after : S) (s t : Steps) (at : TimeStep) (rest : List TimeStep) (text : Text) → times_left s ≡ at ∷ rest → AreSettledSoFar first s before → begins before at.period at.step told → IsNextText leads k s t told after text → stop after ≡ None → AreSettledSoFar first t after
+    pub one_more_settled : (first before told after : S) (s t : Steps) (at : TimeStep) (rest : List TimeStep) (text : Text) → times_left s ≡ at ∷ rest →
+        AreSettledSoFar first s before → begins before at.period at.step told → IsNextText leads k s t told after text → stop after ≡ None →
+        AreSettledSoFar first t after
     one_more_settled first before told after s t at rest text e so b text_is none =
         let n = text_is.next in
         let v = text_is.value in
@@ -91,7 +96,8 @@ module _ {S : Type 0} (begins : S → ℕ → ℕ → S → Type 0) (leads : S �
     next_rests_or_settles bytes s t at rest told after (Err fault) e n l = let P : List TimeStep → Type 0 = λ ts. RestsOrSettlesFirst leads k ts s.heads told after in subst P e l
 
     -- one step more was begun, whatever its result
-    pub reaches_more : {X E : Type 0} (bytes : X → Text) (s t : Steps) (at : TimeStep) (rest : List TimeStep) (first before told after : S) (r : Result X E) → times_left s ≡ at ∷ rest → AreSettledSoFar first s before → begins before at.period at.step told →
+    pub reaches_more : {X E : Type 0} (bytes : X → Text) (s t : Steps) (at : TimeStep) (rest : List TimeStep) (first before told after : S) (r : Result X E) →
+        times_left s ≡ at ∷ rest → AreSettledSoFar first s before → begins before at.period at.step told →
         IfOk r (λ x. IsNextText leads k s t told after (bytes x)) → IfErr r (λ _. RestsOrSettlesFirst leads k (times_left s) s.heads told after) → ReachesFirst begins leads stop k false first after
     reaches_more bytes s t at rest first before told after r e so b n l =
         let R : List TimeStep → Type 0 = λ ts. Reaches begins leads stop k false s.heads ts before after in

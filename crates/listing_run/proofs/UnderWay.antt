@@ -25,7 +25,8 @@ module _ (k : Task) where
   solved_at_first start is encloses = record { steps = record { start = start; is_start = is; steps = (refl, refl) }; starts = encloses; moves = tt }
 
   -- one step more
-  step_then : (old : List Bound) (at : TimeStep) (rest : List TimeStep) (v : Step) (heads : List Bound) → IsStep k at old v → heads ≡ v.heads → (start : List Bound) (all : List TimeStep) (values : List Step) →
+  step_then : (old : List Bound) (at : TimeStep) (rest : List TimeStep) (v : Step) (heads : List Bound) → IsStep k at old v → heads ≡ v.heads →
+      (start : List Bound) (all : List TimeStep) (values : List Step) →
       StepsThen k (AreLeft old (at ∷ rest)) start all values → StepsThen k (AreLeft heads rest) start all (values ++ (v ∷ []))
   step_then old at rest v heads is same start all [] (here, left) =
       let P : List TimeStep → Type 0 = λ ts. StepsThen k (AreLeft heads rest) start ts (v ∷ []) in
@@ -43,7 +44,8 @@ module _ (k : Task) where
   moves_then old at rest v moves start (t ∷ all) (w ∷ values) (x, h) (m, done) = (m, moves_then old at rest v moves w.heads all values h done)
   moves_then old at rest v moves start [] (w ∷ values) h done = absurd h
 
-  pub solved_more : (old : List Bound) (at : TimeStep) (rest : List TimeStep) (values : List Step) (v : Step) (heads : List Bound) → IsSolved old (at ∷ rest) values → IsStep k at old v → heads ≡ v.heads → BoundsMoves k at old v → IsSolved heads rest (values ++ (v ∷ []))
+  pub solved_more : (old : List Bound) (at : TimeStep) (rest : List TimeStep) (values : List Step) (v : Step) (heads : List Bound) →
+      IsSolved old (at ∷ rest) values → IsStep k at old v → heads ≡ v.heads → BoundsMoves k at old v → IsSolved heads rest (values ++ (v ∷ []))
   solved_more old at rest values v heads s is same moves = record {
     steps = record { start = s.steps.start; is_start = s.steps.is_start; steps = step_then old at rest v heads is same s.steps.start (times k.decks.first) values s.steps.steps };
     starts = s.starts;
@@ -51,7 +53,8 @@ module _ (k : Task) where
   }
 
   -- what holds of the heads and times that are left
-  then_also : (P Q : List Bound → List TimeStep → Type 0) → ((heads : List Bound) (times : List TimeStep) → P heads times → Q heads times) → (old : List Bound) (rest : List TimeStep) (values : List Step) → StepsThen k P old rest values → StepsThen k Q old rest values
+  then_also : (P Q : List Bound → List TimeStep → Type 0) → ((heads : List Bound) (times : List TimeStep) → P heads times → Q heads times) →
+      (old : List Bound) (rest : List TimeStep) (values : List Step) → StepsThen k P old rest values → StepsThen k Q old rest values
   then_also P Q takes old rest [] h = takes old rest h
   then_also P Q takes old (at ∷ rest) (v ∷ values) (is, h) = (is, then_also P Q takes v.heads rest values h)
   then_also P Q takes old [] (v ∷ values) h = absurd h
@@ -84,18 +87,29 @@ module _ (k : Task) where
   whole_encloses old [] values s h = all_enclosed old values s
   whole_encloses old (at ∷ rest) values s h = absurd h
 
-  pub encloses_if_whole : (old : List Bound) (rest : List TimeStep) (values : List Step) (last : ListingEnd) → IsSolved old rest values → EndsAt k last old rest → last ≡ ends.Whole → EnclosesHistories k values
+  pub encloses_if_whole : (old : List Bound) (rest : List TimeStep) (values : List Step) (last : ListingEnd) → IsSolved old rest values →
+      EndsAt k last old rest → last ≡ ends.Whole → EnclosesHistories k values
   encloses_if_whole old rest values last s h whole = let P : ListingEnd → Type 0 = λ e. EndsAt k e old rest in whole_encloses old rest values s (subst P whole h)
 
-  pub is_listing : (old : List Bound) (rest : List TimeStep) (values : List Step) (last : ListingEnd) → IsSolved old rest values → EndsAt k last old rest → IsListing k (status_of last) (listing k values (last_line k.decks.first.grid last))
-  is_listing old rest values last s h = record { last = last; status = refl; values = values; steps = ended old rest values last s h; encloses = encloses_if_whole old rest values last s h; are = refl }
+  pub is_listing : (old : List Bound) (rest : List TimeStep) (values : List Step) (last : ListingEnd) → IsSolved old rest values → EndsAt k last old rest →
+      IsListing k (status_of last) (listing k values (last_line k.decks.first.grid last))
+  is_listing old rest values last s h = record {
+    last = last;
+    status = refl;
+    values = values;
+    steps = ended old rest values last s h;
+    encloses =
+        encloses_if_whole old rest values last s h;
+    are = refl;
+  }
 
 -- one time is at the front
 pub first_same : (a b : TimeStep) (ss ts : List TimeStep) → a ∷ ss ≡ b ∷ ts → a ≡ b
 first_same a b ss ts e = ap (λ (l : List TimeStep). get_or l 0 a) e
 
 -- each step leaves one time less
-pub fewer_left : {S : Type 0} (leads : S → List Entries → Edges → Bool → S → Type 0) (k : Task) (s t : Steps) (before after : S) (text : Text) → IsNextText leads k s t before after text → length (times_left t) < length (times_left s)
+pub fewer_left : {S : Type 0} (leads : S → List Entries → Edges → Bool → S → Type 0) (k : Task) (s t : Steps) (before after : S) (text : Text) →
+    IsNextText leads k s t before after text → length (times_left t) < length (times_left s)
 fewer_left leads k s t before after text n = let left = ap (λ (ts : List TimeStep). length ts) n.next.time in omega (arith, left)
 
 module _ (k : Task) where
@@ -107,7 +121,8 @@ module _ (k : Task) where
       let P : List TimeStep → Type 0 = λ ts. IsSolved k s.heads ts [] in
       subst P (sym (all_left s w f)) (solved_at_first k s.heads f.start f.encloses)
 
-  pub one_more_solved : {S : Type 0} (leads : S → List Entries → Edges → Bool → S → Type 0) (s t : Steps) (before after : S) (v : Step) (values : List Step) → IsSolved k s.heads (times_left s) values → IsNext leads k s t before after v → IsSolved k t.heads (times_left t) (values ++ (v ∷ []))
+  pub one_more_solved : {S : Type 0} (leads : S → List Entries → Edges → Bool → S → Type 0) (s t : Steps) (before after : S) (v : Step) (values : List Step) →
+      IsSolved k s.heads (times_left s) values → IsNext leads k s t before after v → IsSolved k t.heads (times_left t) (values ++ (v ∷ []))
   one_more_solved leads s t before after v values so n =
       let P : List TimeStep → Type 0 = λ ts. IsSolved k s.heads ts values in
       solved_more k s.heads n.at (times_left t) values v t.heads (subst P n.time so) n.is n.heads n.encloses

@@ -133,13 +133,16 @@ module _ (laws : Laws) (k : Task) (decks : AreDecks k.decks) (plain : k.quick �
         large_one x.problem x.heads k.zones a b large (subst L (sym (solved_is_one x y settled also)) too)
 
   -- the heads of one more step
-  next_heads : (old : List Bound) (at : TimeStep) (rest : List TimeStep) (v : Step) → IsRest (times k.decks.first) (at ∷ rest) → AreGridHeads k.decks.first old → IsStep k at old v → AreGridHeads k.decks.first v.heads
+  next_heads : (old : List Bound) (at : TimeStep) (rest : List TimeStep) (v : Step) → IsRest (times k.decks.first) (at ∷ rest) →
+      AreGridHeads k.decks.first old → IsStep k at old v → AreGridHeads k.decks.first v.heads
   next_heads old at rest v r heads x = step_fits at old (r.each at (first_in at rest)) heads v x
 
-  same_step : (old : List Bound) (at : TimeStep) (rest : List TimeStep) (v w : Step) → IsRest (times k.decks.first) (at ∷ rest) → AreGridHeads k.decks.first old → IsStep k at old v → IsStep k at old w → v ≡ w
+  same_step : (old : List Bound) (at : TimeStep) (rest : List TimeStep) (v w : Step) → IsRest (times k.decks.first) (at ∷ rest) →
+      AreGridHeads k.decks.first old → IsStep k at old v → IsStep k at old w → v ≡ w
   same_step old at rest v w r heads x y = one_step at old (r.each at (first_in at rest)) heads v w x y
 
-  listing_one : (old : List Bound) (rest : List TimeStep) (values others : List Step) → IsRest (times k.decks.first) rest → AreGridHeads k.decks.first old → Steps k old rest values ends.Whole → Steps k old rest others ends.Whole → others ≡ values
+  listing_one : (old : List Bound) (rest : List TimeStep) (values others : List Step) → IsRest (times k.decks.first) rest → AreGridHeads k.decks.first old →
+      Steps k old rest values ends.Whole → Steps k old rest others ends.Whole → others ≡ values
   listing_one old [] [] [] r heads h w = refl
   listing_one old [] (v ∷ values) others r heads h w = absurd h
   listing_one old [] [] (o ∷ others) r heads h w = absurd w
@@ -150,7 +153,8 @@ module _ (laws : Laws) (k : Task) (decks : AreDecks k.decks) (plain : k.quick �
       let P : Step → Type 0 = λ v. Steps k v.heads rest values ends.Whole in
       ap (λ vs. o ∷ vs) (listing_one o.heads rest values others (rest_more (times k.decks.first) at rest r) (next_heads old at rest o r heads other) (subst P e h) w) ∙ ap (λ x. x ∷ values) (sym e)
 
-  always_bound : (t : TimeStep) (n : NoBound) (old : List Bound) (rest : List TimeStep) (values others : List Step) → IsRest (times k.decks.first) rest → AreGridHeads k.decks.first old → Steps k old rest values ends.Whole → Steps k old rest others (ends.NoBound t n) → ⊥
+  always_bound : (t : TimeStep) (n : NoBound) (old : List Bound) (rest : List TimeStep) (values others : List Step) → IsRest (times k.decks.first) rest →
+      AreGridHeads k.decks.first old → Steps k old rest values ends.Whole → Steps k old rest others (ends.NoBound t n) → ⊥
   always_bound t n old [] values [] r heads h w = w
   always_bound t n old [] values (o ∷ others) r heads h w = w
   always_bound t n old (at ∷ rest) [] others r heads h w = h
@@ -159,7 +163,8 @@ module _ (laws : Laws) (k : Task) (decks : AreDecks k.decks) (plain : k.quick �
       let P : Step → Type 0 = λ v. Steps k v.heads rest values ends.Whole in
       always_bound t n o.heads rest values others (rest_more (times k.decks.first) at rest r) (next_heads old at rest o r heads other) (subst P (same_step old at rest v o r heads is other) h) w
 
-  always_settled : (t : TimeStep) (old : List Bound) (rest : List TimeStep) (values others : List Step) → IsRest (times k.decks.first) rest → AreGridHeads k.decks.first old → Steps k old rest values ends.Whole → AllSettle k old rest values → Steps k old rest others (ends.Unfinished t) → ⊥
+  always_settled : (t : TimeStep) (old : List Bound) (rest : List TimeStep) (values others : List Step) → IsRest (times k.decks.first) rest →
+      AreGridHeads k.decks.first old → Steps k old rest values ends.Whole → AllSettle k old rest values → Steps k old rest others (ends.Unfinished t) → ⊥
   always_settled t old [] values [] r heads h s w = w
   always_settled t old [] values (o ∷ others) r heads h s w = w
   always_settled t old (at ∷ rest) [] others r heads h s w = h
@@ -170,7 +175,9 @@ module _ (laws : Laws) (k : Task) (decks : AreDecks k.decks) (plain : k.quick �
       let Q : Step → Type 0 = λ v. AllSettle k v.heads rest values in
       always_settled t o.heads rest values others (rest_more (times k.decks.first) at rest r) (next_heads old at rest o r heads other) (subst P e h) (subst Q e s) w
 
-  refusal_at_one : (s t : TimeStep) (a b : NoBound) (old : List Bound) (rest : List TimeStep) (values others : List Step) → IsRest (times k.decks.first) rest → AreGridHeads k.decks.first old → Steps k old rest values (ends.NoBound s a) → Steps k old rest others (ends.NoBound t b) → (s ≡ t) × (a ≡ b) × (values ≡ others)
+  refusal_at_one : (s t : TimeStep) (a b : NoBound) (old : List Bound) (rest : List TimeStep) (values others : List Step) → IsRest (times k.decks.first) rest →
+      AreGridHeads k.decks.first old → Steps k old rest values (ends.NoBound s a) → Steps k old rest others (ends.NoBound t b) → (s ≡ t) × (a ≡ b) ×
+      (values ≡ others)
   refusal_at_one s t a b old [] [] others r heads h w = absurd h
   refusal_at_one s t a b old [] (v ∷ values) others r heads h w = absurd h
   refusal_at_one s t a b old (at ∷ rest) [] [] r heads (same, bare) (also, other) = (same ∙ sym also, one_refusal at old (r.each at (first_in at rest)) heads a b bare other, refl)
@@ -187,19 +194,24 @@ module _ (laws : Laws) where
   pub one_listing : ListingIsOne
   one_listing k values others model plain h w =
       let P : List Bound → Type 0 = λ start. Steps k start (times k.decks.first) others ends.Whole in
-      listing_one laws k model plain h.start (times k.decks.first) values others (rest_whole (times k.decks.first)) (laws.start_fits k.decks h.start model h.is_start) h.steps (subst P (laws.start_one k.decks w.start h.start model w.is_start h.is_start) w.steps)
+      listing_one laws k model plain h.start (times k.decks.first) values others (rest_whole (times k.decks.first))
+      (laws.start_fits k.decks h.start model h.is_start) h.steps (subst P (laws.start_one k.decks w.start h.start model w.is_start h.is_start) w.steps)
 
   pub excludes_refusal : ListingExcludesRefusal
   excludes_refusal k values others at n model plain h w =
       let P : List Bound → Type 0 = λ start. Steps k start (times k.decks.first) others (ends.NoBound at n) in
-      always_bound laws k model plain at n h.start (times k.decks.first) values others (rest_whole (times k.decks.first)) (laws.start_fits k.decks h.start model h.is_start) h.steps (subst P (laws.start_one k.decks w.start h.start model w.is_start h.is_start) w.steps)
+      always_bound laws k model plain at n h.start (times k.decks.first) values others (rest_whole (times k.decks.first))
+      (laws.start_fits k.decks h.start model h.is_start) h.steps (subst P (laws.start_one k.decks w.start h.start model w.is_start h.is_start) w.steps)
 
   pub closed_listing : SettledListingIsClosed
   closed_listing k values others at model plain h settled w =
       let P : List Bound → Type 0 = λ start. Steps k start (times k.decks.first) others (ends.Unfinished at) in
-      always_settled laws k model plain at h.start (times k.decks.first) values others (rest_whole (times k.decks.first)) (laws.start_fits k.decks h.start model h.is_start) h.steps settled (subst P (laws.start_one k.decks w.start h.start model w.is_start h.is_start) w.steps)
+      always_settled laws k model plain at h.start (times k.decks.first) values others (rest_whole (times k.decks.first))
+      (laws.start_fits k.decks h.start model h.is_start) h.steps settled
+      (subst P (laws.start_one k.decks w.start h.start model w.is_start h.is_start) w.steps)
 
   pub refusals_one : RefusalIsOne
   refusals_one k values others s t a b model plain h w =
       let P : List Bound → Type 0 = λ start. Steps k start (times k.decks.first) others (ends.NoBound t b) in
-      refusal_at_one laws k model plain s t a b h.start (times k.decks.first) values others (rest_whole (times k.decks.first)) (laws.start_fits k.decks h.start model h.is_start) h.steps (subst P (laws.start_one k.decks w.start h.start model w.is_start h.is_start) w.steps)
+      refusal_at_one laws k model plain s t a b h.start (times k.decks.first) values others (rest_whole (times k.decks.first))
+      (laws.start_fits k.decks h.start model h.is_start) h.steps (subst P (laws.start_one k.decks w.start h.start model w.is_start h.is_start) w.steps)

@@ -15,12 +15,15 @@ use Rattle.listing_run.specs.declared.steps.Task.{Task}
 use Rattle.listing_run.proofs.UnderWay.{IsSolved, encloses_if_whole, ended, none_solved, one_more_solved}
 
 -- the cells that are left
-pub one_cell : (m : FlowModel) (bs : List Bound) (c : ℕ) (d : Bound) (s t whole : Summary) → c < length bs → t ≡ fold with_head_line s (cond (is_active m c) (get_or bs c d ∷ []) []) → fold with_head_line s (printed_bounds m c (drop c bs)) ≡ whole → fold with_head_line t (printed_bounds m (c + 1) (drop (c + 1) bs)) ≡ whole
+pub one_cell : (m : FlowModel) (bs : List Bound) (c : ℕ) (d : Bound) (s t whole : Summary) → c < length bs → t ≡
+    fold with_head_line s (cond (is_active m c) (get_or bs c d ∷ []) []) → fold with_head_line s (printed_bounds m c (drop c bs)) ≡ whole →
+    fold with_head_line t (printed_bounds m (c + 1) (drop (c + 1) bs)) ≡ whole
 unfolding printed_bounds
 one_cell m bs c d s t whole within is so_far =
     let rest = printed_bounds m (c + 1) (drop (c + 1) bs) in
     let here : List Bound = cond (is_active m c) (get_or bs c d ∷ []) [] in
-    let split : fold with_head_line s (printed_bounds m c (drop c bs)) ≡ fold with_head_line (fold with_head_line s here) rest = rw (drop_more bs c d within) (fold-append with_head_line s here rest) in
+    let split : fold with_head_line s (printed_bounds m c (drop c bs)) ≡ fold with_head_line (fold with_head_line s here) rest =
+    rw (drop_more bs c d within) (fold-append with_head_line s here rest) in
     ap (λ x. fold with_head_line x rest) is ∙ sym split ∙ so_far
 
 pub no_cell : (m : FlowModel) (bs : List Bound) (c : ℕ) (s whole : Summary) → length bs ≤ c → fold with_head_line s (printed_bounds m c (drop c bs)) ≡ whole → s ≡ whole
@@ -39,7 +42,11 @@ high_room s fits room = record { above = omega (arith, ints, fits.high.above); b
 -- the sums fit, counted or not
 pub fits_more : (s : Summary) (b : Bound) → Fits s → IsHead b.low → IsHead b.high → Fits (with_head_line s b)
 fits_more s b fits low high = record {
-  widest = record { above = omega (arith, ints, clamps, fits.widest.above, fits.widest.below, low.above, low.below, high.above, high.below); below = omega (arith, ints, clamps, fits.widest.above, fits.widest.below, low.above, low.below, high.above, high.below) };
+  widest = record {
+    above = omega (arith, ints, clamps, fits.widest.above, fits.widest.below, low.above, low.below, high.above, high.below);
+    below =
+        omega (arith, ints, clamps, fits.widest.above, fits.widest.below, low.above, low.below, high.above, high.below);
+  };
   low = record { above = omega (arith, ints, fits.low.above, low.above); below = omega (arith, ints, fits.low.below, low.below) };
   high = record { above = omega (arith, ints, fits.high.above, high.above); below = omega (arith, ints, fits.high.below, high.below) };
 }
@@ -65,7 +72,9 @@ counted_all : (s : Summary) (bs : List Bound) → fold with_head_line s bs ≡ m
 counted_all s [] = same refl (omega arith) refl refl refl
 counted_all s (b ∷ bs) = counted_all (with_head_line s b) bs ∙ same refl (omega arith) refl refl refl
 
-stepped_all : (m : FlowModel) (s : Summary) (values : List Step) → fold (λ s v. with_step m s v.heads) s values ≡ made (s.steps + length values) (s.heads + length (printed_heads m values)) (fold wider s.widest (printed_heads m values)) (fold lower s.low_sum (printed_heads m values)) (fold upper s.high_sum (printed_heads m values))
+stepped_all : (m : FlowModel) (s : Summary) (values : List Step) → fold (λ s v. with_step m s v.heads) s values ≡
+    made (s.steps + length values) (s.heads + length (printed_heads m values)) (fold wider s.widest (printed_heads m values))
+    (fold lower s.low_sum (printed_heads m values)) (fold upper s.high_sum (printed_heads m values))
 stepped_all m s [] = same (omega arith) (omega arith) refl refl refl
 stepped_all m s (v ∷ values) =
     let first : List Bound = printed_bounds m 0 v.heads in
@@ -83,7 +92,8 @@ stepped_all m s (v ∷ values) =
 abbrev pub all_counted : FlowModel → List Step → Summary
 all_counted m values = fold (λ s v. with_step m s v.heads) nothing values
 
-pub one_step : (m : FlowModel) (values : List Step) (v : Step) (heads : List Bound) (s t : Summary) → heads ≡ v.heads → s ≡ all_counted m values → t ≡ with_step m s heads → t ≡ all_counted m (values ++ (v ∷ []))
+pub one_step : (m : FlowModel) (values : List Step) (v : Step) (heads : List Bound) (s t : Summary) → heads ≡ v.heads → s ≡ all_counted m values → t ≡
+    with_step m s heads → t ≡ all_counted m (values ++ (v ∷ []))
 one_step m values v heads s t same so_far is =
     is ∙ ap (λ hs. with_step m s hs) same ∙ ap (λ x. with_step m x v.heads) so_far ∙ sym (fold_push (λ s v. with_step m s v.heads) nothing values v)
 
@@ -101,7 +111,8 @@ module _ (k : Task) where
   pub none_counted : (s : Steps) (n : Summary) → n ≡ nothing → IsWalk k s → IsAtFirst k s → IsCounted s n
   none_counted s n none w f = record { values = []; solved = none_solved k s w f; counts = none }
 
-  pub one_more_counted : {S : Type 0} (leads : S → List Entries → Edges → Bool → S → Type 0) (s t : Steps) (before after : S) (v : Step) (n m : Summary) → IsNext leads k s t before after v → m ≡ with_step k.decks.first n t.heads → IsCounted s n → IsCounted t m
+  pub one_more_counted : {S : Type 0} (leads : S → List Entries → Edges → Bool → S → Type 0) (s t : Steps) (before after : S) (v : Step) (n m : Summary) →
+      IsNext leads k s t before after v → m ≡ with_step k.decks.first n t.heads → IsCounted s n → IsCounted t m
   one_more_counted leads s t before after v n m next is so = record {
     values = so.values ++ (v ∷ []);
     solved = one_more_solved k leads s t before after v so.values so.solved next;

@@ -30,7 +30,8 @@ record IsLayer (cells : ℕ) (x : Layer) (p : Properties) : Type 0 where
   pub bed : x.has_bed ≡ false → p.vkcb ≡ replicate cells no_number
 
 module _ (files : FileSet) (file : List ℕ) where
-  storage_by : (stores : Bool) (rows cols : ℕ) (left : Left) → GivesOnly (λ y. (length y.0 ≡ cond stores (rows * cols) 0) × All IsDec y.0) (if stores then real_layer files file rows cols left else Ok ([], left))
+  storage_by : (stores : Bool) (rows cols : ℕ) (left : Left) →
+      GivesOnly (λ y. (length y.0 ≡ cond stores (rows * cols) 0) × All IsDec y.0) (if stores then real_layer files file rows cols left else Ok ([], left))
   storage_by true rows cols left = layer_is files file rows cols left
   storage_by false rows cols left = done (refl, All-nil IsDec)
 
@@ -94,13 +95,16 @@ module _ (files : FileSet) (file : List ℕ) where
       goes_on (zero_list file layers left) _ (λ laytyp a. goes_on (zero_list file layers laytyp.1) _ (λ layavg b. then_ _ (lists.numbers file layers layavg.1)
       (λ chani c. then_ _ (lists.integers file layers chani.1) (λ layvka d. goes_on (zero_list file layers layvka.1) _ (λ laywet e. done (c.1, d))))))
 
-  contents_are : (bytes : List ℕ) (g : Grid) (stores : Bool) → GivesOnly (λ c. ((length c.layvka ≡ g.layers) × All IsShort c.layvka) × AreProperties g stores g.layers c.properties) (contents_of files file bytes g stores)
+  contents_are : (bytes : List ℕ) (g : Grid) (stores : Bool) →
+      GivesOnly (λ c. ((length c.layvka ≡ g.layers) × All IsShort c.layvka) × AreProperties g stores g.layers c.properties)
+      (contents_of files file bytes g stores)
   unfolding contents_of
   contents_are bytes g stores =
       goes_on (option_line file (without_comments (left_from 1 bytes))) _ (λ coefficient e. then_ _ (settings_are g.layers coefficient.1)
       (λ settings s. then_ _ (layers_are files file g settings.0.chani stores s.0 g.layers settings.1) (λ layers p. done (s.1, p))))
 
-  has_flow : (m : FlowModel) (c : Contents) → (length c.layvka ≡ m.grid.layers) × All IsShort c.layvka → AreProperties m.grid (is_transient m.periods) m.grid.layers c.properties → HasFlow (with_contents m c)
+  has_flow : (m : FlowModel) (c : Contents) → (length c.layvka ≡ m.grid.layers) × All IsShort c.layvka →
+      AreProperties m.grid (is_transient m.periods) m.grid.layers c.properties → HasFlow (with_contents m c)
   has_flow m c layvka are = record {
     layvka = layvka;
     hk = are.hk;

@@ -14,7 +14,8 @@ use Rattle.outside.specs.declared.codes.Code.{Code}
 use Rattle.lpf_package.specs.declared.layer.Properties.{Properties}
 
 -- where each step that is passed is passed otherwise too
-passed_again : (step other : ℕ → Unit {0} → Result (Unit {0}) Refusal) → ((i : ℕ) → step i tt ≡ Ok tt → other i tt ≡ Ok tt) → (n i : ℕ) → GivesOnly (λ u. each_number other i n tt ≡ Ok tt) (each_number step i n tt)
+passed_again : (step other : ℕ → Unit {0} → Result (Unit {0}) Refusal) → ((i : ℕ) → step i tt ≡ Ok tt → other i tt ≡ Ok tt) → (n i : ℕ) →
+    GivesOnly (λ u. each_number other i n tt ≡ Ok tt) (each_number step i n tt)
 unfolding each_number
 passed_again step other again zero i = done refl
 passed_again step other again (suc n) i = goes_on (step i tt) _ (λ u e. rw (again i e) (passed_again step other again n (i + 1)))
@@ -38,11 +39,13 @@ column_again file other g ibound a i (Some c) h = tested_again file other g c (i
 pub columns_again : (file other : List ℕ) (g : Grid) (ibound : List ℤ) (option : ℤ) (a : Area) → columns_tested file g ibound option a ≡ Ok tt → columns_tested other g ibound option a ≡ Ok tt
 unfolding columns_tested
 columns_again file other g ibound option a h =
-    (passed_again (column_step file g ibound option a) (column_step other g ibound option a) (λ i k. column_again file other g ibound a i (chosen_cell g ibound option a.layers i) k) (layer_size g) 0).gives tt h
+    (passed_again (column_step file g ibound option a) (column_step other g ibound option a) (λ i k.
+    column_again file other g ibound a i (chosen_cell g ibound option a.layers i) k) (layer_size g) 0).gives tt h
 
 -- What is known of a model after LPF.
 -- another model with this grid, LENUNI, and as many periods of as many steps
-pub discretized_again : (m n : FlowModel) → n.grid ≡ m.grid → n.lenuni ≡ m.lenuni → length n.periods ≡ length m.periods → sum_by (λ p. p.nstp) n.periods ≡ sum_by (λ p. p.nstp) m.periods → All IsTimed n.periods
+pub discretized_again : (m n : FlowModel) → n.grid ≡ m.grid → n.lenuni ≡ m.lenuni → length n.periods ≡ length m.periods → sum_by (λ p. p.nstp) n.periods ≡
+    sum_by (λ p. p.nstp) m.periods → All IsTimed n.periods
     → IsDiscretized m → IsDiscretized n
 discretized_again m n grid lenuni many sum times d = record {
   grid = subst (λ (g : Grid). IsGrid g) (sym grid) d.grid;
@@ -111,7 +114,8 @@ flow_again core nrchop nevtop ps same h = record {
   beds = h.beds;
 }
 
-pub sound_again : (limits : Limits) (core : FlowModel) (nrchop nevtop : ℤ) (ps : List Period) → map steps ps ≡ map steps core.periods → All IsTimed ps → IsSound limits core → IsSound limits (staged core nrchop nevtop ps)
+pub sound_again : (limits : Limits) (core : FlowModel) (nrchop nevtop : ℤ) (ps : List Period) → map steps ps ≡ map steps core.periods → All IsTimed ps →
+    IsSound limits core → IsSound limits (staged core nrchop nevtop ps)
 sound_again limits core nrchop nevtop ps same times h = record {
   discretized = discretized_again core (staged core nrchop nevtop ps) refl refl (same_count ps core.periods same) (same_sum ps core.periods same) times h.discretized;
   within = h.within;
@@ -129,7 +133,8 @@ heads_kept : (m : FlowModel) (c : Bool) (layvka : List ℤ) (p : Properties) (fi
 unfolding check_result fault_at
 heads_kept m c layvka p file = refl
 
-all_passed : (m : FlowModel) (c : Bool) (layvka : List ℤ) (p : Properties) (dis bas lpf : List ℕ) → check_result m dis Thickness ≡ Ok tt → check_result m bas StartHead ≡ Ok tt → check_result (with_properties m c layvka p) lpf PropertyCheck ≡ Ok tt
+all_passed : (m : FlowModel) (c : Bool) (layvka : List ℤ) (p : Properties) (dis bas lpf : List ℕ) → check_result m dis Thickness ≡ Ok tt →
+    check_result m bas StartHead ≡ Ok tt → check_result (with_properties m c layvka p) lpf PropertyCheck ≡ Ok tt
     → (check : Check) (file : List ℕ) → check_result (with_properties m c layvka p) file check ≡ Ok tt
 all_passed m c layvka p dis bas lpf thick heads good Thickness file = checked_again (with_properties m c layvka p) dis file Thickness (thickness_kept m c layvka p dis ∙ thick)
 all_passed m c layvka p dis bas lpf thick heads good StartHead file = checked_again (with_properties m c layvka p) bas file StartHead (heads_kept m c layvka p bas ∙ heads)
@@ -139,7 +144,8 @@ pub flow_is : (limits : Limits) (b basic flow : FlowModel) (dis bas lpf : List �
     → check_result basic dis Thickness ≡ Ok tt → check_result basic bas StartHead ≡ Ok tt → check_result flow lpf PropertyCheck ≡ Ok tt → IsFlow limits flow
 flow_is limits b basic flow dis bas lpf started basics has same thick heads good =
     let p : Properties = record { hk = flow.hk; hani = flow.hani; vka = flow.vka; ss = flow.ss; vkcb = flow.vkcb } in
-    let only : flow ≡ with_properties (with_basics b basic.ibound basic.strt) flow.coefficient flow.layvka p = same ∙ ap (λ (m : FlowModel). with_properties m flow.coefficient flow.layvka p) basics.only in
+    let only : flow ≡ with_properties (with_basics b basic.ibound basic.strt) flow.coefficient flow.layvka p =
+    same ∙ ap (λ (m : FlowModel). with_properties m flow.coefficient flow.layvka p) basics.only in
     subst (λ (m : FlowModel). IsFlow limits m) (sym only) (record {
       sound = record {
         discretized = discretized_again b _ refl refl refl refl started.begun.discretized.times started.begun.discretized;

@@ -41,8 +41,10 @@ has_hani m c = is_positive (dec_at m.hani c) && has_vka m c
 all_but_last : (a b c d : Bool) → a ≡ true → b ≡ true → c ≡ true → d ≡ false → (a && (b && (c && not d))) ≡ true
 all_but_last a b c d p q r s = rw (p, q, r, s) refl
 
-checked_bed : (m : FlowModel) (c : ℕ) → c + layer_size m.grid < cell_count m.grid → is_active m (c + layer_size m.grid) ≡ true → has_bed m c ≡ true → is_same_number (bottom_at m c) (lowest m c) ≡ false → is_checked_bed m c ≡ true
-checked_bed m c lt active bed differ = all_but_last (has_bed m c) (nat_lt (c + layer_size m.grid) (cell_count m.grid)) (is_active m (c + layer_size m.grid)) (is_same_number (bottom_at m c) (lowest m c)) bed (lt-ltb (c + layer_size m.grid) (cell_count m.grid) lt) active differ
+checked_bed : (m : FlowModel) (c : ℕ) → c + layer_size m.grid < cell_count m.grid → is_active m (c + layer_size m.grid) ≡ true → has_bed m c ≡ true →
+    is_same_number (bottom_at m c) (lowest m c) ≡ false → is_checked_bed m c ≡ true
+checked_bed m c lt active bed differ = all_but_last (has_bed m c) (nat_lt (c + layer_size m.grid) (cell_count m.grid)) (is_active m (c + layer_size m.grid))
+    (is_same_number (bottom_at m c) (lowest m c)) bed (lt-ltb (c + layer_size m.grid) (cell_count m.grid) lt) active differ
 
 one_number : (a b : Dec) → is_same_number a b ≡ true → number b ≡ number a
 one_number a b e = sym (ap number (one_dec a b e))
@@ -63,7 +65,8 @@ storage m h = grind (arith, all_steady)
 module _ (limits : Limits) (m : FlowModel) (h : IsSound limits m) where
   cell : (c : ℕ) → c < cell_count m.grid → is_active m c ≡ true → IsCellValid m c
   cell c lt active =
-      let thick = and_parts (is_thick (top_at m c) (bottom_at m c)) (not (is_checked_bed m c) || is_thick (bottom_at m c) (lowest m c)) (each_passed m [] Thickness (h.passed Thickness []) c lt active) in
+      let thick = and_parts (is_thick (top_at m c) (bottom_at m c)) (not (is_checked_bed m c) || is_thick (bottom_at m c) (lowest m c))
+      (each_passed m [] Thickness (h.passed Thickness []) c lt active) in
       let hk = and_parts (is_positive (dec_at m.hk c)) (has_hani m c) (each_passed m [] Properties (h.passed Properties []) c lt active) in
       let hani = and_parts (is_positive (dec_at m.hani c)) (has_vka m c) hk.1 in
       let vka = and_parts (nat_le m.grid.layers 1 || is_positive (dec_at m.vka c)) (has_ss m c) hani.1 in
@@ -79,7 +82,8 @@ module _ (limits : Limits) (m : FlowModel) (h : IsSound limits m) where
 
   good_bed : (c : ℕ) → c < cell_count m.grid → is_active m c ≡ true → is_checked_bed m c ≡ true → IsBedValid m c
   good_bed c lt active bed =
-      let thick = and_parts (is_thick (top_at m c) (bottom_at m c)) (not (is_checked_bed m c) || is_thick (bottom_at m c) (lowest m c)) (each_passed m [] Thickness (h.passed Thickness []) c lt active) in
+      let thick = and_parts (is_thick (top_at m c) (bottom_at m c)) (not (is_checked_bed m c) || is_thick (bottom_at m c) (lowest m c))
+      (each_passed m [] Thickness (h.passed Thickness []) c lt active) in
       let hk = and_parts (is_positive (dec_at m.hk c)) (has_hani m c) (each_passed m [] Properties (h.passed Properties []) c lt active) in
       let hani = and_parts (is_positive (dec_at m.hani c)) (has_vka m c) hk.1 in
       let vka = and_parts (nat_le m.grid.layers 1 || is_positive (dec_at m.vka c)) (has_ss m c) hani.1 in
@@ -133,7 +137,8 @@ module _ (limits : Limits) (m : FlowModel) (r : IsRead limits m) where
     };
   }
 
-  evaporation : IsOption m.nevtop → (p : Period) → IsKnown limits m.grid m.ibound m.nrchop m.nevtop p → HasArrays evaporation_arrays m.grid m.ibound m.nevtop (evaporation_arrays.area p.stresses) ⊎ (p.stresses.evtr ≡ [])
+  evaporation : IsOption m.nevtop → (p : Period) → IsKnown limits m.grid m.ibound m.nrchop m.nevtop p →
+      HasArrays evaporation_arrays m.grid m.ibound m.nevtop (evaporation_arrays.area p.stresses) ⊎ (p.stresses.evtr ≡ [])
   evaporation (inl e) p k = inr (ap (λ (a : Area). a.rates) (k.arrays.evt.none e))
   evaporation (inr e) p k = inl (k.arrays.evt.some e)
 
@@ -156,7 +161,10 @@ module _ (limits : Limits) (m : FlowModel) (r : IsRead limits m) where
     few = h.discretized.few;
     steps = h.discretized.steps;
     periods = All-weaker (IsKnown limits m.grid m.ibound m.nrchop m.nevtop) (IsPeriod m) period m.periods r.each;
-    evaps = evaps m h.discretized.grid.size (All-weaker (IsKnown limits m.grid m.ibound m.nrchop m.nevtop) (λ p. HasArrays evaporation_arrays m.grid m.ibound m.nevtop (evaporation_arrays.area p.stresses) ⊎ (p.stresses.evtr ≡ [])) (evaporation r.options.1) m.periods r.each);
+    evaps = evaps m h.discretized.grid.size
+        (All-weaker (IsKnown limits m.grid m.ibound m.nrchop m.nevtop) (λ p.
+        HasArrays evaporation_arrays m.grid m.ibound m.nevtop (evaporation_arrays.area p.stresses) ⊎ (p.stresses.evtr ≡ []))
+        (evaporation r.options.1) m.periods r.each);
   }
 
 pub read_valid : (limits : Limits) (files : FileSet) (names : Pairs) (r : Result FlowModel InputFault) → Has (λ m. m) r (model_of limits files names) → IfOk r IsModel

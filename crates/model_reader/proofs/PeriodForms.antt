@@ -47,7 +47,8 @@ module _ (p : Period) (s : Stresses) where
   timed t = record { nstp = t.nstp; perlen = t.perlen; lasts = t.lasts; tsmult = t.tsmult; growth = λ transient. grown (t.growth transient) }
 
 -- a list of a period is one of another period that may have it
-pub list_again : {E : Type 0} (limits : Limits) (kind : Kind E) (cells : ℕ) (p q : Period) (xs : List E) → kind.suits q xs ≡ kind.suits p xs → IsListOf limits kind cells p xs → IsListOf limits kind cells q xs
+pub list_again : {E : Type 0} (limits : Limits) (kind : Kind E) (cells : ℕ) (p q : Period) (xs : List E) → kind.suits q xs ≡ kind.suits p xs →
+    IsListOf limits kind cells p xs → IsListOf limits kind cells q xs
 list_again limits kind cells p q xs same h = record { few = h.few; entries = h.entries; once = h.once; suits = same ∙ h.suits }
 
 pub no_option : is_option (pos 0) ≡ true → ⊥

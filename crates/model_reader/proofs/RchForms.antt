@@ -34,12 +34,20 @@ module _ (limits : Limits) (file : List ℕ) (g : Grid) (ibound : List ℤ) (p :
   rain_put Wells s h = h
   rain_put k s h = h
 
-  by_option : (kind : ArrayKind) (option : ℤ) (b : Area) → is_option option ≡ true → IsArea kind.evaporates g option b → ((other : List ℕ) → kind.test other g ibound option b ≡ Ok tt) → ByOption kind g ibound option b
+  by_option : (kind : ArrayKind) (option : ℤ) (b : Area) → is_option option ≡ true → IsArea kind.evaporates g option b →
+      ((other : List ℕ) → kind.test other g ibound option b ≡ Ok tt) → ByOption kind g ibound option b
   by_option kind option b active is passed = record { none = λ e. absurd (no_option (subst (λ (z : ℤ). is_option z ≡ true) e active)); some = λ e. record { is = is; passed = passed } }
 
-  recharged : (option : ℤ) → is_option option ≡ true → IsKnown limits g ibound (pos 0) (pos 0) p → IsTested recharge_arrays file g ibound option a → IsKnown limits g ibound option (pos 0) (with_area recharge_arrays p a)
+  recharged : (option : ℤ) → is_option option ≡ true → IsKnown limits g ibound (pos 0) (pos 0) p → IsTested recharge_arrays file g ibound option a →
+      IsKnown limits g ibound option (pos 0) (with_area recharge_arrays p a)
   recharged option active h is = with_stresses limits g ibound option (pos 0) p (recharge_arrays.put p.stresses a) h.times (λ k. rain_put k p.stresses (h.entries k)) h.given (record {
-    rch = by_option recharge_arrays option _ active (record { surfaces = λ e. absurd (let clash : false ≡ true = e in cc); rates = is.has.rates; depths = λ e. absurd (let clash : false ≡ true = e in cc); layers = is.has.layers }) (λ other. refl);
+    rch = by_option recharge_arrays option _ active (record {
+      surfaces = λ e. absurd (let clash : false ≡ true = e in cc);
+      rates = is.has.rates;
+      depths = λ e.
+          absurd (let clash : false ≡ true = e in cc);
+      layers = is.has.layers;
+    }) (λ other. refl);
     evt = h.arrays.evt;
   })
 
@@ -47,7 +55,8 @@ module _ (limits : Limits) (file : List ℕ) (g : Grid) (ibound : List ℤ) (p :
   air_put Wells s h = h
   air_put k s h = h
 
-  evaporating : (nrchop option : ℤ) → is_option option ≡ true → IsKnown limits g ibound nrchop (pos 0) p → IsTested evaporation_arrays file g ibound option a → IsKnown limits g ibound nrchop option (with_area evaporation_arrays p a)
+  evaporating : (nrchop option : ℤ) → is_option option ≡ true → IsKnown limits g ibound nrchop (pos 0) p → IsTested evaporation_arrays file g ibound option a →
+      IsKnown limits g ibound nrchop option (with_area evaporation_arrays p a)
   evaporating nrchop option active h is = with_stresses limits g ibound nrchop option p (evaporation_arrays.put p.stresses a) h.times (λ k. air_put k p.stresses (h.entries k)) h.given (record {
     rch = h.arrays.rch;
     evt = by_option evaporation_arrays option _ active is.has (λ other. columns_again file other g ibound option a is.passed);
@@ -64,4 +73,5 @@ module _ (limits : Limits) (files : FileSet) (file bytes : List ℕ) (core : Flo
   unfolding evt_of
   evt_is nrchop m stage =
       subst (λ (x : FlowModel). GivesOnly (HasOption limits core (λ z. nrchop) (λ z. z)) (evt_of files file bytes x)) (sym stage.is)
-      (package_is limits evaporation_arrays files file bytes core size (λ z. nrchop) (λ z. z) (λ z active p a. evaporating limits file core.grid core.ibound p a nrchop z active) m.periods stage.each stage.same)
+      (package_is limits evaporation_arrays files file bytes core size (λ z. nrchop) (λ z. z) (λ z active p a.
+      evaporating limits file core.grid core.ibound p a nrchop z active) m.periods stage.each stage.same)

@@ -34,11 +34,14 @@ module _ (limits : Limits) (files : FileSet) (names : Pairs) (ks : List Package)
   unfolding with_stresses
   next = rw (drop-cons ks i d inside, add-one i) refl
 
-  pub stress_read : (n : FlowModel) (r : Result FlowModel Refusal) → stress_in limits files names (get_or ks i d) m ≡ Ok n → with_stresses limits files names (drop i ks) m ≡ r → with_stresses limits files names (drop (i + 1) ks) n ≡ r
+  pub stress_read : (n : FlowModel) (r : Result FlowModel Refusal) → stress_in limits files names (get_or ks i d) m ≡ Ok n →
+      with_stresses limits files names (drop i ks) m ≡ r → with_stresses limits files names (drop (i + 1) ks) n ≡ r
   stress_read n r h so_far = let one : with_stresses limits files names (drop i ks) m ≡ with_stresses limits files names (drop (i + 1) ks) n = next ∙ rw h refl in sym one ∙ so_far
 
-  pub stress_stops : (fault : InputFault) (r : Result FlowModel Refusal) → Stops fault (stress_in limits files names (get_or ks i d) m) → with_stresses limits files names (drop i ks) m ≡ r → Stops fault r
-  stress_stops fault r h so_far = subst (Stops fault) so_far (subst (Stops fault) (sym next) (stops_all fault (stress_in limits files names (get_or ks i d) m) (with_stresses limits files names (drop (i + 1) ks)) h))
+  pub stress_stops : (fault : InputFault) (r : Result FlowModel Refusal) → Stops fault (stress_in limits files names (get_or ks i d) m) →
+      with_stresses limits files names (drop i ks) m ≡ r → Stops fault r
+  stress_stops fault r h so_far = subst (Stops fault) so_far
+      (subst (Stops fault) (sym next) (stops_all fault (stress_in limits files names (get_or ks i d) m) (with_stresses limits files names (drop (i + 1) ks)) h))
 
 pub stresses_done : (limits : Limits) (files : FileSet) (names : Pairs) (ks : List Package) (i : ℕ) (m : FlowModel) (r : Result FlowModel Refusal) → length ks ≤ i
     → with_stresses limits files names (drop i ks) m ≡ r → r ≡ Ok m

@@ -10,14 +10,16 @@ use Rattle.model_reader.proofs.PeriodForms.{IsKnown, IsOption, IsStage, no_optio
 
 -- a list package, from one stage to the next
 module _ {E : Type 0} (limits : Limits) (kind : Kind E) (placed : (c : CellId) (ds : List Dec) → kind.place (kind.entry c ds) ≡ c.0) (core : FlowModel) (size : HasSize core.grid) (nrchop : ℤ)
-    (put : (p : Period) (xs : List E) → IsKnown limits core.grid core.ibound nrchop (pos 0) p → IsListOf limits kind (cell_count core.grid) p xs → IsKnown limits core.grid core.ibound nrchop (pos 0) (with_list kind p xs)) where
+    (put : (p : Period) (xs : List E) → IsKnown limits core.grid core.ibound nrchop (pos 0) p → IsListOf limits kind (cell_count core.grid) p xs →
+    IsKnown limits core.grid core.ibound nrchop (pos 0) (with_list kind p xs)) where
   abbrev at_stage : List Period → FlowModel
   at_stage ps = record core { nrchop = nrchop; nevtop = pos 0; periods = ps }
 
   abbrev Known : Period → Type 0
   Known p = IsKnown limits core.grid core.ibound nrchop (pos 0) p
 
-  from_stage : (file bytes : List ℕ) (ps : List Period) → All Known ps → map steps ps ≡ map steps core.periods → GivesOnly (IsStage limits core nrchop (pos 0)) (package_of limits kind file bytes (at_stage ps))
+  from_stage : (file bytes : List ℕ) (ps : List Period) → All Known ps → map steps ps ≡ map steps core.periods →
+      GivesOnly (IsStage limits core nrchop (pos 0)) (package_of limits kind file bytes (at_stage ps))
   unfolding package_of
   from_stage file bytes ps all same =
       then_ _ (lists_are limits kind placed file core.grid size Known Known put bytes ps all) (λ qs are. done (record { is = refl; same = are.1 ∙ same; each = are.0 }))
@@ -56,14 +58,16 @@ pub record IsStressed (limits : Limits) (core n : FlowModel) : Type 0 where
 
 module _ (limits : Limits) (core : FlowModel) (size : HasSize core.grid) (files : FileSet) where
   -- a package that is read where the name file names it
-  named_is : (P : FlowModel → Type 0) (read : List ℕ → List ℕ → FlowModel → Result FlowModel Refusal) (m : FlowModel) → P m → ((name bytes : List ℕ) → GivesOnly P (read name bytes m)) → (named : Option (List ℕ))
+  named_is : (P : FlowModel → Type 0) (read : List ℕ → List ℕ → FlowModel → Result FlowModel Refusal) (m : FlowModel) → P m →
+      ((name bytes : List ℕ) → GivesOnly P (read name bytes m)) → (named : Option (List ℕ))
       → GivesOnly P (where_named named (file_in read files) m)
   unfolding file_in
   named_is P read m here is None = done here
   named_is P read m here is (Some name) = goes_on (file_at files name) _ (λ bytes e. is name bytes)
 
   list_stage : {E : Type 0} (kind : Kind E) → ((c : CellId) (ds : List Dec) → kind.place (kind.entry c ds) ≡ c.0) → (nrchop : ℤ)
-      → ((p : Period) (xs : List E) → IsKnown limits core.grid core.ibound nrchop (pos 0) p → IsListOf limits kind (cell_count core.grid) p xs → IsKnown limits core.grid core.ibound nrchop (pos 0) (with_list kind p xs))
+      → ((p : Period) (xs : List E) → IsKnown limits core.grid core.ibound nrchop (pos 0) p → IsListOf limits kind (cell_count core.grid) p xs →
+      IsKnown limits core.grid core.ibound nrchop (pos 0) (with_list kind p xs))
       → (named : Option (List ℕ)) (m : FlowModel) → IsStage limits core nrchop (pos 0) m → GivesOnly (IsStage limits core nrchop (pos 0)) (where_named named (file_in (package_of limits kind) files) m)
   list_stage kind placed nrchop put named m stage = named_is _ _ m stage (λ name bytes. package_is limits kind placed core size nrchop put name bytes m stage) named
 
@@ -71,10 +75,12 @@ module _ (limits : Limits) (core : FlowModel) (size : HasSize core.grid) (files 
       → GivesOnly (IsStage limits core (pos 0) (pos 0)) (where_named named (file_in (package_of limits (kind_of k)) files) m)
   entries_stage k = list_stage (kind_of k) (placed k) (pos 0) (λ p. with_entry_list limits core.grid core.ibound (pos 0) (pos 0) p k)
 
-  rain_stage : (named : Option (List ℕ)) (m : FlowModel) → IsStage limits core (pos 0) (pos 0) m → GivesOnly (HasOption limits core (λ z. z) (λ z. pos 0)) (where_named named (file_in (rch_of files) files) m)
+  rain_stage : (named : Option (List ℕ)) (m : FlowModel) → IsStage limits core (pos 0) (pos 0) m →
+      GivesOnly (HasOption limits core (λ z. z) (λ z. pos 0)) (where_named named (file_in (rch_of files) files) m)
   rain_stage named m stage = named_is _ _ m (record { option = pos 0; by = inl refl; stage = stage }) (λ name bytes. rch_is limits files name bytes core size m stage) named
 
-  air_stage : (nrchop : ℤ) (named : Option (List ℕ)) (m : FlowModel) → IsStage limits core nrchop (pos 0) m → GivesOnly (HasOption limits core (λ z. nrchop) (λ z. z)) (where_named named (file_in (evt_of files) files) m)
+  air_stage : (nrchop : ℤ) (named : Option (List ℕ)) (m : FlowModel) → IsStage limits core nrchop (pos 0) m →
+      GivesOnly (HasOption limits core (λ z. nrchop) (λ z. z)) (where_named named (file_in (evt_of files) files) m)
   air_stage nrchop named m stage = named_is _ _ m (record { option = pos 0; by = inl refl; stage = stage }) (λ name bytes. evt_is limits files name bytes core size nrchop m stage) named
 
   pub stresses_are : (names : Pairs) → IsStage limits core (pos 0) (pos 0) core → GivesOnly (IsStressed limits core) (with_stresses limits files names stresses core)

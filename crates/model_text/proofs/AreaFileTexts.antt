@@ -67,7 +67,8 @@ module _ (kind : ArrayKind) (files : FileSet) (file : List ℕ) (g : Grid) (size
     arrays_take : Takes (arrays_of files file g (record { surface = kind.evaporates; rate = true; depth = kind.evaporates; layer = is_int option 2 }) last.area) (array_lines a) (λ left. (a, left))
     unfolding arrays_of
     arrays_take =
-        then_takes _ (reals_if_take kind.evaporates a.surfaces (λ e. (bare p.stresses e).0) h.is.surfaces last.area.surfaces lacks.surfaces) (then_takes _ (reals_take files file g size a.rates h.is.rates)
+        then_takes _ (reals_if_take kind.evaporates a.surfaces (λ e. (bare p.stresses e).0) h.is.surfaces last.area.surfaces lacks.surfaces)
+        (then_takes _ (reals_take files file g size a.rates h.is.rates)
         (then_takes _ (reals_if_take kind.evaporates a.depths (λ e. (bare p.stresses e).1) h.is.depths last.area.depths lacks.depths)
         (last_takes _ (layers_take files file g size option a.layers h.is.layers last.area.layers lacks.layers) (λ left. refl))))
 
@@ -89,7 +90,8 @@ module _ (kind : ArrayKind) (files : FileSet) (file : List ℕ) (g : Grid) (size
   zipped (b ∷ before) [] e can = absurd (omega arith)
   zipped (b ∷ before) (p ∷ ps) e can = (All-head (λ q. CanWrite q) p ps can, zipped before ps (omega arith) (All-tail (λ q. CanWrite q) p ps can))
 
-  periods_take : (before ps : List Period) → length before ≡ length ps → All (λ p. CanWrite p) ps → Takes (periods_of kind files file g ibound option before) (flat_map items ps) (λ left. with_areas kind before ps)
+  periods_take : (before ps : List Period) → length before ≡ length ps → All (λ p. CanWrite p) ps →
+      Takes (periods_of kind files file g ibound option before) (flat_map items ps) (λ left. with_areas kind before ps)
   unfolding periods_of
   periods_take before ps e can =
       last_takes _ (each_takes (period_at kind files file g ibound option) items (λ b p. with_area kind b (kind.area p.stresses)) (λ s p. now p) (λ b p. CanWrite p) (Lacks kind option)

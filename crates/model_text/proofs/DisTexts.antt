@@ -103,7 +103,8 @@ module _ (m : FlowModel) (h : IsDiscretized m) where
   unfolding head_of
   head_takes limits file w = line_takes _ file frame_is_line (λ n e. rw (e, frame_reads limits file n m h w) (last_takes _ (beds_take file) (λ left. refl)))
 
-  pub dis_reads : (limits : Limits) (files : FileSet) (file : List ℕ) → IsGridWithin limits m.grid → dis_of limits files file (text (dis_lines m)) ≡ Ok (model_of_grid m.grid m.lenuni (map without_stresses m.periods))
+  pub dis_reads : (limits : Limits) (files : FileSet) (file : List ℕ) → IsGridWithin limits m.grid → dis_of limits files file (text (dis_lines m)) ≡
+      Ok (model_of_grid m.grid m.lenuni (map without_stresses m.periods))
   unfolding dis_of dis_lines
   dis_reads limits files file w =
       let g = m.grid in

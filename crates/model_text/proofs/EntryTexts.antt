@@ -71,20 +71,30 @@ module _ {E : Type 0} (kind : Kind E) (cell : E → ℕ) (numbers : E → List D
   entry_line x = list_item_6 g (cell x) (numbers x)
 
   -- what holds of the entry of a cell with numbers holds of a good entry
-  for_good : (P : E → Type 0) → ((at : CellId) (c : List Dec) → at.0 < cell_count g → length c ≡ length kind.columns → All IsDec c → first_fault kind.columns c ≡ None → P (kind.entry at c)) → (x : E) → IsGood x → P x
+  for_good : (P : E → Type 0) → ((at : CellId) (c : List Dec) → at.0 < cell_count g → length c ≡ length kind.columns → All IsDec c →
+      first_fault kind.columns c ≡ None → P (kind.entry at c)) → (x : E) → IsGood x → P x
   for_good P f x e = subst P (sym e.is) (f e.cell e.numbers e.inside e.count e.canonical e.passes)
 
   small : (cell : ℕ) → cell < cell_count g → (layer_of g cell + 1 < 10 ^ 18) × (row_of g cell + 1 < 10 ^ 18) × (column_of g cell + 1 < 10 ^ 18)
   small cell low = (omega (arith, layer_below g h cell low, h.layers.1), omega (arith, row_below g h cell low, h.rows.1), omega (arith, column_below g h cell low, h.cols.1))
 
-  made_reads : (file : List ℕ) (line : ℕ) (marks : List Bool) (at : CellId) (c : List Dec) → at.0 < cell_count g → length c ≡ length kind.columns → All IsDec c → first_fault kind.columns c ≡ None → get_or marks at.0 false ≡ false
+  made_reads : (file : List ℕ) (line : ℕ) (marks : List Bool) (at : CellId) (c : List Dec) → at.0 < cell_count g → length c ≡ length kind.columns →
+      All IsDec c → first_fault kind.columns c ≡ None → get_or marks at.0 false ≡ false
       → entry_of kind file line g marks (list_item_6 g at.0 (numbers (kind.entry at c))) ≡ Ok (kind.entry at c, at)
   unfolding entry_of list_item_6
   made_reads file line marks at c low count canonical passes free =
       let few = small at.0 low in
       let ws = map number_word (numbers (kind.entry at c)) in
       let read : repeated_reading (length kind.columns) (number_at number file line) ws ≡ Ok (c, []) = rw (w.numbers_are at c count, ← count) (numbers_read file line c canonical) in
-      rw (decimal_item file line (layer_of g at.0 + 1) few.0, decimal_item file line (row_of g at.0 + 1) few.1, decimal_item file line (column_of g at.0 + 1) few.2, read, cell_reads g h file line at low, passes, free) refl
+      rw (
+        decimal_item file line (layer_of g at.0 + 1) few.0,
+        decimal_item file line (row_of g at.0 + 1) few.1,
+        decimal_item file line (column_of g at.0 + 1) few.2,
+        read,
+        cell_reads g h file line at low,
+        passes,
+        free,
+      ) refl
 
   made_is_line : (at : CellId) (c : List Dec) → at.0 < cell_count g → length c ≡ length kind.columns → All IsDec c → IsLine (list_item_6 g at.0 (numbers (kind.entry at c)))
   unfolding list_item_6
@@ -93,7 +103,10 @@ module _ {E : Type 0} (kind : Kind E) (cell : E → ℕ) (numbers : E → List D
       let ds = numbers (kind.entry at c) in
       let decimals : All IsDec ds = rw (w.numbers_are at c count) canonical in
       let back = All-map (λ v. IsWord v) number_word ds (All-weaker (λ d. IsDec d) (λ d. IsWord (number_word d)) canonical_word ds decimals) in
-      let front = All-from_recursion (λ v. IsWord v) (map decimal (place g at.0)) (count_is_word (layer_of g at.0 + 1) few.0, (count_is_word (row_of g at.0 + 1) few.1, (count_is_word (column_of g at.0 + 1) few.2, tt))) in
+      let front = All-from_recursion (λ v. IsWord v) (map decimal (place g at.0)) (
+        count_is_word (layer_of g at.0 + 1) few.0,
+        (count_is_word (row_of g at.0 + 1) few.1, (count_is_word (column_of g at.0 + 1) few.2, tt)),
+      ) in
       record { some = omega arith; words = All-append (λ v. IsWord v) (map decimal (place g at.0)) (map number_word ds) front back }
 
   left_out : (cell : ℕ) (ds : List Dec) → cell < cell_count g → is_left_out (list_item_6 g cell ds) ≡ false

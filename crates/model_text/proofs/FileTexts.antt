@@ -36,7 +36,8 @@ found_bytes w bytes limit (f ∷ files) small e = by_case (λ later. found_bytes
     by_case further true d = let same : Path (Option (List ℕ)) (Some f.bytes) (Some bytes) = rw d at e in let is : f.bytes ≡ bytes = cc in rw is at first
     by_case further false d = let later : bytes_under w files ≡ Some bytes = rw d at e in further later
 
-pub small_file : (most : ℕ) (w bytes : List ℕ) (files : List File) → IsFileName w → All (λ f. length f.bytes ≤ most) files → bytes_under w files ≡ Some bytes → file_at (with_limit most files) w ≡ Ok bytes
+pub small_file : (most : ℕ) (w bytes : List ℕ) (files : List File) → IsFileName w → All (λ f. length f.bytes ≤ most) files → bytes_under w files ≡ Some bytes →
+    file_at (with_limit most files) w ≡ Ok bytes
 small_file most w bytes files name small e =
     let short : length bytes ≤ most = found_bytes w bytes most files small e in
     let test : nat_le (length bytes) most ≡ true = grind (arith, nat_tests) in
@@ -68,7 +69,8 @@ module _ (m : FlowModel) (names : Package → List ℕ) (name : List ℕ) (h : A
   unfolding written
   package_file_there most small k is_in there =
       let other = other_bytes (names k) name (h.apart k) in
-      let found : bytes_under (names k) (name_file m names name ∷ map (package_file m names) (filter (has m) packages)) ≡ Some (text (lines_of m k)) = rw other (package_bytes k is_in packages there) in
+      let found : bytes_under (names k) (name_file m names name ∷ map (package_file m names) (filter (has m) packages)) ≡ Some (text (lines_of m k)) =
+      rw other (package_bytes k is_in packages there) in
       small_file most (names k) (text (lines_of m k)) (name_file m names name ∷ map (package_file m names) (filter (has m) packages)) (h.each k) small found
 
 -- The names of the files of a deck are good names.

@@ -97,10 +97,12 @@ module _ (file : List ℕ) (n : ℕ) (others : List Line) where
       rw (zero_begins file n end_word others words, zero_reads file n [] (left_of_lines (next_number n) others)) refl
   beds_after (z ∷ zs) h =
       let written = All-weaker (λ x. IsShort x) (λ x. IsWrittenAs integer integer_word x) integer_written (z ∷ zs) h in
-      let words = All-append (λ w. IsWord w) (map integer_word (z ∷ zs)) end_word (row_is_words_map (z ∷ zs) written) (All-cons (λ w. IsWord w) (integer_word (pos 0)) [] (zero_written).is_word (All-nil (λ w. IsWord w))) in
+      let words = All-append (λ w. IsWord w) (map integer_word (z ∷ zs)) end_word (row_is_words_map (z ∷ zs) written)
+      (All-cons (λ w. IsWord w) (integer_word (pos 0)) [] (zero_written).is_word (All-nil (λ w. IsWord w))) in
       let start = alone_begins integer file n (map integer_word (z ∷ zs) ++ end_word) others words in
       let count : length (z ∷ zs) + 1 - 1 ≡ suc (length zs) = omega arith in
-      let first = same_start (length zs) (value_alone integer file) (beginning, left_of_lines n ((map integer_word (z ∷ zs) ++ end_word) ∷ others)) (on_line n [] (map integer_word (z ∷ zs) ++ end_word), left_of_lines (next_number n) others) start in
+      let first = same_start (length zs) (value_alone integer file) (beginning, left_of_lines n ((map integer_word (z ∷ zs) ++ end_word) ∷ others))
+      (on_line n [] (map integer_word (z ∷ zs) ++ end_word), left_of_lines (next_number n) others) start in
       let read = values_read integer integer_word file n [] (z ∷ zs) end_word (left_of_lines (next_number n) others) written in
       rw (count, first, read, zero_reads file n (last_word integer_word [] (z ∷ zs)) (left_of_lines (next_number n) others)) refl
 
@@ -117,7 +119,8 @@ beds_read file n others g h short =
     let whole : take (g.layers - 1 + 1) g.laycbd ≡ g.laycbd = take_all (g.layers - 1 + 1) g.laycbd (omega (arith, h.laycbd)) in
     let parts : take (g.layers - 1 + 1) g.laycbd ≡ above ++ (int_at g.laycbd (g.layers - 1) ∷ []) = take_more g.laycbd (g.layers - 1) (pos 0) low in
     let split : above ++ (pos 0 ∷ []) ≡ g.laycbd = sym (sym whole ∙ (parts ∙ ap (λ (z : ℤ). above ++ (z ∷ [])) h.no_last_bed)) in
-    let words : map integer_word above ++ (integer_word (pos 0) ∷ []) ≡ map integer_word g.laycbd = sym (map-append integer_word above (pos 0 ∷ [])) ∙ ap (λ (xs : List ℤ). map integer_word xs) split in
+    let words : map integer_word above ++ (integer_word (pos 0) ∷ []) ≡ map integer_word g.laycbd =
+    sym (map-append integer_word above (pos 0 ∷ [])) ∙ ap (λ (xs : List ℤ). map integer_word xs) split in
     let read = beds_after file n others above (All-take (λ z. IsShort z) (g.layers - 1) g.laycbd short) in
     rw (count, words, split) at read
 

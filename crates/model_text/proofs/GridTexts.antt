@@ -34,7 +34,8 @@ all_above : (xs : List Dec) → All (λ d. IsPositive d) xs → list_all is_posi
 all_above xs h = list_all-from_AllPass is_positive xs (All-weaker (λ d. IsPositive d) (λ d. is_positive d ≡ true) positive_is xs h)
 
 -- an array of widths
-widths_take : (files : FileSet) (file : List ℕ) (count : ℕ) (xs : List Dec) → 1 ≤ count → (length xs ≡ count) × All (λ d. IsPositive d) xs → Takes (widths files file count) (real_array 1 count xs) (λ left. (xs, left))
+widths_take : (files : FileSet) (file : List ℕ) (count : ℕ) (xs : List Dec) → 1 ≤ count → (length xs ≡ count) × All (λ d. IsPositive d) xs →
+    Takes (widths files file count) (real_array 1 count xs) (λ left. (xs, left))
 unfolding widths real_array
 widths_take files file count xs some h =
     let numbers = All-weaker (λ d. IsPositive d) (λ d. IsDec d) (λ d k. k.decimal) xs h.1 in
@@ -45,11 +46,13 @@ module _ (files : FileSet) (file : List ℕ) (g : Grid) (size : HasSize g) where
   reals_take xs h = arrays.layers files file g.rows g.cols xs size.cols.0 h.0 h.1
 
   -- a layer of a list by cell
-  pub layer_takes : (xs : List Dec) → (length xs ≡ cell_count g) × All IsDec xs → (k : ℕ) → k < g.layers → Takes (real_layer files file g.rows g.cols) (real_layer_lines g xs k) (λ left. (layer_values g k xs, left))
+  pub layer_takes : (xs : List Dec) → (length xs ≡ cell_count g) × All IsDec xs → (k : ℕ) → k < g.layers →
+      Takes (real_layer files file g.rows g.cols) (real_layer_lines g xs k) (λ left. (layer_values g k xs, left))
   layer_takes xs h k low = reals_take (layer_values g k xs) (layer_length g k xs low h.0, layer_has g IsDec k xs h.1)
 
   -- a layer that is written where the file has it
-  pub layer_or_takes : (b : Bool) (xs : List Dec) (other : Dec) → (length xs ≡ cell_count g) × All IsDec xs → (k : ℕ) → k < g.layers → (b ≡ false → layer_values g k xs ≡ replicate (layer_size g) other)
+  pub layer_or_takes : (b : Bool) (xs : List Dec) (other : Dec) → (length xs ≡ cell_count g) × All IsDec xs → (k : ℕ) → k < g.layers →
+      (b ≡ false → layer_values g k xs ≡ replicate (layer_size g) other)
       → Takes (layer_or files file g.rows g.cols b other) (if b then real_layer_lines g xs k else []) (λ left. (layer_values g k xs, left))
   unfolding layer_or
   layer_or_takes b xs other h k low none = takes_where b (λ e. layer_takes xs h k low) (λ e. rw (none e) takes_none)

@@ -41,7 +41,8 @@ module _ {E : Type 0} (limits : Limits) (kind : Kind E) (cell : E → ℕ) (numb
       line_takes _ file (counts_are_line (length xs) (omega (arith, good.few, entries_few limits))) (λ n e. rw (e, header_reads limits file n (is_some last) (length xs) good.few)
       (last_takes _ (list_takes kind cell numbers w g h file xs good.entries (all_free kind g xs good.once)) (λ left. rw good.suits refl)))
 
-  period_takes : (p : Period) (xs : List E) (last : Option (List E)) → IsGood p xs → Takes (λ left. period_at limits kind file g p (last, left)) (lines_of xs) (λ left. (with_list kind p xs, (Some xs, left)))
+  period_takes : (p : Period) (xs : List E) (last : Option (List E)) → IsGood p xs →
+      Takes (λ left. period_at limits kind file g p (last, left)) (lines_of xs) (λ left. (with_list kind p xs, (Some xs, left)))
   unfolding period_at
   period_takes p xs last good = last_takes _ (period_list_takes p xs good last) (λ left. refl)
 

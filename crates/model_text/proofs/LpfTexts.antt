@@ -22,7 +22,9 @@ module _ (files : FileSet) (file : List ℕ) (m : FlowModel) (d : IsDiscretized 
   no_storage : transient ≡ false → m.ss ≡ []
   no_storage e = nil_from_length m.ss (rw e at f.ss.0)
 
-  storage_takes : (k : ℕ) → k < m.grid.layers → Takes (storage_layer files file (nth_layer m.grid chani transient k)) (if transient then real_layer m.grid m.ss k else []) (λ left. (layer_values m.grid k m.ss, left))
+  storage_takes : (k : ℕ) → k < m.grid.layers →
+      Takes (storage_layer files file (nth_layer m.grid chani transient k)) (if transient then real_layer m.grid m.ss k else []) (λ left.
+      (layer_values m.grid k m.ss, left))
   unfolding storage_layer
   storage_takes k low =
       takes_where transient (λ e. layer_takes files file m.grid d.grid.size m.ss (rw e at f.ss.0, f.ss.1) k low)

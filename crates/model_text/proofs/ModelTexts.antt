@@ -89,16 +89,20 @@ module _ (limits : Limits) (m : FlowModel) (w : IsWritable limits m) (names : Pa
       rw (there Lpf refl, read, checks_kept m (pos 0) (pos 0) (map without_stresses m.periods) Properties (names Lpf), w.passed Properties (names Lpf)) refl
 
   wells_there : stress_in limits files pairs Wel (staged m (pos 0) (pos 0) without_stresses) ≡ Ok (staged m (pos 0) (pos 0) with_wells)
-  wells_there = list_stage limits wells cell_of numbers_of list_packages.wel m size w.wel files (names Wel) (pos 0) (pos 0) without_stresses (λ p xs. refl) (λ p. refl) (file_of Wel pairs) (named Wel) (there Wel)
+  wells_there = list_stage limits wells cell_of numbers_of list_packages.wel m size w.wel files (names Wel) (pos 0) (pos 0) without_stresses (λ p xs. refl)
+      (λ p. refl) (file_of Wel pairs) (named Wel) (there Wel)
 
   rivers_there : stress_in limits files pairs Riv (staged m (pos 0) (pos 0) with_wells) ≡ Ok (staged m (pos 0) (pos 0) with_rivers)
-  rivers_there = list_stage limits rivers cell_of numbers_of list_packages.riv m size w.riv files (names Riv) (pos 0) (pos 0) with_wells (λ p xs. refl) (λ p. refl) (file_of Riv pairs) (named Riv) (there Riv)
+  rivers_there = list_stage limits rivers cell_of numbers_of list_packages.riv m size w.riv files (names Riv) (pos 0) (pos 0) with_wells (λ p xs. refl) (λ p.
+      refl) (file_of Riv pairs) (named Riv) (there Riv)
 
   drains_there : stress_in limits files pairs Drn (staged m (pos 0) (pos 0) with_rivers) ≡ Ok (staged m (pos 0) (pos 0) with_drains)
-  drains_there = list_stage limits drains cell_of numbers_of list_packages.drn m size w.drn files (names Drn) (pos 0) (pos 0) with_rivers (λ p xs. refl) (λ p. refl) (file_of Drn pairs) (named Drn) (there Drn)
+  drains_there = list_stage limits drains cell_of numbers_of list_packages.drn m size w.drn files (names Drn) (pos 0) (pos 0) with_rivers (λ p xs. refl) (λ p.
+      refl) (file_of Drn pairs) (named Drn) (there Drn)
 
   generals_there : stress_in limits files pairs Ghb (staged m (pos 0) (pos 0) with_drains) ≡ Ok (staged m (pos 0) (pos 0) with_generals)
-  generals_there = list_stage limits generals cell_of numbers_of list_packages.ghb m size w.ghb files (names Ghb) (pos 0) (pos 0) with_drains (λ p xs. refl) (λ p. refl) (file_of Ghb pairs) (named Ghb) (there Ghb)
+  generals_there = list_stage limits generals cell_of numbers_of list_packages.ghb m size w.ghb files (names Ghb) (pos 0) (pos 0) with_drains (λ p xs. refl)
+      (λ p. refl) (file_of Ghb pairs) (named Ghb) (there Ghb)
 
   rain_there : stress_in limits files pairs Rch (staged m (pos 0) (pos 0) with_generals) ≡ Ok (staged m m.nrchop (pos 0) with_rain)
   rain_there =
@@ -107,7 +111,8 @@ module _ (limits : Limits) (m : FlowModel) (w : IsWritable limits m) (names : Pa
 
   given_there : stress_in limits files pairs Chd (staged m m.nrchop (pos 0) with_rain) ≡ Ok (staged m m.nrchop (pos 0) with_given)
   given_there =
-      list_stage limits given_heads (λ x. x.cell.0) heads_of list_packages.chd m size w.chd files (names Chd) m.nrchop (pos 0) with_rain (λ p xs. refl) (λ p. refl) (file_of Chd pairs) (named Chd) (there Chd)
+      list_stage limits given_heads (λ x. x.cell.0) heads_of list_packages.chd m size w.chd files (names Chd) m.nrchop (pos 0) with_rain (λ p xs. refl) (λ p.
+      refl) (file_of Chd pairs) (named Chd) (there Chd)
 
   all_there : stress_in limits files pairs Evt (staged m m.nrchop (pos 0) with_given) ≡ Ok (staged m m.nrchop m.nevtop with_all)
   all_there =
@@ -122,7 +127,8 @@ module _ (limits : Limits) (m : FlowModel) (w : IsWritable limits m) (names : Pa
   unfolding model_of
   model_there = rw (needed_is Dis refl, dis_there, needed_is Bas refl, bas_there, needed_is Lpf refl, lpf_there) stresses_there
 
-module _ (limits : Limits) (m : FlowModel) (w : IsWritable limits m) (names : Package → List ℕ) (name : List ℕ) (h : AreNames names name) (most : ℕ) (small : All (λ f. length f.bytes ≤ most) (written m names name)) where
+module _ (limits : Limits) (m : FlowModel) (w : IsWritable limits m) (names : Package → List ℕ) (name : List ℕ) (h : AreNames names name) (most : ℕ)
+    (small : All (λ f. length f.bytes ≤ most) (written m names name)) where
   abbrev pairs : Pairs
   pairs = pairs_of names (has m) packages
 

@@ -59,7 +59,8 @@ module _ {A V : Type 0} (keeps : Package → Bool) (item : Package → A) (look 
       first : (j : Package) → asked ≡ j → look (map item (filter keeps (j ∷ ks))) ≡ Some v
       first j e = rw (← e, is_in) (hit (map item (filter keeps ks)))
 
-      by_case : (list_any (λ j. is_same_package asked j) ks ≡ true → look (map item (filter keeps ks)) ≡ Some v) → (b : Bool) → is_same_package asked k ≡ b → look (map item (filter keeps (k ∷ ks))) ≡ Some v
+      by_case : (list_any (λ j. is_same_package asked j) ks ≡ true → look (map item (filter keeps ks)) ≡ Some v) → (b : Bool) → is_same_package asked k ≡ b →
+          look (map item (filter keeps (k ∷ ks))) ≡ Some v
       by_case rest true e = first k (is_same asked k e)
       by_case rest false e = further (keeps k) refl
         where

@@ -87,7 +87,8 @@ module _ (file : List ℕ) (m : FlowModel) (d : IsDiscretized m) (f : HasFlow m)
       rw f.layvka.0 at (free_lists.integers file m.layvka some f.layvka.1)
 
   -- items 2 to 6
-  pub settings_take : Takes (settings_of file m.grid.layers) (lpf_zeros m ∷ lpf_zeros m ∷ lpf_item_4 m ∷ lpf_item_5 m ∷ lpf_zeros m ∷ []) (λ left. (record { chani = replicate m.grid.layers minus_one; layvka = m.layvka }, left))
+  pub settings_take : Takes (settings_of file m.grid.layers) (lpf_zeros m ∷ lpf_zeros m ∷ lpf_item_4 m ∷ lpf_item_5 m ∷ lpf_zeros m ∷ []) (λ left.
+      (record { chani = replicate m.grid.layers minus_one; layvka = m.layvka }, left))
   unfolding settings_of
   settings_take = then_takes _ zeros_take (then_takes _ zeros_take (then_takes _ chani_takes (then_takes _ layvka_takes (last_takes _ zeros_take (λ left. refl)))))
 

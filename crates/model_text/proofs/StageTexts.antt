@@ -64,7 +64,8 @@ module _ {E : Type 0} (limits : Limits) (kind : Kind E) (cell : E → ℕ) (numb
   list_stage named asked there =
       let good = all_lists kind stage limits (cell_count m.grid) suits m.periods lists in
       let read = reads limits name m.grid (map stage m.periods) (map (λ p. kind.list p.stresses) m.periods) size good in
-      read_where files name _ _ _ _ (is_listed (λ p. kind.list p.stresses) m.periods) named asked there (λ e. rw (read, lists_put kind stage m.periods) refl) (λ e. rw (none_put kind stage empty m.periods e) refl)
+      read_where files name _ _ _ _ (is_listed (λ p. kind.list p.stresses) m.periods) named asked there (λ e. rw (read, lists_put kind stage m.periods) refl)
+      (λ e. rw (none_put kind stage empty m.periods e) refl)
 
 option_is_some : (z : ℤ) → is_option z ≡ true → is_int z 0 ≡ false
 option_is_some (pos zero) h = absurd (cc)
@@ -83,11 +84,14 @@ module _ (kind : ArrayKind) (m : FlowModel) (option : ℤ) (files : FileSet) (na
     (at : ℤ → List Period → FlowModel) (stage : Period → Period) (empty : (p : Period) → with_area kind (stage p) no_area ≡ stage p)
     (reads : HasPackage kind option m → read name (text lines) (at (pos 0) (map stage m.periods)) ≡ Ok (at option (with_areas kind (map stage m.periods) m.periods))) where
   pub arrays_stage : (named : Option (List ℕ)) → HasPackage kind option m ⊎ LacksPackage kind option m → named ≡ (if not (is_int option 0) then Some name else None)
-      → (not (is_int option 0) ≡ true → file_at files name ≡ Ok (text lines)) → where_named named (file_in read files) (at (pos 0) (map stage m.periods)) ≡ Ok (at option (map (with_arrays kind stage) m.periods))
+      → (not (is_int option 0) ≡ true → file_at files name ≡ Ok (text lines)) → where_named named (file_in read files) (at (pos 0) (map stage m.periods)) ≡
+      Ok (at option (map (with_arrays kind stage) m.periods))
   arrays_stage named (inl w) asked there =
       let is_in : is_int option 0 ≡ false = option_is_some option w.active in
-      read_where files name lines read _ _ true named (rw is_in at asked) (λ e. there (rw is_in refl)) (λ e. rw (arrays_put kind stage m.periods) at (reads w)) (λ e. absurd (let clash : true ≡ false = e in cc))
+      read_where files name lines read _ _ true named (rw is_in at asked) (λ e. there (rw is_in refl)) (λ e. rw (arrays_put kind stage m.periods) at (reads w))
+      (λ e. absurd (let clash : true ≡ false = e in cc))
   arrays_stage named (inr w) asked there =
       let out : is_int option 0 ≡ true = rw w.off refl in
       let same = same_stage stage (with_arrays kind stage) (λ p. kind.area p.stresses ≡ no_area) (λ p e. ap (λ (a : Area). with_area kind (stage p) a) e ∙ empty p) m.periods w.none in
-      read_where files name lines read _ _ false named (rw out at asked) (λ e. absurd (let clash : false ≡ true = e in cc)) (λ e. absurd (let clash : false ≡ true = e in cc)) (λ e. rw (w.off, same) refl)
+      read_where files name lines read _ _ false named (rw out at asked) (λ e. absurd (let clash : false ≡ true = e in cc)) (λ e.
+      absurd (let clash : false ≡ true = e in cc)) (λ e. rw (w.off, same) refl)

@@ -34,7 +34,12 @@ steady_known false r = refl
 time_reads : (file : List ℕ) (line : ℕ) (p : Period) → IsTimed p → time_of file line (dis_item_7 p) ≡ Ok (time p)
 unfolding time_of dis_item_7
 time_reads file line p h =
-    rw (number_item file line p.perlen h.perlen.decimal, count_reads file line 100000 p.nstp h.nstp.0 h.nstp.1 (omega arith), number_item file line p.tsmult h.tsmult.decimal, steady_known p.steady _) refl
+    rw (
+      number_item file line p.perlen h.perlen.decimal,
+      count_reads file line 100000 p.nstp h.nstp.0 h.nstp.1 (omega arith),
+      number_item file line p.tsmult h.tsmult.decimal,
+      steady_known p.steady _,
+    ) refl
 
 or_true : (b : Bool) → (b || true) ≡ true
 or_true true = refl
@@ -77,6 +82,7 @@ periods_repeat file steps (p ∷ ps) h room =
     (last_takes _ (periods_repeat file (steps + p.nstp) ps (All-tail (λ q. IsTimed q) p ps h) room) (λ left. refl))
 
 -- item 7 of each stress period
-pub periods_take : (file : List ℕ) (ps : List Period) → All (λ p. IsTimed p) ps → sum_by (λ p. p.nstp) ps ≤ 100000 → Takes (periods_of file (length ps)) (map dis_item_7 ps) (λ left. map without_stresses ps)
+pub periods_take : (file : List ℕ) (ps : List Period) → All (λ p. IsTimed p) ps → sum_by (λ p. p.nstp) ps ≤ 100000 →
+    Takes (periods_of file (length ps)) (map dis_item_7 ps) (λ left. map without_stresses ps)
 unfolding periods_of
 periods_take file ps h room = last_takes _ (periods_repeat file 0 ps h room) (λ left. refl)

@@ -58,7 +58,13 @@ discretized = record {
 basic : IsBasic three_cells
 basic = record {
   ibound = (refl, All-from_recursion (λ z. IsShort z) (negsuc 0 ∷ pos 1 ∷ negsuc 0 ∷ []) (record { few = omega arith }, (record { few = omega arith }, (record { few = omega arith }, tt))));
-  strt = (refl, All-from_recursion IsDec (decimal 1 1 ∷ no_number ∷ decimal 2 1 ∷ []) (whole_dec 1 1 (omega arith) (omega arith) (omega arith) (omega arith), (no_number_is, (whole_dec 2 1 (omega arith) (omega arith) (omega arith) (omega arith), tt))));
+  strt = (
+    refl,
+    All-from_recursion IsDec (decimal 1 1 ∷ no_number ∷ decimal 2 1 ∷ []) (
+      whole_dec 1 1 (omega arith) (omega arith) (omega arith) (omega arith),
+      (no_number_is, (whole_dec 2 1 (omega arith) (omega arith) (omega arith) (omega arith), tt)),
+    ),
+  );
 }
 
 flow : HasFlow three_cells
@@ -97,7 +103,9 @@ writable = record {
 }
 
 small : All (λ f. length f.bytes ≤ 67108864) deck
-unfolding written name_item text line_text dis_lines dis_item_1 dis_item_2 dis_item_3 dis_item_4 dis_item_5 dis_item_6 dis_item_7 bas_lines bas_item_1 bas_item_2 bas_item_3 bas_item_4 lpf_lines lpf_item_1 lpf_zeros lpf_item_4 lpf_item_5 lpf_arrays real_array integer_array row_line row_lines number_word integer_word
+unfolding written name_item text line_text dis_lines dis_item_1 dis_item_2 dis_item_3 dis_item_4 dis_item_5 dis_item_6 dis_item_7 bas_lines bas_item_1
+    bas_item_2 bas_item_3 bas_item_4 lpf_lines lpf_item_1 lpf_zeros lpf_item_4 lpf_item_5 lpf_arrays real_array integer_array row_line row_lines number_word
+    integer_word
 small =
     let zero_digit : numeral 0 ≡ 48 ∷ [] = decimal_digit 0 (omega arith) in
     let one_digit : numeral 1 ≡ 49 ∷ [] = decimal_digit 1 (omega arith) in

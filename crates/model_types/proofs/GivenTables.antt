@@ -53,7 +53,8 @@ take_fewer : {X : Type 0} (n : ℕ) (xs : List X) → take (min (length xs) n) x
 take_fewer n xs = grind (arith, cases_lt, take_all)
 
 -- what the walk over the lists up to period p finds
-pub given_among : (ps qs : List Period) (p n c : ℕ) (b : Bool) → qs ≡ ps → n ≡ min (length qs) p → b ≡ list_any (λ q. list_any (λ x. x.cell.0 == c) q.stresses.given) (take n qs) → b ≡ is_some (last_given (take p ps) c)
+pub given_among : (ps qs : List Period) (p n c : ℕ) (b : Bool) → qs ≡ ps → n ≡ min (length qs) p → b ≡
+    list_any (λ q. list_any (λ x. x.cell.0 == c) q.stresses.given) (take n qs) → b ≡ is_some (last_given (take p ps) c)
 given_among ps qs p n c b e count found = grind (arith, take_fewer, periods_any, named_lists)
 
 -- for each of n cells the last of these entries that names it
@@ -66,8 +67,10 @@ table_more n k xs x is lt = fill_by_all (given_in (xs ++ x ∷ [])) (set (table 
   where
     at : (j : ℕ) → j < n → get_or (set (table n xs) k (Some x)) j None ≡ given_in (xs ++ x ∷ []) j
     at j less = elim (cases_eq j k) [
-      | inl same ↦ get_or-set_at (table n xs) k j (Some x) None same (omega (arith, length-map-range_with_len (given_in xs) 0 n)) ∙ sym (given_more xs x j ∙ cond-true (x.cell.0 == j) (Some x) (given_in xs j) (eq-eqb x.cell.0 j (sym is ∙ sym same)))
-      | inr other ↦ get_or-set_other (table n xs) k j (Some x) None other ∙ get_or-map-range_with_len (given_in xs) 0 n j j None less (omega arith) ∙ sym (given_more xs x j ∙ cond-false (x.cell.0 == j) (Some x) (given_in xs j) (ne_eqb x.cell.0 j (λ e. other (sym e ∙ sym is))))
+      | inl same ↦ get_or-set_at (table n xs) k j (Some x) None same (omega (arith, length-map-range_with_len (given_in xs) 0 n)) ∙ sym
+          (given_more xs x j ∙ cond-true (x.cell.0 == j) (Some x) (given_in xs j) (eq-eqb x.cell.0 j (sym is ∙ sym same)))
+      | inr other ↦ get_or-set_other (table n xs) k j (Some x) None other ∙ get_or-map-range_with_len (given_in xs) 0 n j j None less (omega arith) ∙ sym
+          (given_more xs x j ∙ cond-false (x.cell.0 == j) (Some x) (given_in xs j) (ne_eqb x.cell.0 j (λ e. other (sym e ∙ sym is))))
     ]
 
 -- before all periods
@@ -94,14 +97,16 @@ pub length_is : (n : ℕ) (xs : List Given) (ys : List (Option Given)) → ys �
 length_is n xs ys e = ap length e ∙ length-map-range_with_len (given_in xs) 0 n
 
 -- the list that the next period has
-pub period_list : (m : FlowModel) (p : ℕ) (qs : List Period) (q : Period) (xs : List Given) → p < length m.periods → qs ≡ m.periods → q ≡ get_or qs p q → xs ≡ (get_or qs p q).stresses.given → xs ≡ (period_at m (p + 1)).stresses.given
+pub period_list : (m : FlowModel) (p : ℕ) (qs : List Period) (q : Period) (xs : List Given) → p < length m.periods → qs ≡ m.periods → q ≡ get_or qs p q → xs ≡
+    (get_or qs p q).stresses.given → xs ≡ (period_at m (p + 1)).stresses.given
 period_list m p qs q xs lt e is list = grind (arith, get_or_read)
 
 pub lists_more : (m : FlowModel) (p : ℕ) → p < length m.periods → lists_before m p ++ (period_at m (p + 1)).stresses.given ≡ lists_before m (p + 1)
 lists_more m p lt =
     let more : take (p + 1) m.periods ≡ take p m.periods ++ get_or m.periods p no_period ∷ [] = take_more m.periods p no_period lt in
     let at : period_at m (p + 1) ≡ get_or m.periods p no_period = ap (λ k. get_or m.periods k no_period) (omega arith) in
-    ap (λ (q : Period). lists_before m p ++ q.stresses.given) at ∙ flat_map_more (λ (q : Period). q.stresses.given) [] (take p m.periods) (get_or m.periods p no_period) ∙ ap (flat_map (λ (q : Period). q.stresses.given)) (sym more)
+    ap (λ (q : Period). lists_before m p ++ q.stresses.given) at ∙ flat_map_more (λ (q : Period). q.stresses.given) [] (take p m.periods)
+    (get_or m.periods p no_period) ∙ ap (flat_map (λ (q : Period). q.stresses.given)) (sym more)
 
 abbrev pub no_given : Given
 no_given = record { cell = record { 0 = 0 }; shead = no_number; ehead = no_number }

@@ -39,7 +39,14 @@ regrouped g t p = record {
 first : (t : Ratio) → Same (plus (ratio 0 1) one) (plus (times (ratio 0 1) t) one)
 unfolding ratio
 first t = record {
-  cross = rw (num_plus (ratio 0 1) one, den_plus (ratio 0 1) one, num_plus (times (ratio 0 1) t) one, den_plus (times (ratio 0 1) t) one, num_times (ratio 0 1) t, den_times (ratio 0 1) t) (omega arith);
+  cross = rw (
+    num_plus (ratio 0 1) one,
+    den_plus (ratio 0 1) one,
+    num_plus (times (ratio 0 1) t) one,
+    den_plus (times (ratio 0 1) t) one,
+    num_times (ratio 0 1) t,
+    den_times (ratio 0 1) t,
+  ) (omega arith);
 }
 
 -- G(n + 1) = G(n) t + 1

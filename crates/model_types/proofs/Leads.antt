@@ -189,7 +189,19 @@ module _ (g : Grid) (c : ℕ) (test : ℕ → Bool) (h : HasSize g) where
   row_vertical = omega (arith, mul-le-mul_right g.cols h.rows.0)
 
   faces_ascend : Ascends (faces g c)
-  faces_ascend = ((both_before Vertical Column column_vertical, (both_before Vertical Row row_vertical, (before_after Vertical Row, (before_after Vertical Column, (before_after Vertical Vertical, tt))))), ((both_before Column Row row_column, (before_after Column Row, (before_after Column Column, (before_after Column Vertical, tt)))), ((before_after Row Row, (before_after Row Column, (before_after Row Vertical, tt))), ((both_after Row Column row_column, (both_after Row Vertical row_vertical, tt)), ((both_after Column Vertical column_vertical, tt), (tt, tt))))))
+  faces_ascend = (
+    (
+      both_before Vertical Column column_vertical,
+      (both_before Vertical Row row_vertical, (before_after Vertical Row, (before_after Vertical Column, (before_after Vertical Vertical, tt)))),
+    ),
+    (
+      (both_before Column Row row_column, (before_after Column Row, (before_after Column Column, (before_after Column Vertical, tt)))),
+      (
+        (before_after Row Row, (before_after Row Column, (before_after Row Vertical, tt))),
+        ((both_after Row Column row_column, (both_after Row Vertical row_vertical, tt)), ((both_after Column Vertical column_vertical, tt), (tt, tt))),
+      ),
+    ),
+  )
 
   pub ends_ascend : Ordered (λ (x y : Face). x.end < y.end) (filter_map (through test) (faces g c))
   ends_ascend = Ordered-filter_map (λ (x y : Face). x.end < y.end) (through test) (faces g c) (ordered (faces g c) faces_ascend)

@@ -66,7 +66,8 @@ module _ (g : Grid) (h : HasSize g) (c : ℕ) (within : c < cell_count g) where
   row_place =
       let is = place_gives g h c within in
       let split = in_layer g h (layer_of g c) (row_of g c) (column_of g c) in
-      ap (λ n. n % layer_size g) (sym is ∙ split) ∙ mod-mul-add (layer_of g c) (layer_size g) (row_of g c * g.cols + column_of g c) (place_below g h (row_of g c) (column_of g c) (row_below g h c within) (column_below g h c within))
+      ap (λ n. n % layer_size g) (sym is ∙ split) ∙ mod-mul-add (layer_of g c) (layer_size g) (row_of g c * g.cols + column_of g c)
+      (place_below g h (row_of g c) (column_of g c) (row_below g h c within) (column_below g h c within))
 
   layer_place : c ≡ layer_of g c * layer_size g + c % layer_size g
   layer_place = sym (div-add-mod' c (layer_size g))

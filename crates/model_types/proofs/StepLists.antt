@@ -12,7 +12,8 @@ period_is : (m : FlowModel) (p : ℕ) (q : Period) → p < length m.periods → 
 period_is m p q lt is = get_or_read m.periods p q lt is no_period ∙ ap (λ k. get_or m.periods k no_period) (omega arith)
 
 -- one more period
-pub steps_more : (m : FlowModel) (p number count : ℕ) (qs : List Period) (q : Period) (xs : List TimeStep) → p < length qs → qs ≡ m.periods → q ≡ get_or qs p q → number ≡ p + 1 → count ≡ (get_or qs p q).nstp →
+pub steps_more : (m : FlowModel) (p number count : ℕ) (qs : List Period) (q : Period) (xs : List TimeStep) → p < length qs → qs ≡ m.periods → q ≡
+    get_or qs p q → number ≡ p + 1 → count ≡ (get_or qs p q).nstp →
     xs ≡ flat_map (steps_of m) (range_with_len 1 p) → xs ++ map (λ n. record { period = number; step = n }) (range_with_len 1 count) ≡ flat_map (steps_of m) (range_with_len 1 (p + 1))
 steps_more m p number count qs q xs lt e is is_number is_count before =
     let at : q ≡ get_or m.periods p q = is ∙ ap (λ ys. get_or ys p q) e in
@@ -26,7 +27,8 @@ steps_more m p number count qs q xs lt e is is_number is_count before =
     ∙ ap (flat_map (steps_of m)) list
 
 -- one more step
-pub step_pushed : (p n : ℕ) (before xs : List TimeStep) → xs ≡ before ++ map (λ k. record { period = p; step = k }) (range_with_len 1 n) → xs ++ record { period = p; step = n + 1 } ∷ [] ≡ before ++ map (λ k. record { period = p; step = k }) (range_with_len 1 (n + 1))
+pub step_pushed : (p n : ℕ) (before xs : List TimeStep) → xs ≡ before ++ map (λ k. record { period = p; step = k }) (range_with_len 1 n) →
+    xs ++ record { period = p; step = n + 1 } ∷ [] ≡ before ++ map (λ k. record { period = p; step = k }) (range_with_len 1 (n + 1))
 step_pushed p n before xs e =
     let f : ℕ → TimeStep = λ k. record { period = p; step = k } in
     ap (λ ys. ys ++ f (n + 1) ∷ []) e ∙ append_assoc before (map f (range_with_len 1 n)) (f (n + 1) ∷ []) ∙ ap (λ ys. before ++ ys) (sym (map-range_with_len_more f 1 n (n + 1) (omega arith)))

@@ -39,7 +39,8 @@ pub goes_on : (file : List ℕ) (left after : Left) (line : Numbered) (names nex
 unfolding after_lines
 goes_on file left after line names next e read = rw (e, read) refl
 
-pub stops : (file : List ℕ) (left after : Left) (line : Numbered) (names : Pairs) (fault : TextFault) → left ≡ record { lines = line ∷ after.lines; end = after.end } → StopsText fault (after_line file line names)
+pub stops : (file : List ℕ) (left after : Left) (line : Numbered) (names : Pairs) (fault : TextFault) → left ≡
+    record { lines = line ∷ after.lines; end = after.end } → StopsText fault (after_line file line names)
     → StopsText fault (after_lines file left.lines names)
 unfolding after_lines
 stops file left after line names fault e read = rw e (ends_all fault _ _ read)

@@ -26,7 +26,8 @@ module _ (n m : List ℕ) (f : File) (files : List File) where
   gone_more rest true e = rw e rest
   gone_more rest false e = rw e (rw e rest)
 
-  kept_more : bytes_eq m n ≡ false → bytes_under m (without n files) ≡ bytes_under m files → (b c : Bool) → bytes_eq n f.name ≡ b → bytes_eq m f.name ≡ c → bytes_under m (without n (f ∷ files)) ≡ bytes_under m (f ∷ files)
+  kept_more : bytes_eq m n ≡ false → bytes_under m (without n files) ≡ bytes_under m files → (b c : Bool) → bytes_eq n f.name ≡ b → bytes_eq m f.name ≡ c →
+      bytes_under m (without n (f ∷ files)) ≡ bytes_under m (f ∷ files)
   kept_more apart rest true true e d = absurd (let same = (bytes_eq-Decides m n).1 ((bytes_eq-Decides m f.name).0 d ∙ sym ((bytes_eq-Decides n f.name).0 e)) in cc)
   kept_more apart rest true false e d = rw (e, d) rest
   kept_more apart rest false true e d = rw e (rw d refl)
@@ -56,7 +57,8 @@ module _ (limit : ℕ) where
   abbrev Holds : List ℕ → List File → Option Read → Type 0
   Holds name files reading = IfSome reading (λ r. IsAsFound (bytes_under name files) limit r.found)
 
-  agrees_more : (r : Read) (readings : List Read) (files : List File) (name : List ℕ) → Holds name files (reading_of name readings) → (b : Bool) → bytes_eq name r.name ≡ b → Holds name (shown r.name limit r.found files) (reading_of name (r ∷ readings))
+  agrees_more : (r : Read) (readings : List Read) (files : List File) (name : List ℕ) → Holds name files (reading_of name readings) → (b : Bool) →
+      bytes_eq name r.name ≡ b → Holds name (shown r.name limit r.found files) (reading_of name (r ∷ readings))
   agrees_more r readings files name rest true e = rw e (here files name r.name limit r.found e)
   agrees_more r readings files name rest false e = rw (e, there files name r.name limit r.found e) rest
 
@@ -81,7 +83,8 @@ found_may P Missing h = tt
 found_may P TooLong h = tt
 
 -- each word of what was found may be asked for, if it is named
-pub found_asked : (given : List (List ℕ)) (readings : List Read) (found : Found) → ((name : List ℕ) → FoundNames name found → IsNamedBy given readings name) → FoundMay (λ name. IsNamedBy given readings name) found
+pub found_asked : (given : List (List ℕ)) (readings : List Read) (found : Found) → ((name : List ℕ) → FoundNames name found → IsNamedBy given readings name) →
+    FoundMay (λ name. IsNamedBy given readings name) found
 found_asked given readings found named = found_may (λ name. IsNamedBy given readings name) found named
 
 module _ {X : Type 0} (x : X) (xs : List X) where
@@ -115,7 +118,8 @@ is_found files name limit TooLong is within = is
 
 module _ (limit : ℕ) where
   -- a reading of this name says what is under it
-  pub by_reading : (readings : List Read) (files : List File) (name : List ℕ) (r : Read) → AgreeWith limit readings files → reading_of name readings ≡ Some r → IsAsFound (bytes_under name files) limit r.found
+  pub by_reading : (readings : List Read) (files : List File) (name : List ℕ) (r : Read) → AgreeWith limit readings files → reading_of name readings ≡ Some r →
+      IsAsFound (bytes_under name files) limit r.found
   by_reading readings files name r agree is = let P : Option Read → Type 0 = λ o. IfSome o (λ r. IsAsFound (bytes_under name files) limit r.found) in subst P is (agree name)
 
   module _ (readings : List Read) (files : List File) (r : Read) where

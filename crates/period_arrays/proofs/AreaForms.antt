@@ -106,7 +106,8 @@ module _ (files : FileSet) (file : List ℕ) (g : Grid) where
   layers_are left =
       then_ _ (arrays.integer_layers files file g.rows g.cols left) (λ xs many. goes_on (layers_tested file g xs.0) _ (λ tested e. done (record { whole = many; inside = tested_are xs.0 tested e })))
 
-  layers_now : (size : HasSize g) (option : ℤ) (anew : Bool) (before : List ℤ) (left : Left) → (is_int option 2 ≡ true → anew ≡ false → AreOfGrid g before) → (is_int option 2 ≡ false → (anew ≡ false) × (before ≡ []))
+  layers_now : (size : HasSize g) (option : ℤ) (anew : Bool) (before : List ℤ) (left : Left) → (is_int option 2 ≡ true → anew ≡ false → AreOfGrid g before) →
+      (is_int option 2 ≡ false → (anew ≡ false) × (before ≡ []))
       → GivesOnly (λ x. IsLayers g option x.0) (array_or (layers_at files file g) anew before left)
   layers_now size option true before left last none =
       weaker (layers_are left) (λ x is. by_option g option x.0 size (λ e. is) (λ e. absurd (let clash : true ≡ false = (none e).0 in cc)))
@@ -116,7 +117,8 @@ module _ (files : FileSet) (file : List ℕ) (g : Grid) where
     abbrev its : Contents
     its = record { evaporates = evaporates; layered = is_int option 2 }
 
-    arrays_are : (f : ArraysReadAnew) (s : InForce) (left : Left) → AreFlags its s.listed f → IsInForce evaporates g option s → GivesOnly (λ x. IsArea evaporates g option x.0) (arrays_of files file g f s.area left)
+    arrays_are : (f : ArraysReadAnew) (s : InForce) (left : Left) → AreFlags its s.listed f → IsInForce evaporates g option s →
+        GivesOnly (λ x. IsArea evaporates g option x.0) (arrays_of files file g f s.area left)
     unfolding arrays_of
     arrays_are f s left are so =
         let last = s.area in
@@ -136,7 +138,8 @@ module _ (files : FileSet) (file : List ℕ) (g : Grid) where
         (λ area is. done (is, record { area = λ e. is; none = is.layers.none }))))
 
 -- the same of an area that was read, if some files agree with what was read
-pub area_given : (agrees : FileSet → Type 0) (file : List ℕ) (g : Grid) (evaporates : Bool) (option : ℤ) (contents : Contents) (s : InForce × Left) (x : Area × (InForce × Left)) → HasSize g → IsInForce evaporates g option s.0
+pub area_given : (agrees : FileSet → Type 0) (file : List ℕ) (g : Grid) (evaporates : Bool) (option : ℤ) (contents : Contents) (s : InForce × Left) (x : Area ×
+    (InForce × Left)) → HasSize g → IsInForce evaporates g option s.0
     → contents ≡ record { evaporates = evaporates; layered = is_int option 2 } → ((files : FileSet) × agrees files) → ((files : FileSet) → agrees files → area_at contents files file g s ≡ Ok x)
     → IsArea evaporates g option x.0 × IsInForce evaporates g option x.1.0
 area_given agrees file g evaporates option contents s x size so its some read = some_give (λ files. area_is files file g evaporates size option s so) some (λ files agree. rw its at (read files agree))

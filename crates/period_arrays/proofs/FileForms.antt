@@ -42,9 +42,12 @@ module _ (kind : ArrayKind) (files : FileSet) (file : List ℕ) (g : Grid) (size
   line_is : (left : Left) → GivesOnly (λ x. is_option x.0 ≡ true) (option_line kind file left)
   unfolding option_line
   line_is left =
-      goes_on (item_line file left) _ (λ line a. then_ _ (option_is file line.0.number (words line.0.bytes)) (λ option active. goes_on (unit_if kind.evaporates file line.0.number option.1) _ (λ unit b. done active)))
+      goes_on (item_line file left) _ (λ line a.
+      then_ _ (option_is file line.0.number (words line.0.bytes)) (λ option active.
+      goes_on (unit_if kind.evaporates file line.0.number option.1) _ (λ unit b. done active)))
 
   pub arrays_are_read : (bytes : List ℕ) (ps : List Period) → All P ps → GivesOnly (AreRead Q ps) (arrays_in kind files file bytes g ibound ps)
   unfolding arrays_in
   arrays_are_read bytes ps all =
-      then_ _ (line_is (without_comments (left_from 1 bytes))) (λ option active. then_ _ (periods_are option.0 active ps option.1 all) (λ qs are. done (record { active = active; each = are.0; same = are.1 })))
+      then_ _ (line_is (without_comments (left_from 1 bytes))) (λ option active.
+      then_ _ (periods_are option.0 active ps option.1 all) (λ qs are. done (record { active = active; each = are.0; same = are.1 })))

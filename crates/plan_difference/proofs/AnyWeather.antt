@@ -13,7 +13,8 @@ use Rattle.plan_difference.proofs.DifferenceBalance.{difference_solves_it}
 use Rattle.plan_difference.proofs.DifferenceExists.{difference_step_exists}
 
 -- lists that are related place by place: from the places, one after the other, and by what both are related to
-pub related_at : {X Y : Type 0} (R : X → Y → Type 0) (d : X) (e : Y) (xs : List X) (ys : List Y) → length xs ≡ length ys → ((c : ℕ) → c < length xs → R (get_or xs c d) (get_or ys c e)) → AllZip R xs ys
+pub related_at : {X Y : Type 0} (R : X → Y → Type 0) (d : X) (e : Y) (xs : List X) (ys : List Y) → length xs ≡ length ys →
+    ((c : ℕ) → c < length xs → R (get_or xs c d) (get_or ys c e)) → AllZip R xs ys
 related_at R d e [] [] same each = tt
 related_at R d e [] (y ∷ ys) same each = absurd (omega arith)
 related_at R d e (x ∷ xs) [] same each = absurd (omega arith)

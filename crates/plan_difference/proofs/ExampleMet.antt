@@ -24,7 +24,8 @@ apart = of_two (λ c. AreFlowsApart (added c) (cell_at base_step c) (cell_at pla
 step : IsDifferenceStep 1 base_heads planned_heads added base_step planned_step step_of_differences
 step = record {
   as_many = refl;
-  cells = of_two (λ c. IsDifferenceCell (share 1 (base_heads c)) (share 1 (planned_heads c)) (share 1 (base_heads c -ℤ planned_heads c)) (added c) (cell_at base_step c) (cell_at planned_step c) (cell_at step_of_differences c))
+  cells = of_two (λ c. IsDifferenceCell (share 1 (base_heads c)) (share 1 (planned_heads c)) (share 1 (base_heads c -ℤ planned_heads c)) (added c)
+      (cell_at base_step c) (cell_at planned_step c) (cell_at step_of_differences c))
       (record { id = refl; flows = refl; links = refl; of_rivers = []; of_drains = []; of_evaps = []; fixed = refl; rivers = tt; drains = tt; evaps = tt; no_ramps = (refl, refl, refl) })
       (record {
         id = refl;

@@ -19,7 +19,8 @@ module _ (a b : FlowModel) (plan : List (List Entry)) (d : ℕ) where
       (record { model = h.0.model; between = h.0.between; solves = h.0.base }, base_from (heads_of d X) (heads_of d Y) ats Xs Ys h.1)
   base_from old older _ _ _ h = absurd h
 
-  planned_from : (old older : ℕ → Fraction) (ats : List TimeStep) (Xs Ys : List (ℕ → ℤ)) → SolvesPairsFrom a b plan d old older ats Xs Ys → SolvesBetweenFrom (with_plan plan a) (with_plan plan b) d older ats Ys
+  planned_from : (old older : ℕ → Fraction) (ats : List TimeStep) (Xs Ys : List (ℕ → ℤ)) → SolvesPairsFrom a b plan d old older ats Xs Ys →
+      SolvesBetweenFrom (with_plan plan a) (with_plan plan b) d older ats Ys
   planned_from old older [] [] [] h = tt
   planned_from old older (at ∷ ats) (X ∷ Xs) (Y ∷ Ys) h =
       (record { model = with_plan plan h.0.model; between = planned_lie_between plan a h.0.model b h.0.between; solves = h.0.planned }, planned_from (heads_of d X) (heads_of d Y) ats Xs Ys h.1)

@@ -176,12 +176,15 @@ module _ (m : FlowModel) (plan : List (List Entry)) (long : length plan ≡ leng
           let r = map Received (option_to_list (recharge_at m p c)) in
           let own = picked as_well c (entries P) in
           let more = picked as_well c w in
-          (λ i. map (λ x. (flow_same c x) i) (map Received (option_to_list ((recharge_same c) i)) ++ ((ap (λ (xs : List Entry). picked as_well c xs) entries_are ∙ added as_well c P.stresses.wells w others no_wells) i)))
+          (λ i. map (λ x. (flow_same c x) i)
+          (map Received (option_to_list ((recharge_same c) i)) ++
+          ((ap (λ (xs : List Entry). picked as_well c xs) entries_are ∙ added as_well c P.stresses.wells w others no_wells) i)))
           ∙ ap (λ (xs : List FlowSource). map (exact_flow m p n old c) xs) (sym (append_assoc r own more)) ∙ map-append (exact_flow m p n old c) (r ++ own) more
 
       fixed_same : (c : ℕ) → fixed_sources M p c ≡ fixed_sources m p c
       fixed_same c =
-          λ i. option_to_list ((ap (λ (q : Period). cond q.steady None (Some FromStorage)) here) i) ++ map ToConstant ((constant_faces_same c) i) ++ ((sources_same as_general (no_general (cell_count m.grid)) c) i)
+          λ i. option_to_list ((ap (λ (q : Period). cond q.steady None (Some FromStorage)) here) i) ++ map ToConstant ((constant_faces_same c) i) ++
+          ((sources_same as_general (no_general (cell_count m.grid)) c) i)
 
       conducts_same : (c : ℕ) (x : FixedSource) → (exact_fixed M p n older c x).conductance ≡ (exact_fixed m p n old c x).conductance
       conducts_same c (ToConstant x) = conductance_same x.axis x.first
@@ -199,7 +202,8 @@ module _ (m : FlowModel) (plan : List (List Entry)) (long : length plan ≡ leng
       planned_cell c b within = record {
         weather = record {
           links = links_same c;
-          known = subst (λ (xs : List FixedSource). AllZip (λ a q. q.conductance ≡ a.conductance) (map (exact_fixed m p n old c) (fixed_sources m p c)) (map (exact_fixed M p n older c) xs)) (sym (fixed_same c))
+          known = subst (λ (xs : List FixedSource). AllZip (λ a q. q.conductance ≡ a.conductance) (map (exact_fixed m p n old c) (fixed_sources m p c))
+              (map (exact_fixed M p n older c) xs)) (sym (fixed_same c))
               (zip_images (λ (a q : ExactFixed). q.conductance ≡ a.conductance) (exact_fixed m p n old c) (exact_fixed M p n older c) (conducts_same c) (fixed_sources m p c));
           rivers = ap (λ (xs : List RiverSource). map exact_river xs) (sources_same as_river (no_river (cell_count m.grid)) c);
           drains = ap (λ (xs : List DrainSource). map exact_drain xs) (sources_same as_drain (no_drain (cell_count m.grid)) c);
@@ -218,14 +222,16 @@ well_list cells plan i all = elim (cases_lt i (length plan)) [
 
 pub planned_steps : PlannedSteps
 planned_steps m plan p n old older olds long wells apart within = record {
-  as_many = length-map (variable_cells (with_plan plan m) p) (exact_cell (with_plan plan m) p n older) ∙ ap (λ (xs : List ℕ). length xs) same ∙ sym (length-map (variable_cells m p) (exact_cell m p n old));
+  as_many = length-map (variable_cells (with_plan plan m) p) (exact_cell (with_plan plan m) p n older) ∙ ap (λ (xs : List ℕ). length xs) same ∙ sym
+      (length-map (variable_cells m p) (exact_cell m p n old));
   cells = λ c lt. cell c (subst (λ (k : ℕ). c < k) (length-map (variable_cells m p) (exact_cell m p n old)) lt);
 }
   where
     same : variable_cells (with_plan plan m) p ≡ variable_cells m p
     same = cells_same m plan long p n (cell_count m.grid)
 
-    cell : (c : ℕ) → c < length (variable_cells m p) → IsPlannedCell (bound_at olds (cell_at (exact_step m p n old) c).id) (plan_flows m plan p n old c) (cell_at (exact_step m p n old) c) (cell_at (exact_step (with_plan plan m) p n older) c)
+    cell : (c : ℕ) → c < length (variable_cells m p) → IsPlannedCell (bound_at olds (cell_at (exact_step m p n old) c).id) (plan_flows m plan p n old c)
+        (cell_at (exact_step m p n old) c) (cell_at (exact_step (with_plan plan m) p n older) c)
     cell c lt =
         let k = get_or (variable_cells m p) c 0 in
         let first : cell_at (exact_step m p n old) c ≡ exact_cell m p n old k = get_or-map (exact_cell m p n old) (variable_cells m p) c 0 no_cell lt in

@@ -107,8 +107,10 @@ drains_are_enclosed s id d X Y x y p r some is first second =
     let o = placed d some X Y r.elevation r.elevation in
     let (k, at) = stretch o.x o.y in
     let (q, way) = at o.f in
-    let part : IsPart o.x o.y (int_max (o.x -ℤ o.f) (pos 0)) (int_max (o.y -ℤ o.f) (pos 0)) = record { k = k; r = q; some = way.some; at_most = way.at_most; same = ap (λ (z : ℤ). pos k *ℤ z) (lowered o.x o.y o.f) ∙ way.same } in
-    let (b, e, ramp) = branch_over id d X Y (o.n * 10 ^ 9) (mul-pos o.some (omega arith)) o.x o.y o.t o.f o.over_x o.over_y o.over_z r.conductance r.elevation r.elevation (λ v. drain_flow v r) whole_drain
+    let part : IsPart o.x o.y (int_max (o.x -ℤ o.f) (pos 0)) (int_max (o.y -ℤ o.f) (pos 0)) =
+    record { k = k; r = q; some = way.some; at_most = way.at_most; same = ap (λ (z : ℤ). pos k *ℤ z) (lowered o.x o.y o.f) ∙ way.same } in
+    let (b, e, ramp) = branch_over id d X Y (o.n * 10 ^ 9)
+    (mul-pos o.some (omega arith)) o.x o.y o.t o.f o.over_x o.over_y o.over_z r.conductance r.elevation r.elevation (λ v. drain_flow v r) whole_drain
     (λ t f y. int_max (y -ℤ f) (pos 0)) (drain_kind r) o.over_t o.over_f part in
     let bx = between_over x.low x.high 9 o.n (share d X) o.x first o.over_x in
     let by = between_over y.low y.high 9 o.n (share d Y) o.y second o.over_y in
@@ -216,8 +218,10 @@ evaps_are_enclosed s id d X Y x y p r some is first second =
     let (q, way) = at o.f in
     let (w, high_way) = at (int_max o.t o.f) in
     let apart = above_less o.x o.y k o.t o.f q w way high_way in
-    let part : IsPart o.x o.y (int_max (int_min o.x o.t -ℤ o.f) (pos 0)) (int_max (int_min o.y o.t -ℤ o.f) (pos 0)) = record { k = k; r = q - w; some = way.some; at_most = omega (arith, way.at_most); same = apart.same } in
-    let (b, e, ramp) = branch_over id d X Y (o.n * 10 ^ 9) (mul-pos o.some (omega arith)) o.x o.y o.t o.f o.over_x o.over_y o.over_z r.conductance r.surface r.extinction (λ v. evap_flow v r) whole_evap
+    let part : IsPart o.x o.y (int_max (int_min o.x o.t -ℤ o.f) (pos 0)) (int_max (int_min o.y o.t -ℤ o.f) (pos 0)) =
+    record { k = k; r = q - w; some = way.some; at_most = omega (arith, way.at_most); same = apart.same } in
+    let (b, e, ramp) = branch_over id d X Y (o.n * 10 ^ 9)
+    (mul-pos o.some (omega arith)) o.x o.y o.t o.f o.over_x o.over_y o.over_z r.conductance r.surface r.extinction (λ v. evap_flow v r) whole_evap
     (λ t f y. int_max (int_min y t -ℤ f) (pos 0)) (evap_kind r) o.over_t o.over_f part in
     let bx = between_over x.low x.high 9 o.n (share d X) o.x first o.over_x in
     let by = between_over y.low y.high 9 o.n (share d Y) o.y second o.over_y in

@@ -80,7 +80,8 @@ module _ (n : ℕ) (some : 0 < n) where
       ]))
       (λ up. rw (is.above up) (mul-le-mul_right k (at_most_whole Low c B L H)))
     where
-      crossing : int_min x y <ℤ f → f <ℤ int_max x y → L <ℤ B → B <ℤ H → acting_between Low c B L H ≡ divided Low (c * unsigned_abs (H -ℤ B)) (unsigned_abs (H -ℤ L)) → acting_between Low c B L H * k ≤ c * r
+      crossing : int_min x y <ℤ f → f <ℤ int_max x y → L <ℤ B → B <ℤ H → acting_between Low c B L H ≡
+          divided Low (c * unsigned_abs (H -ℤ B)) (unsigned_abs (H -ℤ L)) → acting_between Low c B L H * k ≤ c * r
       crossing under over a b e =
           let (m, me) = not_negative (H -ℤ L) (omega (arith, ints)) in
           let (p, pe) = not_negative (H -ℤ B) (omega (arith, ints)) in
@@ -112,7 +113,8 @@ module _ (n : ℕ) (some : 0 < n) where
         | share a b e ↦ absurd (omega (arith, ints, up, low, foot, strictly L B a))
       ])
     where
-      crossing : int_min x y <ℤ f → f <ℤ int_max x y → L <ℤ B → B <ℤ H → acting_between High c B L H ≡ divided High (c * unsigned_abs (H -ℤ B)) (unsigned_abs (H -ℤ L)) → c * r ≤ (acting_between High c B L H * k)
+      crossing : int_min x y <ℤ f → f <ℤ int_max x y → L <ℤ B → B <ℤ H → acting_between High c B L H ≡
+          divided High (c * unsigned_abs (H -ℤ B)) (unsigned_abs (H -ℤ L)) → c * r ≤ (acting_between High c B L H * k)
       crossing under over a b e =
           let (m, me) = not_negative (H -ℤ L) (omega (arith, ints)) in
           let (p, pe) = not_negative (H -ℤ B) (omega (arith, ints)) in
@@ -131,7 +133,8 @@ module _ (n : ℕ) (some : 0 < n) where
   pub low_corner : (c : ℕ) (x y : ℤ) (k : ℕ) (f : ℤ) (r : ℕ) (l l' B : ℤ) → IsStretch x y k f r → (l *ℤ pos n) ≤ℤ x → (l' *ℤ pos n) ≤ℤ y → f ≤ℤ (B *ℤ pos n) → acting Low c B l l' * k ≤ c * r
   low_corner c x y k f r l l' B is first second foot =
       low_sorted c x y k f r (int_min l l') (int_max l l') B (omega (arith, ints, clamps)) is
-      (by_lt_z l l' (λ lt. omega (arith, ints, clamps, lt, first, second, mul_mono_right n l l' (omega (arith, ints)), lesser l l' lt)) (λ le. omega (arith, ints, clamps, first, second, mul_mono_right n l' l le, lesser_back l l' le)))
+      (by_lt_z l l' (λ lt. omega (arith, ints, clamps, lt, first, second, mul_mono_right n l l' (omega (arith, ints)), lesser l l' lt)) (λ le.
+      omega (arith, ints, clamps, first, second, mul_mono_right n l' l le, lesser_back l l' le)))
       (by_lt_z l l' (λ lt. omega (arith, ints, clamps, first, second, greater_is l l' lt)) (λ le. omega (arith, ints, clamps, first, second, greater_back l l' le)))
       foot
 
@@ -139,5 +142,6 @@ module _ (n : ℕ) (some : 0 < n) where
   high_corner c x y k f r u u' B is first second foot =
       high_sorted c x y k f r (int_min u u') (int_max u u') B (omega (arith, ints, clamps)) is
       (by_lt_z u u' (λ lt. omega (arith, ints, clamps, first, second, lesser u u' lt)) (λ le. omega (arith, ints, clamps, first, second, lesser_back u u' le)))
-      (by_lt_z u u' (λ lt. omega (arith, ints, clamps, first, second, mul_mono_right n u u' (omega (arith, ints)), greater_is u u' lt)) (λ le. omega (arith, ints, clamps, first, second, mul_mono_right n u' u le, greater_back u u' le)))
+      (by_lt_z u u' (λ lt. omega (arith, ints, clamps, first, second, mul_mono_right n u u' (omega (arith, ints)), greater_is u u' lt)) (λ le.
+      omega (arith, ints, clamps, first, second, mul_mono_right n u' u le, greater_back u u' le)))
       foot

@@ -47,7 +47,8 @@ module _ (s : ℕ) where
   flow_turned : (p : Flow) (q : ExactFlow) → FlowEncloses s p q → FlowEncloses s (turned p) (turned_flow q)
   flow_turned p q h = record { kind = h.kind; flow = negated_enclosed p.lo p.hi (s + 9) q.flow h.flow }
 
-  known_enclosed : (old : Bound) (ps : List Fixed) (xs ys : List ExactFixed) → AllZip (FixedEncloses s) ps xs → AllZip (IsApartBy old) xs ys → AllZip (FixedEncloses s) (map (known_branch old) ps) (known_differences xs ys)
+  known_enclosed : (old : Bound) (ps : List Fixed) (xs ys : List ExactFixed) → AllZip (FixedEncloses s) ps xs → AllZip (IsApartBy old) xs ys →
+      AllZip (FixedEncloses s) (map (known_branch old) ps) (known_differences xs ys)
   known_enclosed old [] [] ys h k = tt
   known_enclosed old [] (x ∷ xs) ys h k = absurd h
   known_enclosed old (p ∷ ps) [] ys h k = absurd h
@@ -69,14 +70,24 @@ module _ (s : ℕ) where
 
     step_cell : (p q : Entries) (added : List ExactFlow) (x y : ExactCell) → CellEncloses s p x → CellEncloses s q y → IsPlannedCell old added x y → (g : ExactCell) × IsStepCell p q added x y g
     step_cell p q added x y base other planned =
-        let (rs, rivers, rivers_in) = both_chosen (RiverEncloses s) (λ r. IsRampBranch x.id (share d (X -ℤ Y)) r.conductance (river_flow (share d X) r) (river_flow (share d Y) r)) (river_branch p.id v w) (FixedEncloses s)
-        (λ e r h. subst (λ (id : ℕ). (b : ExactFixed) × IsRampBranch id (share d (X -ℤ Y)) r.conductance (river_flow (share d X) r) (river_flow (share d Y) r) b × FixedEncloses s (river_branch p.id v w e) b)
+        let (rs, rivers, rivers_in) = both_chosen (RiverEncloses s) (λ r.
+        IsRampBranch x.id (share d (X -ℤ Y)) r.conductance (river_flow (share d X) r) (river_flow (share d Y) r)) (river_branch p.id v w)
+        (FixedEncloses s)
+        (λ e r h. subst (λ (id : ℕ). (b : ExactFixed) ×
+        IsRampBranch id (share d (X -ℤ Y)) r.conductance (river_flow (share d X) r) (river_flow (share d Y) r) b ×
+        FixedEncloses s (river_branch p.id v w e) b)
         base.id (rivers_are_enclosed s p.id d X Y v w e r some h first second)) p.rivers x.rivers base.rivers in
-        let (ds, drains, drains_in) = both_chosen (DrainEncloses s) (λ r. IsRampBranch x.id (share d (X -ℤ Y)) r.conductance (drain_flow (share d X) r) (drain_flow (share d Y) r)) (drain_branch p.id v w) (FixedEncloses s)
-        (λ e r h. subst (λ (id : ℕ). (b : ExactFixed) × IsRampBranch id (share d (X -ℤ Y)) r.conductance (drain_flow (share d X) r) (drain_flow (share d Y) r) b × FixedEncloses s (drain_branch p.id v w e) b)
+        let (ds, drains, drains_in) = both_chosen (DrainEncloses s) (λ r.
+        IsRampBranch x.id (share d (X -ℤ Y)) r.conductance (drain_flow (share d X) r) (drain_flow (share d Y) r)) (drain_branch p.id v w)
+        (FixedEncloses s)
+        (λ e r h. subst (λ (id : ℕ). (b : ExactFixed) ×
+        IsRampBranch id (share d (X -ℤ Y)) r.conductance (drain_flow (share d X) r) (drain_flow (share d Y) r) b ×
+        FixedEncloses s (drain_branch p.id v w e) b)
         base.id (drains_are_enclosed s p.id d X Y v w e r some h first second)) p.drains x.drains base.drains in
-        let (es, evaps, evaps_in) = both_chosen (EvapEncloses s) (λ r. IsRampBranch x.id (share d (X -ℤ Y)) r.conductance (evap_flow (share d X) r) (evap_flow (share d Y) r)) (evap_branch p.id v w) (FixedEncloses s)
-        (λ e r h. subst (λ (id : ℕ). (b : ExactFixed) × IsRampBranch id (share d (X -ℤ Y)) r.conductance (evap_flow (share d X) r) (evap_flow (share d Y) r) b × FixedEncloses s (evap_branch p.id v w e) b)
+        let (es, evaps, evaps_in) = both_chosen (EvapEncloses s) (λ r.
+        IsRampBranch x.id (share d (X -ℤ Y)) r.conductance (evap_flow (share d X) r) (evap_flow (share d Y) r)) (evap_branch p.id v w) (FixedEncloses s)
+        (λ e r h. subst (λ (id : ℕ). (b : ExactFixed) × IsRampBranch id (share d (X -ℤ Y)) r.conductance (evap_flow (share d X) r) (evap_flow (share d Y) r) b ×
+        FixedEncloses s (evap_branch p.id v w e) b)
         base.id (evaps_are_enclosed s p.id d X Y v w e r some h first second)) p.evaps x.evaps base.evaps in
         let known = known_enclosed old p.fixed x.fixed y.fixed base.fixed planned.apart in
         let flows : AllZip (FlowEncloses s) q.flows (x.flows ++ added) = subst (λ (qs : List ExactFlow). AllZip (FlowEncloses s) q.flows qs) planned.flows other.flows in (
@@ -97,7 +108,8 @@ module _ (s : ℕ) where
             },
             record {
               id = base.id;
-              flows = AllZip-map (FlowEncloses s) (FlowEncloses s) turned turned_flow flow_turned _ _ (zip_drop (FlowEncloses s) (length p.flows) q.flows x.flows added (AllZip-length (FlowEncloses s) p.flows x.flows base.flows) flows);
+              flows = AllZip-map (FlowEncloses s) (FlowEncloses s) turned turned_flow flow_turned _ _
+                  (zip_drop (FlowEncloses s) (length p.flows) q.flows x.flows added (AllZip-length (FlowEncloses s) p.flows x.flows base.flows) flows);
               links = base.links;
               fixed = related_after (FixedEncloses s) _ _ _ _ known
                   (related_after (FixedEncloses s) _ _ _ _ rivers_in (related_after (FixedEncloses s) _ _ _ _ drains_in evaps_in));
@@ -165,11 +177,13 @@ flows_apart xs added = Same-sym (apart xs added)
     itself : (f : Fraction) → Same (minus f f) (whole (pos 0))
     itself f =
         let (z, over) = fraction_over (den f) 1 f (1, omega arith) in
-        same_over (den f * 1) (minus f f) (whole (pos 0)) (z -ℤ z) (pos 0) (mul-pos (omega arith) (omega arith)) (IsOver-minus (den f * 1) f f z z over over) (IsOver-none (den f * 1)) (omega (arith, ints))
+        same_over (den f * 1) (minus f f) (whole (pos 0)) (z -ℤ z) (pos 0) (mul-pos (omega arith) (omega arith)) (IsOver-minus (den f * 1) f f z z over over)
+        (IsOver-none (den f * 1)) (omega (arith, ints))
 
     apart : (xs added : List ExactFlow) → Same (minus (fraction_total (λ q. q.flow) xs) (fraction_total (λ q. q.flow) (xs ++ added))) (fraction_total (λ q. q.flow) (are_turned added))
     apart [] added = none added
-    apart (x ∷ xs) added = Same-trans (difference_of_sums x.flow (fraction_total (λ q. q.flow) xs) x.flow (fraction_total (λ q. q.flow) (xs ++ added)) (whole (pos 0)) _ (itself x.flow) (apart xs added))
+    apart (x ∷ xs) added = Same-trans (difference_of_sums x.flow (fraction_total (λ q. q.flow) xs) x.flow (fraction_total (λ q. q.flow) (xs ++ added))
+        (whole (pos 0)) _ (itself x.flow) (apart xs added))
         (Same-sym (nothing_before (fraction_total (λ q. q.flow) (are_turned added))))
 
 pub solutions_bound_plans : SolutionsBoundPlans

@@ -112,7 +112,8 @@ module _ (base planned : List Entries) (xs ys olds : List Bound) (r : List Entri
     fits =
         let old = head_at_place olds heads (entries_at base c).id in
         subst CellFits (sym (h.cells c inside))
-        (cell_fits (bound_at xs c) (bound_at ys c) (bound_at olds (entries_at base c).id) (entries_at base c) (entries_at planned c) old.0 old.1 (first.cells c inside) (second.cells c (omega (arith, inside, many))))
+        (cell_fits (bound_at xs c) (bound_at ys c) (bound_at olds (entries_at base c).id) (entries_at base c) (entries_at planned c) old.0 old.1
+        (first.cells c inside) (second.cells c (omega (arith, inside, many))))
 
     links_fit : LinksFit r c (entries_at r c).links
     links_fit =
@@ -153,6 +154,7 @@ pushed base planned xs ys olds cells x c count each is = (
         let here : k ≡ c = omega (arith, lt, past) in
         let none : c - c ≡ 0 = omega arith in
         let last : get_or (cells ++ x ∷ []) c no_entries ≡ x = get_or-append_right cells (x ∷ []) c c no_entries count (omega arith) ∙ ap (λ (i : ℕ). get_or (x ∷ []) i no_entries) none in
-        subst (λ (i : ℕ). entries_at (cells ++ x ∷ []) i ≡ difference_cell (bound_at xs i) (bound_at ys i) (bound_at olds (entries_at base i).id) (entries_at base i) (entries_at planned i)) (sym here) (last ∙ is)
+        subst (λ (i : ℕ). entries_at (cells ++ x ∷ []) i ≡ difference_cell (bound_at xs i) (bound_at ys i) (bound_at olds (entries_at base i).id)
+        (entries_at base i) (entries_at planned i)) (sym here) (last ∙ is)
   ],
 )

@@ -31,7 +31,8 @@ appended_next s old between new xs i d lt f g = subst (AreAppended s old new) (s
 
 -- an entry of cell k, whose bounds x become y
 module _ (s : ℕ) (old : List LocalBounds) (k : ℕ) (x y : LocalBounds) (e : Entry) (lt : k < length old) (cell : k ≡ cell_of e) (read : x ≡ local_in old k) where
-  here : ((es : List Entry) → AreLocalBounds s k x es → AreLocalBounds s k y (es ++ e ∷ [])) → (es : List Entry) → AreLocalBounds s k (local_in old k) es → AreLocalBounds s k (local_in (set old k y) k) (es ++ entries_of k (e ∷ []))
+  here : ((es : List Entry) → AreLocalBounds s k x es → AreLocalBounds s k y (es ++ e ∷ [])) → (es : List Entry) → AreLocalBounds s k (local_in old k) es →
+      AreLocalBounds s k (local_in (set old k y) k) (es ++ entries_of k (e ∷ []))
   here next es h =
       subst (λ z. AreLocalBounds s k z (es ++ entries_of k (e ∷ []))) (sym (get_or-set_same old k y no_bounds lt))
       (subst (λ zs. AreLocalBounds s k y (es ++ zs)) (one_entry k e true (eq-eqb (cell_of e) k (sym cell))) (next es (subst (λ z. AreLocalBounds s k z es) (sym read) h)))

@@ -44,7 +44,8 @@ given_valid n xs c x h e = In-All (IsGivenValid n) xs x h (turned-In xs x (find-
 
 flat_valid : (m : FlowModel) (ps : List Period) → ((p : Period) → In ps p → IsPeriod m p) → All (IsGivenValid (cell_count m.grid)) (flat_map (λ p. p.stresses.given) ps)
 flat_valid m [] h = All-nil (IsGivenValid (cell_count m.grid))
-flat_valid m (p ∷ ps) h = All-append (IsGivenValid (cell_count m.grid)) p.stresses.given (flat_map (λ q. q.stresses.given) ps) (h p (inl refl)).stresses.given.entries (flat_valid m ps (λ q i. h q (inr i)))
+flat_valid m (p ∷ ps) h = All-append (IsGivenValid (cell_count m.grid)) p.stresses.given (flat_map (λ q. q.stresses.given) ps)
+    (h p (inl refl)).stresses.given.entries (flat_valid m ps (λ q i. h q (inr i)))
 
 taken-In : {X : Type 0} (k : ℕ) (xs : List X) (x : X) → In (take k xs) x → In xs x
 taken-In zero xs x i = absurd i
@@ -54,7 +55,8 @@ taken-In (suc k) (y ∷ ys) x (inr i) = inr (taken-In k ys x i)
 
 pub last_valid : (m : FlowModel) (k c : ℕ) (x : Given) → IsModel m → last_given (take k m.periods) c ≡ Some x → IsGivenValid (cell_count m.grid) x
 last_valid m k c x valid e =
-    given_valid (cell_count m.grid) (flat_map (λ p. p.stresses.given) (take k m.periods)) c x (flat_valid m (take k m.periods) (λ p i. In-All (IsPeriod m) m.periods p valid.periods (taken-In k m.periods p i))) e
+    given_valid (cell_count m.grid) (flat_map (λ p. p.stresses.given) (take k m.periods)) c x
+    (flat_valid m (take k m.periods) (λ p i. In-All (IsPeriod m) m.periods p valid.periods (taken-In k m.periods p i))) e
 
 pub last_head : (m : FlowModel) (k c : ℕ) (o : Option Given) → IsModel m → o ≡ last_given (take k m.periods) c → IfSome o (λ x. IsHeadNumber x.ehead)
 last_head m k c None valid e = tt
@@ -112,12 +114,15 @@ past_magnitude (negsuc n) (pos k) lt = omega (arith, lt)
 past_magnitude (negsuc n) (negsuc k) lt = omega (arith, lt)
 
 module _ (m : FlowModel) (s : ℕ) (c : ℕ) where
-  pub recharges : (rate : Dec) → magnitude (recharge_pair m s c rate).lo (recharge_pair m s c rate).hi < 2 ^ 109 → EnclosesSigned (recharge_pair m s c rate).lo (recharge_pair m s c rate).hi (s + 9) (recharge_flow m c rate)
+  pub recharges : (rate : Dec) → magnitude (recharge_pair m s c rate).lo (recharge_pair m s c rate).hi < 2 ^ 109 →
+      EnclosesSigned (recharge_pair m s c rate).lo (recharge_pair m s c rate).hi (s + 9) (recharge_flow m c rate)
   recharges rate small =
       let x = recharge_pair m s c rate in
-      subst (λ (p : FlowPair). EnclosesSigned p.lo p.hi (s + 9) (recharge_flow m c rate)) (sym (real_flow (recharge_term m rate c) rate.neg (s + 9) (past_magnitude x.lo x.hi small))) (recharges_enclose m rate c (s + 9))
+      subst (λ (p : FlowPair). EnclosesSigned p.lo p.hi (s + 9) (recharge_flow m c rate))
+      (sym (real_flow (recharge_term m rate c) rate.neg (s + 9) (past_magnitude x.lo x.hi small))) (recharges_enclose m rate c (s + 9))
 
-  pub evaps : (x : EvapSource) → IsPositive x.depth → (whole_evap m s c x).hi < 2 ^ 60 → EvapEncloses s (whole_evap m s c x) (record { conductance = evap_conductance m c x; surface = number x.surface; extinction = extinction x })
+  pub evaps : (x : EvapSource) → IsPositive x.depth → (whole_evap m s c x).hi < 2 ^ 60 →
+      EvapEncloses s (whole_evap m s c x) (record { conductance = evap_conductance m c x; surface = number x.surface; extinction = extinction x })
   evaps x depth small =
       let S = number x.surface in
       let D = number x.depth in
@@ -128,7 +133,21 @@ module _ (m : FlowModel) (s : ℕ) (c : ℕ) where
         conductance = capped_encloses (evap_term m x.rate x.depth c) s (evap_conductance m c x) (evaps_enclose m x c s depth) small;
         surface = head_encloses x.surface;
         extinction = record {
-          lower = omega (arith, ints, below_gap _ _ S.num D.num (denominator S) (denominator D) (10 ^ 9) (head_floor x.surface).at_most (head_ceiling x.depth).at_least, ap (λ (z : ℕ). (surface.low -ℤ bed.high) *ℤ pos z) den, ap (λ (z : ℤ). z *ℤ pos (10 ^ 9)) (minus_is S.num D.num (pos (denominator D)) (pos (denominator S))));
-          upper = omega (arith, ints, above_gap _ _ S.num D.num (denominator S) (denominator D) (10 ^ 9) (head_ceiling x.surface).at_least (head_floor x.depth).at_most, ap (λ (z : ℕ). (surface.high -ℤ bed.low) *ℤ pos z) den, ap (λ (z : ℤ). z *ℤ pos (10 ^ 9)) (minus_is S.num D.num (pos (denominator D)) (pos (denominator S))));
+          lower = omega (
+            arith,
+            ints,
+            below_gap _ _ S.num D.num (denominator S) (denominator D) (10 ^ 9) (head_floor x.surface).at_most
+                (head_ceiling x.depth).at_least,
+            ap (λ (z : ℕ). (surface.low -ℤ bed.high) *ℤ pos z) den,
+            ap (λ (z : ℤ). z *ℤ pos (10 ^ 9)) (minus_is S.num D.num (pos (denominator D)) (pos (denominator S))),
+          );
+          upper = omega (
+            arith,
+            ints,
+            above_gap _ _ S.num D.num (denominator S) (denominator D) (10 ^ 9) (head_ceiling x.surface).at_least
+                (head_floor x.depth).at_most,
+            ap (λ (z : ℕ). (surface.high -ℤ bed.low) *ℤ pos z) den,
+            ap (λ (z : ℤ). z *ℤ pos (10 ^ 9)) (minus_is S.num D.num (pos (denominator D)) (pos (denominator S))),
+          );
         };
       }

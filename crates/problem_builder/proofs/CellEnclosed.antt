@@ -26,7 +26,8 @@ well_encloses s d lt =
     let x = well_pair s d in
     subst (λ (p : FlowPair). EnclosesSigned p.lo p.hi (s + 9) (number d)) (sym (real_flow (Number (size d)) d.neg (s + 9) (past_magnitude x.lo x.hi lt))) (number_encloses d (s + 9))
 
-module _ (m : FlowModel) (s : ℕ) (at : TimeStep) (old : List Bound) (before : ℕ → Fraction) (valid : IsModel m) (time : IsTimeOf m at) (olds : HeadsEnclose m old before) (c : ℕ) (lt : c < cell_count m.grid) (v : is_variable m at.period c ≡ true)
+module _ (m : FlowModel) (s : ℕ) (at : TimeStep) (old : List Bound) (before : ℕ → Fraction) (valid : IsModel m) (time : IsTimeOf m at)
+    (olds : HeadsEnclose m old before) (c : ℕ) (lt : c < cell_count m.grid) (v : is_variable m at.period c ≡ true)
     (sound : IsSound (whole_cell m s at old c)) where
   abbrev e : Entries
   e = whole_cell m s at old c
@@ -34,7 +35,8 @@ module _ (m : FlowModel) (s : ℕ) (at : TimeStep) (old : List Bound) (before : 
   here : is_active m c ≡ true
   here = variable_active m at.period c v
 
-  face_encloses : (f : Face) → IsFaceOf m.grid c f → is_active m f.end ≡ true → (face_pair m s f.axis f.first).hi < 2 ^ 60 → Encloses (face_pair m s f.axis f.first).lo (face_pair m s f.axis f.first).hi s (conductance m f.axis f.first)
+  face_encloses : (f : Face) → IsFaceOf m.grid c f → is_active m f.end ≡ true → (face_pair m s f.axis f.first).hi < 2 ^ 60 →
+      Encloses (face_pair m s f.axis f.first).lo (face_pair m s f.axis f.first).hi s (conductance m f.axis f.first)
   face_encloses f g b small =
       let (x, y) = face_active m c f g here b in
       capped_encloses (face_term m f.axis f.first) s (conductance m f.axis f.first) (faces_enclose m valid f.axis f.first s (face_range m.grid c f valid.grid.size lt g) x y) small
@@ -49,7 +51,8 @@ module _ (m : FlowModel) (s : ℕ) (at : TimeStep) (old : List Bound) (before : 
   one_flow (Pumped q) i = record { kind = refl; flow = well_encloses s q (flow_small _ i) }
   one_flow (Received rate) i = record { kind = refl; flow = recharges m s c rate (flow_small _ i) }
 
-  one_fixed : (y : FixedSource) → In (fixed_sources m at.period c) y → In e.fixed (whole_fixed m s at old c y) → FixedEncloses s (whole_fixed m s at old c y) (exact_fixed m at.period at.step before c y)
+  one_fixed : (y : FixedSource) → In (fixed_sources m at.period c) y → In e.fixed (whole_fixed m s at old c y) →
+      FixedEncloses s (whole_fixed m s at old c y) (exact_fixed m at.period at.step before c y)
   one_fixed (ToConstant f) j i =
       let (g, b) = passing_are m.grid (is_constant m at.period) c f (fixed_source m at.period c (ToConstant f) j) in
       record { kind = refl; source = refl; conductance = face_encloses f g (constant_active m at.period f.end b) (fixed_small _ i); head = heads m at valid time f.end }
@@ -65,27 +68,64 @@ module _ (m : FlowModel) (s : ℕ) (at : TimeStep) (old : List Bound) (before : 
   pub cell_encloses : CellEncloses s e (exact_cell m at.period at.step before c)
   cell_encloses = record {
     id = refl;
-    flows = zip_images (FlowEncloses s) (whole_flow m s c) (exact_flow m at.period at.step before c) (flow_sources m at.period c) (λ y j. one_flow y (In-map (whole_flow m s c) (flow_sources m at.period c) y j));
+    flows = zip_images (FlowEncloses s) (whole_flow m s c) (exact_flow m at.period at.step before c) (flow_sources m at.period c) (λ y j.
+        one_flow y (In-map (whole_flow m s c) (flow_sources m at.period c) y j));
     links = zip_images (LinkEncloses s) (whole_link m s at old) (exact_link m at.period at.step before) (variable_faces m at.period c)
         (λ f j. let (g, b) = passing_are m.grid (is_variable m at.period) c f j in
-        record { cell = refl; conductance = face_encloses f g (variable_active m at.period f.end b) (omega (arith, sum_part (λ (y : Link). y.hi) e.links (whole_link m s at old f) (In-map (whole_link m s at old) (variable_faces m at.period c) f j), sound.conductances)) });
-    fixed = zip_images (FixedEncloses s) (whole_fixed m s at old c) (exact_fixed m at.period at.step before c) (fixed_sources m at.period c) (λ y j. one_fixed y j (In-map (whole_fixed m s at old c) (fixed_sources m at.period c) y j));
+        record {
+          cell = refl;
+          conductance =
+              face_encloses f g (variable_active m at.period f.end b)
+              (omega (
+                arith,
+                sum_part (λ (y : Link). y.hi) e.links (whole_link m s at old f) (In-map (whole_link m s at old) (variable_faces m at.period c) f j),
+                sound.conductances,
+              ));
+        });
+    fixed = zip_images (FixedEncloses s) (whole_fixed m s at old c) (exact_fixed m at.period at.step before c) (fixed_sources m at.period c) (λ y j.
+        one_fixed y j (In-map (whole_fixed m s at old c) (fixed_sources m at.period c) y j));
     rivers = zip_images (RiverEncloses s) (whole_river s) exact_river (river_sources m at.period c)
-        (λ y j. record { conductance = cond_encloses s y.cond (omega (arith, sum_part (λ (x : River). x.hi) e.rivers (whole_river s y) (In-map (whole_river s) (river_sources m at.period c) y j), sound.conductances)); stage = head_encloses y.stage; bottom = head_encloses y.bottom });
+        (λ y j. record {
+          conductance = cond_encloses s y.cond
+              (omega (
+                arith,
+                sum_part (λ (x : River). x.hi) e.rivers (whole_river s y) (In-map (whole_river s) (river_sources m at.period c) y j),
+                sound.conductances,
+              ));
+          stage = head_encloses y.stage;
+          bottom = head_encloses y.bottom;
+        });
     drains = zip_images (DrainEncloses s) (whole_drain s) exact_drain (drain_sources m at.period c)
-        (λ y j. record { conductance = cond_encloses s y.cond (omega (arith, sum_part (λ (x : Drain). x.hi) e.drains (whole_drain s y) (In-map (whole_drain s) (drain_sources m at.period c) y j), sound.conductances)); elevation = head_encloses y.elevation });
+        (λ y j. record {
+          conductance = cond_encloses s y.cond
+              (omega (
+                arith,
+                sum_part (λ (x : Drain). x.hi) e.drains (whole_drain s y) (In-map (whole_drain s) (drain_sources m at.period c) y j),
+                sound.conductances,
+              ));
+          elevation = head_encloses y.elevation;
+        });
     evaps = zip_images (EvapEncloses s) (whole_evap m s c) (exact_evap m at.period at.step before c) (evap_sources m at.period c)
-        (λ y j. evaps m s c y (In-All IsEvapValid (evap_sources m at.period c) y (valid.evaps at.period c lt here) j).depth (omega (arith, sum_part (λ (x : Evap). x.hi) e.evaps (whole_evap m s c y) (In-map (whole_evap m s c) (evap_sources m at.period c) y j), sound.conductances)));
+        (λ y j. evaps m s c y (In-All IsEvapValid (evap_sources m at.period c) y (valid.evaps at.period c lt here) j).depth
+        (omega (
+          arith,
+          sum_part (λ (x : Evap). x.hi) e.evaps (whole_evap m s c y) (In-map (whole_evap m s c) (evap_sources m at.period c) y j),
+          sound.conductances,
+        )));
   }
 
 -- The cells of a step enclose the exact step; they are the variable cells, and name active cells.
 module _ (m : FlowModel) (s : ℕ) (at : TimeStep) (old : List Bound) where
-  pub step_encloses : (es : List Entries) (before : ℕ → Fraction) → IsModel m → IsTimeOf m at → HeadsEnclose m old before → AreCells m s at old (cell_count m.grid) es → EnclosesStep s es (exact_step m at.period at.step before)
+  pub step_encloses : (es : List Entries) (before : ℕ → Fraction) → IsModel m → IsTimeOf m at → HeadsEnclose m old before →
+      AreCells m s at old (cell_count m.grid) es → EnclosesStep s es (exact_step m at.period at.step before)
   step_encloses es before valid time olds are =
       let F = whole_cell m s at old in
       record {
-        cells = subst (λ (ys : List Entries). AllZip (CellEncloses s) ys (exact_step m at.period at.step before)) (sym are.each) (zip_images (CellEncloses s) F (exact_cell m at.period at.step before) (variable_cells m at.period)
-            (λ c j. let (v, lt) = variable-In m at.period (cell_count m.grid) c j in cell_encloses m s at old before valid time olds c lt v (sound (F c) (unrefused es are.sound (F c) (subst (λ (ys : List Entries). In ys (F c)) (sym are.each) (In-map F (variable_cells m at.period) c j))))));
+        cells = subst (λ (ys : List Entries). AllZip (CellEncloses s) ys (exact_step m at.period at.step before)) (sym are.each)
+            (zip_images (CellEncloses s) F (exact_cell m at.period at.step before) (variable_cells m at.period)
+            (λ c j. let (v, lt) = variable-In m at.period (cell_count m.grid) c j in cell_encloses m s at old before valid time olds c lt v
+            (sound (F c) (unrefused es are.sound (F c)
+            (subst (λ (ys : List Entries). In ys (F c)) (sym are.each) (In-map F (variable_cells m at.period) c j))))));
         ends = (are_linked m at.period at.step before valid.grid.size).ends;
       }
 

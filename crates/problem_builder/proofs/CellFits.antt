@@ -16,7 +16,8 @@ use Rattle.problem_builder.proofs.Sound.{sound, none_passes, positive_unless_zer
 use Rattle.problem_builder.proofs.ValidEntries.{local_valid}
 use Rattle.problem_builder.proofs.Zipped.{all_mapped}
 
-module _ (m : FlowModel) (s : ℕ) (at : TimeStep) (old : List Bound) (valid : IsModel m) (time : IsTimeOf m at) (grid : AreGridHeads m old) (c : ℕ) (lt : c < cell_count m.grid) (v : is_variable m at.period c ≡ true) where
+module _ (m : FlowModel) (s : ℕ) (at : TimeStep) (old : List Bound) (valid : IsModel m) (time : IsTimeOf m at) (grid : AreGridHeads m old) (c : ℕ)
+    (lt : c < cell_count m.grid) (v : is_variable m at.period c ≡ true) where
   entries_fit : All (IsEntryValid 4194304) (local_entries m at.period c)
   entries_fit = local_valid m at.period c valid time.valid
 
@@ -40,7 +41,8 @@ module _ (m : FlowModel) (s : ℕ) (at : TimeStep) (old : List Bound) (valid : I
       let r = head_range_of head (fixed_source m at.period c (ToGeneral head k) i entries_fit).0 in
       record { ordered = cond_ordered s k; head_lo = r.0; head_hi = r.1 }
   fixed_fits FromStorage i = record {
-    ordered = capped_ordered (storage_term m (period_at m at.period) at.step c) s ((formulas_hold m valid).storages (period_at m at.period) at.step c time.valid.times (fixed_source m at.period c FromStorage i) lt here);
+    ordered = capped_ordered (storage_term m (period_at m at.period) at.step c) s
+        ((formulas_hold m valid).storages (period_at m at.period) at.step c time.valid.times (fixed_source m at.period c FromStorage i) lt here);
     head_lo = old_range.0;
     head_hi = old_range.1;
   }
@@ -54,7 +56,12 @@ module _ (m : FlowModel) (s : ℕ) (at : TimeStep) (old : List Bound) (valid : I
         links = all_mapped LinkFits (whole_link m s at old) (variable_faces m at.period c) (λ f j.
             let (g, b) = passing_are m.grid (is_variable m at.period) c f j in
             let x = whole_link m s at old f in
-            record { conducts = positive_unless_zero x.lo (none_passes (λ (y : Link). y.lo == 0) links small x (In-map (whole_link m s at old) (variable_faces m at.period c) f j)); ordered = face_ordered f g (variable_active m at.period f.end b) });
+            record {
+              conducts = positive_unless_zero x.lo
+                  (none_passes (λ (y : Link). y.lo == 0) links small x (In-map (whole_link m s at old) (variable_faces m at.period c) f j));
+              ordered =
+                  face_ordered f g (variable_active m at.period f.end b);
+            });
         fixed = all_mapped FixedFits (whole_fixed m s at old c) (fixed_sources m at.period c) fixed_fits;
         rivers = rivers_fit m s at.period c valid time.valid;
         drains = drains_fit m s at.period c valid time.valid;
@@ -104,5 +111,6 @@ starts_fit m bounds valid h =
 -- the heads of active cells lie within them
 pub starts_enclose : (m : FlowModel) (bounds : List Bound) → AreStartHeads m bounds → HeadsEnclose m bounds (start_head m)
 starts_enclose m bounds h c active =
-    let is : get_or bounds c no_bound ≡ head_bound (dec_at m.strt c) = item_is (start_bound m) no_bound (cell_count m.grid) bounds h c active.within ∙ ap (λ b. cond b (head_bound (dec_at m.strt c)) no_bound) active.active in
+    let is : get_or bounds c no_bound ≡ head_bound (dec_at m.strt c) = item_is (start_bound m) no_bound (cell_count m.grid) bounds h c active.within ∙ ap (λ b.
+    cond b (head_bound (dec_at m.strt c)) no_bound) active.active in
     subst (λ (b : Bound). EnclosesSigned b.low b.high 9 (start_head m c)) (sym is) (head_encloses (dec_at m.strt c))

@@ -8,5 +8,6 @@ chosen_some m (pos zero) layers c e = absurd (false≢true e)
 chosen_some m (pos (suc n)) layers c e = ne_eqb (suc n) 0 (λ q. omega (arith, q))
 chosen_some m (negsuc n) layers c e = refl
 
-pub rate_valid : (m : FlowModel) (p c : ℕ) → IsPeriod m (period_at m p) → is_chosen m m.nrchop (period_at m p).stresses.irch c ≡ true → IsDec (dec_at (period_at m p).stresses.recharge (place_in_layer m.grid c))
+pub rate_valid : (m : FlowModel) (p c : ℕ) → IsPeriod m (period_at m p) → is_chosen m m.nrchop (period_at m p).stresses.irch c ≡ true →
+    IsDec (dec_at (period_at m p).stresses.recharge (place_in_layer m.grid c))
 rate_valid m p c valid e = dec_at_is (period_at m p).stresses.recharge (place_in_layer m.grid c) (valid.stresses.recharge (chosen_some m m.nrchop (period_at m p).stresses.irch c e)).decimals

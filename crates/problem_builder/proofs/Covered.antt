@@ -55,7 +55,8 @@ module _ (m : FlowModel) (c : ℕ) (size : HasSize m.grid) where
       (λ t. any_above m (layer t) (place t)) ∙ any_more m (layer_of m.grid d) (place_in_layer m.grid d) ∙ ap (λ z. any_above m (layer_of m.grid d) (place_in_layer m.grid d) || is_active m z) here
 
   highest_by : L ≤ c → (b : Bool) → is_active m (c - L) ≡ b → is_highest m c ≡ (not b && is_highest m (c - L))
-  highest_by le b e = let others = any_above m (layer_of m.grid (c - L)) (place_in_layer m.grid (c - L)) in ap not (above_more le) ∙ not_or others (is_active m (c - L)) ∙ ap (λ z. not z && not others) e
+  highest_by le b e = let others = any_above m (layer_of m.grid (c - L)) (place_in_layer m.grid (c - L)) in ap not (above_more le) ∙ not_or others
+      (is_active m (c - L)) ∙ ap (λ z. not z && not others) e
 
   pub under_active : L ≤ c → is_active m (c - L) ≡ true → is_highest m c ≡ false
   under_active le e = highest_by le true e

@@ -15,7 +15,8 @@ pub lowest_valid : (m : FlowModel) (c : ℕ) → IsModel m → IsDec (lowest m c
 lowest_valid m c valid = either (has_bed m c) (dec_at m.grid.bed_bottom c) (bottom_at m c) (dec_at_is m.grid.bed_bottom c valid.grid.bed_bottom.1) (bottom_valid m c valid)
 
 pub top_valid : (m : FlowModel) (c : ℕ) → IsModel m → IsDec (top_at m c)
-top_valid m c valid = either (nat_lt c (layer_size m.grid)) (dec_at m.grid.top c) (lowest m (c - layer_size m.grid)) (dec_at_is m.grid.top c valid.grid.top.1) (lowest_valid m (c - layer_size m.grid) valid)
+top_valid m c valid = either (nat_lt c (layer_size m.grid)) (dec_at m.grid.top c) (lowest m (c - layer_size m.grid)) (dec_at_is m.grid.top c valid.grid.top.1)
+    (lowest_valid m (c - layer_size m.grid) valid)
 
 pub no_bed_gap : (m : FlowModel) (c : ℕ) → has_bed m c ≡ false → (bed_thickness m c).num ≡ 0
 no_bed_gap m c e = no_gap (number (lowest m c)) (number (bottom_at m c)) (ap (λ b. number (cond b (dec_at m.grid.bed_bottom c) (dec_at m.grid.bottom c))) e)
@@ -23,8 +24,13 @@ no_bed_gap m c e = no_gap (number (lowest m c)) (number (bottom_at m c)) (ap (λ
 pub same_bed_gap : (m : FlowModel) (c : ℕ) → lowest m c ≡ bottom_at m c → (bed_thickness m c).num ≡ 0
 same_bed_gap m c e = no_gap (number (lowest m c)) (number (bottom_at m c)) (ap number e)
 
-pub bed_valid : (m : FlowModel) (c : ℕ) → IsModel m → c + layer_size m.grid < cell_count m.grid → is_active m c ≡ true → is_active m (c + layer_size m.grid) ≡ true → has_bed m c ≡ true → (lowest m c ≡ bottom_at m c → ⊥) → IsBedValid m c
+pub bed_valid : (m : FlowModel) (c : ℕ) → IsModel m → c + layer_size m.grid < cell_count m.grid → is_active m c ≡ true → is_active m (c + layer_size m.grid) ≡
+    true → has_bed m c ≡ true → (lowest m c ≡ bottom_at m c → ⊥) → IsBedValid m c
 bed_valid m c valid lt x y e differ = elim (valid.beds c lt x y e) [
-  | inl same ↦ absurd (differ (one_number (lowest m c) (bottom_at m c) (lowest_valid m c valid) (bottom_valid m c valid) (record { same = ap (λ (f : Fraction). f.num *ℤ pos (suc (number (bottom_at m c)).less)) same ∙ ap (λ (f : Fraction). (number (bottom_at m c)).num *ℤ pos (suc f.less)) (sym same) })))
+  | inl same ↦ absurd (differ (one_number (lowest m c) (bottom_at m c) (lowest_valid m c valid) (bottom_valid m c valid)
+      (record {
+        same = ap (λ (f : Fraction). f.num *ℤ pos (suc (number (bottom_at m c)).less)) same ∙ ap (λ (f : Fraction).
+            (number (bottom_at m c)).num *ℤ pos (suc f.less)) (sym same);
+      })))
   | inr k ↦ k
 ]

@@ -24,7 +24,8 @@ first_after g c f size (inl (e, q, r)) = ap (has_after g f.axis) q ∙ before_ba
 first_after g c f size (inr (e, q, r)) = ap (has_after g f.axis) q ∙ e
 
 -- and both are active
-pub face_active : (m : FlowModel) (c : ℕ) (f : Face) → IsFaceOf m.grid c f → is_active m c ≡ true → is_active m f.end ≡ true → (is_active m f.first ≡ true) × (is_active m (f.first + stride m.grid f.axis) ≡ true)
+pub face_active : (m : FlowModel) (c : ℕ) (f : Face) → IsFaceOf m.grid c f → is_active m c ≡ true → is_active m f.end ≡ true → (is_active m f.first ≡ true) ×
+    (is_active m (f.first + stride m.grid f.axis) ≡ true)
 face_active m c f (inl (e, q, r)) a b = grind (arith, before_le, mod-le)
 face_active m c f (inr (e, q, r)) a b = (ap (is_active m) q ∙ a, ap (is_active m) (ap (λ k. k + stride m.grid f.axis) q ∙ sym r) ∙ b)
 
@@ -37,7 +38,8 @@ faces_paired i c are v = All-In (HasPair i) (faces i.model.grid c) each
         let lead = faces_are i.model.grid c f j in (
           first_within i.model.grid c f v.within lead,
           end_within i.model.grid c f are.size v.within lead,
-          (λ b. let (x, y) = face_active i.model c f lead (variable_active i.model i.at.period c v.variable) b in face_in i.model i.tables.digits i.tables are.tables f.axis f.first (first_within i.model.grid c f v.within lead) (first_after i.model.grid c f are.size lead) x y),
+          (λ b. let (x, y) = face_active i.model c f lead (variable_active i.model i.at.period c v.variable) b in face_in i.model i.tables.digits i.tables
+              are.tables f.axis f.first (first_within i.model.grid c f v.within lead) (first_after i.model.grid c f are.size lead) x y),
         )
 
 -- of the same faces under another name

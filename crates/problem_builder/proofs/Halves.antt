@@ -11,7 +11,8 @@ tests m a t (inr k) = eq-eqb t.lo.m 0 k.low.0 ∙ sym (eq-eqb (bed_thickness m a
 
 -- a bed's decimals are zeros exactly where it has no thickness
 pub bed_tests : (m : FlowModel) (a : ℕ) (t : Span) → IsBedOf m a t ⊎ IsNoBed m a t →
-    vertical_of (layer_half m a) (layer_half m (a + layer_size m.grid)) (record { thick_lo = t.lo; thick_hi = t.hi; vkcb = vkcb_at m a }) (delr_at m a) (delc_at m a) (thickness m a) (thickness m (a + layer_size m.grid)) (bed_thickness m a) ≡ face_term m Vertical a
+    vertical_of (layer_half m a) (layer_half m (a + layer_size m.grid)) (record { thick_lo = t.lo; thick_hi = t.hi; vkcb = vkcb_at m a }) (delr_at m a)
+    (delc_at m a) (thickness m a) (thickness m (a + layer_size m.grid)) (bed_thickness m a) ≡ face_term m Vertical a
 bed_tests m a t (inl k) = grind (arith, tests)
 bed_tests m a t (inr k) = grind (arith, eq-eqb)
 

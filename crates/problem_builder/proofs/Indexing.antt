@@ -7,7 +7,8 @@ module _ (m : FlowModel) (p : ℕ) where
   first_index = index_is m p 0
 
   pub index_more : (c : ℕ) → is_variable m p c ≡ true → index_of m p (c + 1) ≡ index_of m p c + 1
-  index_more c v = index_is m p (c + 1) ∙ ap (rank (is_variable m p)) (let e : c + 1 ≡ suc c = omega arith in e) ∙ rank_passes (is_variable m p) c v ∙ ap suc (sym (index_is m p c)) ∙ (let e : suc (index_of m p c) ≡ index_of m p c + 1 = omega arith in e)
+  index_more c v = index_is m p (c + 1) ∙ ap (rank (is_variable m p)) (let e : c + 1 ≡ suc c = omega arith in e) ∙ rank_passes (is_variable m p) c v ∙ ap suc
+      (sym (index_is m p c)) ∙ (let e : suc (index_of m p c) ≡ index_of m p c + 1 = omega arith in e)
 
   pub index_same : (c : ℕ) → is_variable m p c ≡ false → index_of m p (c + 1) ≡ index_of m p c
   index_same c v = index_is m p (c + 1) ∙ ap (rank (is_variable m p)) (let e : c + 1 ≡ suc c = omega arith in e) ∙ rank_fails (is_variable m p) c v ∙ sym (index_is m p c)

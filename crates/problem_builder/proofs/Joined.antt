@@ -13,7 +13,8 @@ as_list None = refl
 as_list (Some y) = refl
 
 -- a list with what one more item of the other list gives
-pub push_given : {X Y : Type 0} (h : X → Option Y) (xs : List X) (x : X) (front new : List Y) (o : Option Y) → new ≡ front ++ option_to_list o → o ≡ h x → front ≡ filter_map h xs → new ≡ filter_map h (xs ++ x ∷ [])
+pub push_given : {X Y : Type 0} (h : X → Option Y) (xs : List X) (x : X) (front new : List Y) (o : Option Y) → new ≡ front ++ option_to_list o → o ≡ h x →
+    front ≡ filter_map h xs → new ≡ filter_map h (xs ++ x ∷ [])
 push_given h xs x front new o e gives so_far = e ∙ (λ t. so_far t ++ option_to_list (gives t)) ∙ ap (λ ys. filter_map h xs ++ ys) (as_list (h x)) ∙ sym (filter_map-append h xs (x ∷ []))
 
 -- the step of a loop that pushes what an item of the list gives
@@ -35,7 +36,8 @@ made_list f None = refl
 made_list f (Some x) = refl
 
 -- its end: all that is made of the items of a list
-pub made_all : {X Y Z : Type 0} (f : Y → Z) (g : X → Option Y) (xs ys : List X) (i : ℕ) (all : List Z) → length xs ≤ i → xs ≡ ys → all ≡ filter_map (λ x. option_map f (g x)) (take i xs) → all ≡ map f (filter_map g ys)
+pub made_all : {X Y Z : Type 0} (f : Y → Z) (g : X → Option Y) (xs ys : List X) (i : ℕ) (all : List Z) → length xs ≤ i → xs ≡ ys → all ≡
+    filter_map (λ x. option_map f (g x)) (take i xs) → all ≡ map f (filter_map g ys)
 made_all f g xs ys i all le e so_far = so_far ∙ ap (filter_map (λ x. option_map f (g x))) (take_all i xs le ∙ e) ∙ made_of f g (λ x. option_map f (g x)) (λ x. refl) ys
 
 -- what is made of a face that passes a test
@@ -65,7 +67,8 @@ module _ (m : FlowModel) (s : ℕ) (at : TimeStep) (old : List Bound) (c : ℕ) 
       let b : ks ≡ map F (map ToConstant faces) = k ∙ sym (map-map F ToConstant faces) in
       let d : gs ≡ map F (filter_map as_general entries) = g ∙ made_of F as_general (general_of s c) generals entries in
       e₄ ∙ ap (λ xs. xs ++ gs) e₃ ∙ (λ t. (a t ++ b t) ++ d t)
-      ∙ sym (map-append F (option_to_list storage ++ map ToConstant faces) (filter_map as_general entries) ∙ ap (λ xs. xs ++ map F (filter_map as_general entries)) (map-append F (option_to_list storage) (map ToConstant faces)))
+      ∙ sym (map-append F (option_to_list storage ++ map ToConstant faces) (filter_map as_general entries) ∙ ap (λ xs.
+      xs ++ map F (filter_map as_general entries)) (map-append F (option_to_list storage) (map ToConstant faces)))
 
   -- recharge, then wells
   pub flows_are : (o : Option Flow) (recharge : Option Dec) (ws : List Flow) (entries : List Entry) (first second : List Flow) →
@@ -73,12 +76,14 @@ module _ (m : FlowModel) (s : ℕ) (at : TimeStep) (old : List Bound) (c : ℕ) 
       second ≡ map (whole_flow m s c) (map Received (option_to_list recharge) ++ filter_map as_well entries)
   flows_are o recharge ws entries first second e received h f =
       let F = whole_flow m s c in
-      let a : first ≡ map F (map Received (option_to_list recharge)) = e ∙ ap option_to_list received ∙ made_list (λ rate. F (Received rate)) recharge ∙ sym (map-map F Received (option_to_list recharge)) in
+      let a : first ≡ map F (map Received (option_to_list recharge)) = e ∙ ap option_to_list received ∙ made_list (λ rate. F (Received rate)) recharge ∙ sym
+      (map-map F Received (option_to_list recharge)) in
       let b : ws ≡ map F (filter_map as_well entries) = h ∙ made_of F as_well (well_of s) wells entries in
       f ∙ (λ t. a t ++ b t) ∙ sym (map-append F (map Received (option_to_list recharge)) (filter_map as_well entries))
 
 -- the flow of the recharge that a cell receives
-pub received : (m : FlowModel) (s c : ℕ) (rate : Option Dec) (pair : Option FlowPair) → pair ≡ option_map (recharge_pair m s c) rate → option_map (flow_of_pair Recharge) pair ≡ option_map (λ r. whole_flow m s c (Received r)) rate
+pub received : (m : FlowModel) (s c : ℕ) (rate : Option Dec) (pair : Option FlowPair) → pair ≡ option_map (recharge_pair m s c) rate →
+    option_map (flow_of_pair Recharge) pair ≡ option_map (λ r. whole_flow m s c (Received r)) rate
 received m s c None pair e = ap (option_map (flow_of_pair Recharge)) e
 received m s c (Some r) pair e = ap (option_map (flow_of_pair Recharge)) e
 

@@ -33,7 +33,8 @@ variable-In m p n c i = grind (arith, filter-In, below_is, range-In)
 pub In-variable : (m : FlowModel) (p n c : ℕ) → is_variable m p c ≡ true → c < n → In (variable_below m p n) c
 In-variable m p n c v lt =
     let k = rank_below (is_variable m p) c n v lt in
-    subst (λ xs. In xs c) (sym (below_is m p n)) (subst (In (passing (is_variable m p) n)) (at_rank (is_variable m p) n c v lt) (In-get_or (passing (is_variable m p) n) (rank (is_variable m p) c) 0 k))
+    subst (λ xs. In xs c) (sym (below_is m p n))
+    (subst (In (passing (is_variable m p) n)) (at_rank (is_variable m p) n c v lt) (In-get_or (passing (is_variable m p) n) (rank (is_variable m p) c) 0 k))
 
 pub In-append : {X : Type 0} (xs ys : List X) (x : X) → In (xs ++ ys) x → In xs x ⊎ In ys x
 In-append [] ys x i = inr i
@@ -118,7 +119,8 @@ module _ (m : FlowModel) (s : ℕ) (at : TimeStep) (old : List Bound) (size : Ha
 
   storage_among : (c : ℕ) → (period_at m at.period).steady ≡ false → In (fixed_sources m at.period c) FromStorage
   storage_among c e =
-      let P : Bool → Type 0 = λ b. In (option_to_list (cond b None (Some FromStorage)) ++ map ToConstant (constant_faces m at.period c) ++ filter_map as_general (local_entries m at.period c)) FromStorage in
+      let P : Bool → Type 0 = λ b. In (option_to_list (cond b None (Some FromStorage)) ++ map ToConstant (constant_faces m at.period c) ++ filter_map as_general
+      (local_entries m at.period c)) FromStorage in
       subst P (sym e) (inl refl)
 
   cells_stored : (period_at m at.period).steady ≡ false → HasOldHeads es

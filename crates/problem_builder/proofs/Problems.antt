@@ -94,11 +94,13 @@ module _ (m : FlowModel) (s : ℕ) (at : TimeStep) (old : List Bound) (valid : I
         let (f, g, v, e) = from_face x j in
         let inside = end_within m.grid here f valid.grid.size (place i lt).within g in
         let named : number x.cell ≡ f.end = ap number (there x f e) ∙ number_of f.end v inside in
-        let far : (entries_at es x.cell).links ≡ map link (variable_faces m at.period f.end) = ap (λ (z : Entries). z.links) (cell_is x.cell (within_count x j)) ∙ ap (λ c. map link (variable_faces m at.period c)) named in
+        let far : (entries_at es x.cell).links ≡ map link (variable_faces m at.period f.end) =
+        ap (λ (z : Entries). z.links) (cell_is x.cell (within_count x j)) ∙ ap (λ c. map link (variable_faces m at.period c)) named in
         let member : In (variable_faces m at.period f.end) (turned here f) = passing_have m.grid test f.end (turned here f) (face_back m.grid here f valid.grid.size g) (place i lt).passes in
         let cell : index_of m at.period here ≡ i = index_is m at.period here ∙ (place i lt).index in
         let same : link (turned here f) ≡ record { cell = i; lo = x.lo; hi = x.hi } = λ t. record { cell = cell t; lo = (e t).lo; hi = (e t).hi } in
-        Contains-In (entries_at es x.cell).links _ (subst (λ (ys : List Link). In ys (record { cell = i; lo = x.lo; hi = x.hi })) (sym far) (subst (In (map link (variable_faces m at.period f.end))) same (In-map link (variable_faces m at.period f.end) (turned here f) member)))
+        Contains-In (entries_at es x.cell).links _ (subst (λ (ys : List Link). In ys (record { cell = i; lo = x.lo; hi = x.hi })) (sym far)
+        (subst (In (map link (variable_faces m at.period f.end))) same (In-map link (variable_faces m at.period f.end) (turned here f) member)))
 
     links_fit : LinksFit es i links
     links_fit = record {

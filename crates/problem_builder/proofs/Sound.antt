@@ -24,7 +24,9 @@ sound e h =
 -- a cell among cells without a refusal has none
 unfaulted : (e : Entries) (o : Option ℕ) → fault_of e ≡ o → (ns : List NoBound) → ns ≡ [] → ((n : NoBound) → refusal_of e ≡ Some n → In ns n) → fault_of e ≡ None
 unfaulted e None is ns none among = is
-unfaulted e (Some code) is ns none among = absurd (subst (λ xs. In xs (record { code = code; place = Cell e.id Low })) none (among _ (ap (option_map (λ k. record { code = k; place = Cell e.id Low })) is)))
+unfaulted e (Some code) is ns none among =
+    absurd (subst (λ xs. In xs (record { code = code; place = Cell e.id Low })) none
+    (among _ (ap (option_map (λ k. record { code = k; place = Cell e.id Low })) is)))
 
 pub unrefused : (es : List Entries) → filter_map refusal_of es ≡ [] → (e : Entries) → In es e → fault_of e ≡ None
 unrefused es none e i = unfaulted e (fault_of e) refl (filter_map refusal_of es) none (λ n is. In-filter_map refusal_of es e n i is)

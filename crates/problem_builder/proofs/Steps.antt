@@ -47,7 +47,8 @@ module _ (m : FlowModel) (s : ℕ) (at : TimeStep) (old : List Bound) where
   unfolding problem_of
   all_cells p are = (λ t. unless_refused ((ap (filter_map refusal_of) (sym are.each) ∙ are.sound) t) (whole_step m s at old)) ∙ ap Ok (sym are.each)
 
-  refused_first : (c : ℕ) (fault : NoBound) → test c ≡ true → refusal_of (cell c) ≡ Some fault → filter_map refusal_of (map cell (below c)) ≡ [] → (n : ℕ) → c < n → (ns : List NoBound) × (filter_map refusal_of (map cell (below n)) ≡ fault ∷ ns)
+  refused_first : (c : ℕ) (fault : NoBound) → test c ≡ true → refusal_of (cell c) ≡ Some fault → filter_map refusal_of (map cell (below c)) ≡ [] → (n : ℕ) →
+      c < n → (ns : List NoBound) × (filter_map refusal_of (map cell (below n)) ≡ fault ∷ ns)
   refused_first c fault v is none zero lt = absurd (omega (arith, lt))
   refused_first c fault v is none (suc n) lt =
       elim (cases_order c n) [
@@ -62,7 +63,8 @@ module _ (m : FlowModel) (s : ℕ) (at : TimeStep) (old : List Bound) where
       added : (k : ℕ) → test k ≡ true → filter_map refusal_of (map cell (below (suc k))) ≡ filter_map refusal_of (map cell (below k)) ++ cons_option (refusal_of (cell k)) []
       added k v = ap (filter_map refusal_of) (ap (map cell) (below_more k v) ∙ map-append cell (below k) (k ∷ [])) ∙ filter_map-append refusal_of (map cell (below k)) (cell k ∷ [])
 
-      further : (k : ℕ) (ns : List NoBound) → filter_map refusal_of (map cell (below k)) ≡ fault ∷ ns → (b : Bool) → test k ≡ b → (more : List NoBound) × (filter_map refusal_of (map cell (below (suc k))) ≡ fault ∷ more)
+      further : (k : ℕ) (ns : List NoBound) → filter_map refusal_of (map cell (below k)) ≡ fault ∷ ns → (b : Bool) → test k ≡ b → (more : List NoBound) ×
+          (filter_map refusal_of (map cell (below (suc k))) ≡ fault ∷ more)
       further k ns e true v = (ns ++ cons_option (refusal_of (cell k)) [], added k v ∙ ap (λ xs. xs ++ cons_option (refusal_of (cell k)) []) e)
       further k ns e false v = (ns, ap (λ xs. filter_map refusal_of (map cell xs)) (below_same k v) ∙ e)
 

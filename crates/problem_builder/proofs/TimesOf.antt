@@ -42,6 +42,14 @@ models_are_buildable m valid =
     let first = valid.periods 0 no_period (omega (arith, valid.some)) in
     record {
       time = first_step (steps_of m) (λ n. record { period = 1; step = n }) (length m.periods) (period_at m 1).nstp valid.some first.times.nstp.0 refl;
-      old = record { whole = length-replicate n widest; range = All-replicate (λ b. IsHead b.low × IsHead b.high) n widest (record { above = omega (arith, ints); below = omega (arith, ints) }, record { above = omega (arith, ints); below = omega (arith, ints) }) };
-      heads = λ c active. subst (λ (b : Bound). EnclosesSigned b.low b.high 9 (start_head m c)) (sym (get_or-replicate n c widest no_bound active.within)) (within_widest (dec_at m.strt c) (valid.cells c active.within active.active).strt);
+      old = record {
+        whole = length-replicate n widest;
+        range =
+            All-replicate (λ b. IsHead b.low × IsHead b.high) n widest (
+              record { above = omega (arith, ints); below = omega (arith, ints) },
+              record { above = omega (arith, ints); below = omega (arith, ints) },
+            );
+      };
+      heads = λ c active. subst (λ (b : Bound). EnclosesSigned b.low b.high 9 (start_head m c)) (sym (get_or-replicate n c widest no_bound active.within))
+          (within_widest (dec_at m.strt c) (valid.cells c active.within active.active).strt);
     }

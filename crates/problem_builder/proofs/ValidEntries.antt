@@ -15,13 +15,15 @@ all_entries m p q =
     let P = IsEntryValid (cell_count m.grid) in
     let t = (period_at m p).stresses in
     let h = q.stresses in
-    All-append P t.wells (t.rivers ++ (t.drains ++ t.generals)) h.wells.entries (All-append P t.rivers (t.drains ++ t.generals) h.rivers.entries (All-append P t.drains t.generals h.drains.entries h.generals.entries))
+    All-append P t.wells (t.rivers ++ (t.drains ++ t.generals)) h.wells.entries
+    (All-append P t.rivers (t.drains ++ t.generals) h.rivers.entries (All-append P t.drains t.generals h.drains.entries h.generals.entries))
 
 pub local_valid : (m : FlowModel) (p c : ℕ) → IsModel m → IsPeriod m (period_at m p) → All (IsEntryValid 4194304) (local_entries m p c)
 unfolding entries_of
 local_valid m p c valid q =
     let n = cell_count m.grid in
-    All-filter (λ x. cell_of x == c) (IsEntryValid 4194304) (entries (period_at m p)) (All-weaker (IsEntryValid n) (IsEntryValid 4194304) (λ x h. wider n x valid.grid.size.cells h) (entries (period_at m p)) (all_entries m p q))
+    All-filter (λ x. cell_of x == c) (IsEntryValid 4194304) (entries (period_at m p))
+    (All-weaker (IsEntryValid n) (IsEntryValid 4194304) (λ x h. wider n x valid.grid.size.cells h) (entries (period_at m p)) (all_entries m p q))
 
 -- Stress periods by their numbers.
 pub period_valid : (m : FlowModel) (p : ℕ) → IsModel m → (1 ≤ p) × (p ≤ length m.periods) → IsPeriod m (period_at m p)

@@ -103,6 +103,7 @@ module _ (p q r : List Entries) (first : IsProblem p) (second : IsProblem q) (h 
   is_problem none = record {
     few = subst (λ (n : ℕ). n ≤ 4194304) (sym count) first.few;
     ascending = λ c d lt below. subst (λ (n : ℕ). n < (entries_at r d).id) (sym (ids_at c)) (subst (λ (n : ℕ). (entries_at p c).id < n) (sym (ids_at d)) (first.ascending c d lt (in_first d below)));
-    cells = λ c lt. cell_has c lt (λ (x : Entries). sum_refusal x ≡ None → CellFits x) (λ a b f g small. cell_fits a b f g (conductances_are_small (cell_hull a b) small) (flows_are_small (cell_hull a b) small)) (none_of_each r none c lt);
+    cells = λ c lt. cell_has c lt (λ (x : Entries). sum_refusal x ≡ None → CellFits x) (λ a b f g small.
+        cell_fits a b f g (conductances_are_small (cell_hull a b) small) (flows_are_small (cell_hull a b) small)) (none_of_each r none c lt);
     links = λ c lt. links_fit c lt;
   }

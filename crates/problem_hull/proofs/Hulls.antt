@@ -25,7 +25,8 @@ zip_at f (x ∷ xs) [] i d e same = absurd (omega (arith, same))
 zip_at f (x ∷ xs) (y ∷ ys) zero d e same = refl
 zip_at f (x ∷ xs) (y ∷ ys) (suc i) d e same = zip_at f xs ys i d e (omega (arith, same))
 
-pub zip_all : {X Y Z : Type 0} (f : X → Y → Z) (P : X → Type 0) (Q : Y → Type 0) (S : Z → Type 0) → ((x : X) (y : Y) → P x → Q y → S (f x y)) → (xs : List X) (ys : List Y) → All P xs → All Q ys → All S (zip_with f xs ys)
+pub zip_all : {X Y Z : Type 0} (f : X → Y → Z) (P : X → Type 0) (Q : Y → Type 0) (S : Z → Type 0) → ((x : X) (y : Y) → P x → Q y → S (f x y)) →
+    (xs : List X) (ys : List Y) → All P xs → All Q ys → All S (zip_with f xs ys)
 zip_all f P Q S each [] ys a b = All-nil S
 zip_all f P Q S each (x ∷ xs) [] a b = All-nil S
 zip_all f P Q S each (x ∷ xs) (y ∷ ys) a b =
@@ -43,7 +44,8 @@ zip_push f (u ∷ xs) (v ∷ ys) x y e = ap (λ zs. f u v ∷ zs) (zip_push f xs
 
 -- Lists of one shape, made item by item.
 module _ {X : Type 0} (shape : X → X) (hull : X → X → X) where
-  pushed : (xs ys zs : List X) (x y z : X) → IsHullOf (map shape) (zip_with hull) xs ys zs → IsHullOf shape hull x y z → IsHullOf (map shape) (zip_with hull) (xs ++ x ∷ []) (ys ++ y ∷ []) (zs ++ z ∷ [])
+  pushed : (xs ys zs : List X) (x y z : X) → IsHullOf (map shape) (zip_with hull) xs ys zs → IsHullOf shape hull x y z →
+      IsHullOf (map shape) (zip_with hull) (xs ++ x ∷ []) (ys ++ y ∷ []) (zs ++ z ∷ [])
   pushed xs ys zs x y z h k = record {
     alike = rw (map-append shape ys (y ∷ []), map-append shape xs (x ∷ [])) (λ i. h.alike i ++ k.alike i ∷ []);
     is = (λ i. h.is i ++ k.is i ∷ []) ∙ sym (zip_push hull xs ys x y (same_lengths shape xs ys h.alike));
@@ -58,7 +60,8 @@ module _ {X : Type 0} (shape : X → X) (hull : X → X → X) where
       rw (first, second) (pushed (take i xs) (take i ys) zs x y z h k)
 
 -- The hull of two cells, from those of their lists.
-pub cell_hulled : (a b r : Entries) → b.id ≡ a.id → r.id ≡ a.id → IsHullOf (map flow_shape) (zip_with flow_hull) a.flows b.flows r.flows → IsHullOf (map link_shape) (zip_with link_hull) a.links b.links r.links →
+pub cell_hulled : (a b r : Entries) → b.id ≡ a.id → r.id ≡ a.id → IsHullOf (map flow_shape) (zip_with flow_hull) a.flows b.flows r.flows →
+    IsHullOf (map link_shape) (zip_with link_hull) a.links b.links r.links →
     IsHullOf (map fixed_shape) (zip_with fixed_hull) a.fixed b.fixed r.fixed → IsHullOf (map river_shape) (zip_with river_hull) a.rivers b.rivers r.rivers →
     IsHullOf (map drain_shape) (zip_with drain_hull) a.drains b.drains r.drains → IsHullOf (map evap_shape) (zip_with evap_hull) a.evaps b.evaps r.evaps → IsHullOf cell_shape cell_hull a b r
 cell_hulled a b r same id flows links fixed rivers drains evaps = grind (arith, map-id, zip_left)

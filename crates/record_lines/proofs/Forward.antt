@@ -69,7 +69,8 @@ module _ (may : List ℕ → Type 0) where
   numbered_held n [] h = All-nil (LineMay may)
   numbered_held n (l ∷ ls) h = cases (has_word l) (All-head (λ line. WordsMay may (words line)) l ls h) (numbered_held (next_number n) ls (All-tail (λ line. WordsMay may (words line)) l ls h))
     where
-      cases : (b : Bool) → WordsMay may (words l) → All (LineMay may) (lines_with_numbers (next_number n) ls) → All (LineMay may) (if b then record { number = n; bytes = l } ∷ lines_with_numbers (next_number n) ls else lines_with_numbers (next_number n) ls)
+      cases : (b : Bool) → WordsMay may (words l) → All (LineMay may) (lines_with_numbers (next_number n) ls) →
+          All (LineMay may) (if b then record { number = n; bytes = l } ∷ lines_with_numbers (next_number n) ls else lines_with_numbers (next_number n) ls)
       cases true one rest = All-cons (LineMay may) (record { number = n; bytes = l }) (lines_with_numbers (next_number n) ls) one rest
       cases false one rest = rest
 

@@ -39,12 +39,14 @@ unfolding repeated_reading
 goes_on read front count i s after x total lt h so_far = rw (← so_far, one_less count i lt, h) (sym (regroup front x (repeated_reading (count - (i + 1)) read after)))
 
 -- all are read
-pub is_done : {X S E : Type 0} (read : S → Result (X × S) E) (front : List X) (count i : ℕ) (s : S) (total : Result (List X × S) E) → count ≤ i → with_front front (repeated_reading (count - i) read s) ≡ total → total ≡ Ok (front, s)
+pub is_done : {X S E : Type 0} (read : S → Result (X × S) E) (front : List X) (count i : ℕ) (s : S) (total : Result (List X × S) E) → count ≤ i →
+    with_front front (repeated_reading (count - i) read s) ≡ total → total ≡ Ok (front, s)
 unfolding repeated_reading
 is_done read front count i s total le so_far = rw (← so_far, none_left count i le, append-nil front) refl
 
 -- reading stops in the middle
-pub ends_text : {X S : Type 0} (read : S → Result (X × S) Refusal) (fault : TextFault) (front : List X) (count i : ℕ) (s : S) (total : Result (List X × S) Refusal) → i < count → StopsText fault (read s)
+pub ends_text : {X S : Type 0} (read : S → Result (X × S) Refusal) (fault : TextFault) (front : List X) (count i : ℕ) (s : S)
+    (total : Result (List X × S) Refusal) → i < count → StopsText fault (read s)
     → with_front front (repeated_reading (count - i) read s) ≡ total → StopsText fault total
 unfolding repeated_reading
 ends_text read fault front count i s total lt h so_far = rw (← so_far, one_less count i lt) (ends_all fault _ _ (ends_all fault (read s) _ h))
@@ -60,31 +62,36 @@ unfolding appended_readings
 list_goes_on read front count i s after xs total lt h so_far = rw (← so_far, one_less count i lt, h) (sym (regroup_list front xs (appended_readings (count - (i + 1)) read after)))
 
 -- reading a list stops in the middle
-pub list_ends : {X S : Type 0} (read : S → Result (List X × S) Refusal) (fault : TextFault) (front : List X) (count i : ℕ) (s : S) (total : Result (List X × S) Refusal) → i < count → StopsText fault (read s)
+pub list_ends : {X S : Type 0} (read : S → Result (List X × S) Refusal) (fault : TextFault) (front : List X) (count i : ℕ) (s : S)
+    (total : Result (List X × S) Refusal) → i < count → StopsText fault (read s)
     → with_front front (appended_readings (count - i) read s) ≡ total → StopsText fault total
 unfolding appended_readings
 list_ends read fault front count i s total lt h so_far = rw (← so_far, one_less count i lt) (ends_all fault _ _ (ends_all fault (read s) _ h))
 
 -- all lists are read
-pub lists_done : {X S E : Type 0} (read : S → Result (List X × S) E) (front : List X) (count i : ℕ) (s : S) (total : Result (List X × S) E) → count ≤ i → with_front front (appended_readings (count - i) read s) ≡ total → total ≡ Ok (front, s)
+pub lists_done : {X S E : Type 0} (read : S → Result (List X × S) E) (front : List X) (count i : ℕ) (s : S) (total : Result (List X × S) E) → count ≤ i →
+    with_front front (appended_readings (count - i) read s) ≡ total → total ≡ Ok (front, s)
 unfolding appended_readings
 lists_done read front count i s total le so_far = rw (← so_far, none_left count i le, append-nil front) refl
 
 -- the same where a folder is given
-pub list_stops : {X S : Type 0} (read : S → Result (List X × S) Refusal) (fault : InputFault) (front : List X) (count i : ℕ) (s : S) (total : Result (List X × S) Refusal) → i < count → Stops fault (read s)
+pub list_stops : {X S : Type 0} (read : S → Result (List X × S) Refusal) (fault : InputFault) (front : List X) (count i : ℕ) (s : S)
+    (total : Result (List X × S) Refusal) → i < count → Stops fault (read s)
     → with_front front (appended_readings (count - i) read s) ≡ total → Stops fault total
 unfolding appended_readings
 list_stops read fault front count i s total lt h so_far = rw (← so_far, one_less count i lt) (stops_all fault _ _ (stops_all fault (read s) _ h))
 
 -- Loops that read something for each of a list.
 -- one more of the list is read
-pub each_goes_on : {A X S E : Type 0} (read : A → S → Result (X × S) E) (front : List X) (all others : List A) (a : A) (s after : S) (x : X) (total : Result (List X × S) E) → all ≡ a ∷ others → read a s ≡ Ok (x, after)
+pub each_goes_on : {A X S E : Type 0} (read : A → S → Result (X × S) E) (front : List X) (all others : List A) (a : A) (s after : S) (x : X)
+    (total : Result (List X × S) E) → all ≡ a ∷ others → read a s ≡ Ok (x, after)
     → with_front front (for_each read all s) ≡ total → with_front (front ++ x ∷ []) (for_each read others after) ≡ total
 unfolding for_each
 each_goes_on read front all others a s after x total e h so_far = rw (← so_far, e, h) (sym (regroup front x (for_each read others after)))
 
 -- the whole list is read
-pub each_done : {A X S E : Type 0} (read : A → S → Result (X × S) E) (front : List X) (all : List A) (s : S) (total : Result (List X × S) E) → all ≡ [] → with_front front (for_each read all s) ≡ total → total ≡ Ok (front, s)
+pub each_done : {A X S E : Type 0} (read : A → S → Result (X × S) E) (front : List X) (all : List A) (s : S) (total : Result (List X × S) E) → all ≡ [] →
+    with_front front (for_each read all s) ≡ total → total ≡ Ok (front, s)
 unfolding for_each
 each_done read front all s total e so_far = rw (← so_far, e, append-nil front) refl
 

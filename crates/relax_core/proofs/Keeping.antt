@@ -61,7 +61,8 @@ module _ (p : List Entries) (ok : IsProblem p) (side : Side) where
     whole = seen_length side v c _ ∙ f.whole;
     heads = each_side side (λ t. WereSeen t p (heads_on t ws) (heads_on t (with_head side v c (heads_on side ws c))))
         (sees (is_side side p ok) (heads_on side ws) (heads_on side v) _ c head (seen_here side v c _ long) (seen_else side v c _) (f.heads side))
-        (same_seen (is_side (other side) p ok) (heads_on (other side) ws) (heads_on (other side) ws) (heads_on (other side) v) _ (λ d i. refl) (λ d i. other_seen side v c _ long d) (f.heads (other side)));
+        (same_seen (is_side (other side) p ok) (heads_on (other side) ws) (heads_on (other side) ws) (heads_on (other side) v) _ (λ d i. refl) (λ d i.
+        other_seen side v c _ long d) (f.heads (other side)));
   }
 
   module _ (ws : List Bound) (c : ℕ) (r : ℤ) where
@@ -74,8 +75,10 @@ module _ (p : List Entries) (ok : IsProblem p) (side : Side) where
     still wide u f = record {
       whole = f.whole;
       heads = each_side side (λ t. WereSeen t p (heads_on t exchanged) (heads_on t u))
-          (still_seen (is_side side p ok) (heads_on side ws) (heads_on side exchanged) (heads_on side u) (tighter (is_side side p ok) (heads_on side ws) c r _ _ (tighter_exchange side ws c r wide)) (f.heads side))
-          (same_seen (is_side (other side) p ok) (heads_on (other side) ws) (heads_on (other side) exchanged) (heads_on (other side) u) (heads_on (other side) u) (λ d i. other_seen side ws c _ wide d) (λ d i. refl) (f.heads (other side)));
+          (still_seen (is_side side p ok) (heads_on side ws) (heads_on side exchanged) (heads_on side u)
+          (tighter (is_side side p ok) (heads_on side ws) c r _ _ (tighter_exchange side ws c r wide)) (f.heads side))
+          (same_seen (is_side (other side) p ok) (heads_on (other side) ws) (heads_on (other side) exchanged) (heads_on (other side) u)
+          (heads_on (other side) u) (λ d i. other_seen side ws c _ wide d) (λ d i. refl) (f.heads (other side)));
     }
 
     module _ (b : Edges) (v : List Bound) (h : c < length p) (k : AreOnTheWay p b ws) (f : WasSeen p ws v) (turn : IsRelaxedOn side p (heads_on side v) c r) where
@@ -84,8 +87,10 @@ module _ (p : List Entries) (ok : IsProblem p) (side : Side) where
 
       way : (t : Side) → OnTheWay t p (edge_on t b) (heads_on t exchanged)
       way = each_side side (λ t. OnTheWay t p (edge_on t b) (heads_on t exchanged))
-          (turn_keeps (is_side side p ok) (edge_on side b) (heads_on side ws) (heads_on side v) (heads_on side exchanged) c r _ h (way_on side p b ws k) (f.heads side) turn (tighter_exchange side ws c r wide))
-          (same_on_the_way (is_side (other side) p ok) (edge_on (other side) b) (heads_on (other side) ws) (heads_on (other side) exchanged) (λ d i. other_seen side ws c _ wide d) (way_on (other side) p b ws k))
+          (turn_keeps (is_side side p ok) (edge_on side b) (heads_on side ws) (heads_on side v) (heads_on side exchanged) c r _ h (way_on side p b ws k)
+          (f.heads side) turn (tighter_exchange side ws c r wide))
+          (same_on_the_way (is_side (other side) p ok) (edge_on (other side) b) (heads_on (other side) ws) (heads_on (other side) exchanged) (λ d i.
+          other_seen side ws c _ wide d) (way_on (other side) p b ws k))
 
       -- an exchange for the relaxed head from seen heads keeps the words on the way
       pub exchange_words : AreOnTheWay p b exchanged
@@ -98,7 +103,8 @@ module _ (p : List Entries) (ok : IsProblem p) (side : Side) where
           (look exchanged v c h ((way side).heads c h) (still wide v f))
 
 -- words of the state after, from facts of the words that it becomes
-becomes_kept : (p : List Entries) (b : Edges) (s t : Core) (ws : List Bound) (a : ℕ) (v : List Bound) → Becomes s t ws a v → IsKept p b s → AreOnTheWay p b ws → ((u : List Bound) → WasSeen p s.words u → WasSeen p ws u) → WasSeen p ws v → IsKept p b t
+becomes_kept : (p : List Entries) (b : Edges) (s t : Core) (ws : List Bound) (a : ℕ) (v : List Bound) → Becomes s t ws a v → IsKept p b s → AreOnTheWay p b ws →
+    ((u : List Bound) → WasSeen p s.words u → WasSeen p ws u) → WasSeen p ws v → IsKept p b t
 becomes_kept p b s t ws a v e k way still mine = record {
   words = subst (AreOnTheWay p b) (sym e.words) way;
   seen = subst (λ (l : List Bound). All (WasSeen p l) t.seen) (sym e.words)
@@ -120,7 +126,9 @@ module _ (p : List Entries) (ok : IsProblem p) where
 
   -- an event loosens no word
   relax_no_looser : (side : Side) (s t : Core) (c : ℕ) (r : ℤ) → c < length s.words → t.words ≡ with_head side s.words c (tighter_of side (heads_on side s.words c) r) → AreNoLooser p s.words t.words
-  relax_no_looser side s t c r wide e = subst (AreNoLooser p s.words) (sym e) (each_side side (λ u. (d : ℕ) → d < length p → IsAsTight u (heads_on u s.words d) (heads_on u (with_head side s.words c (tighter_of side (heads_on side s.words c) r)) d))
+  relax_no_looser side s t c r wide e = subst (AreNoLooser p s.words) (sym e)
+      (each_side side (λ u. (d : ℕ) → d < length p →
+      IsAsTight u (heads_on u s.words d) (heads_on u (with_head side s.words c (tighter_of side (heads_on side s.words c) r)) d))
       (tighter (is_side side p ok) (heads_on side s.words) c r _ _ (tighter_exchange side s.words c r wide))
       (λ d h. subst (IsAsTight (other side) (heads_on (other side) s.words d)) (sym (other_seen side s.words c _ wide d)) (refl_on (other side) _)))
 
@@ -144,7 +152,9 @@ module _ (p : List Entries) (ok : IsProblem p) where
 
     -- an event keeps what a state keeps
     pub step_keeps : (e : Event) (s t : Core) → IsNamed p s e → Step p e s t → IsKept p b s → IsKept p b t
-    step_keeps (See a c side) s t named step k = becomes_kept p b s t s.words a _ step k k.words (λ u f. f) (look p ok side s.words (seen_by s a) c named.1 ((way_on side p b s.words k.words).heads c named.1) (its_seen s a named.0 k))
+    step_keeps (See a c side) s t named step k =
+        becomes_kept p b s t s.words a _ step k k.words (λ u f. f)
+        (look p ok side s.words (seen_by s a) c named.1 ((way_on side p b s.words k.words).heads c named.1) (its_seen s a named.0 k))
     step_keeps (Raise a c) s t named step k = relax_keeps Low s t a c named.0 named.1 step k
     step_keeps (Sink a c) s t named step k = relax_keeps High s t a c named.0 named.1 step k
     step_keeps (Claim a) s t named step k = same_kept p b s t step.0 step.1 k

@@ -13,7 +13,8 @@ module _ (p : List Entries) where
 
       on : (t : Side) (d : ℕ) → d < length p → IsHead (heads_on t (with_head side bs c h) d)
       on = each_side side (λ t. (d : ℕ) → d < length p → IsHead (heads_on t (with_head side bs c h) d))
-          (λ d j. by_cell (λ k z. IsHead z) (heads_on side bs) (heads_on side (with_head side bs c h)) c h (seen_here side bs c h long) (seen_else side bs c h) head d (λ ne. heads_in_range side p bs w d j))
+          (λ d j. by_cell (λ k z. IsHead z) (heads_on side bs) (heads_on side (with_head side bs c h)) c h (seen_here side bs c h long)
+          (seen_else side bs c h) head d (λ ne. heads_in_range side p bs w d j))
           (λ d j. subst IsHead (sym (other_seen side bs c h long d)) (heads_in_range (other side) p bs w d j))
 
   becomes_in_range : (s t : Core) (ws : List Bound) (a : ℕ) (v : List Bound) → Becomes s t ws a v → IsInRange p s → AreWords p ws → AreWords p v → IsInRange p t
@@ -28,7 +29,8 @@ module _ (p : List Entries) where
   relax_in_range : IsProblem p → (side : Side) (s t : Core) (a c : ℕ) → a < length s.seen → c < length p → Relaxes p side s t a c → IsInRange p s → IsInRange p t
   relax_in_range ok side s t a c h i (r, turn, step) range =
       let v = seen_in_range s a h range in
-      let head = tighter_head side _ r (heads_in_range side p s.words range.words c i) (relaxed_head (is_side side p ok) (heads_on side (seen_by s a)) c r (heads_in_range side p (seen_by s a) v c i) turn) in
+      let head = tighter_head side _ r (heads_in_range side p s.words range.words c i)
+      (relaxed_head (is_side side p ok) (heads_on side (seen_by s a)) c r (heads_in_range side p (seen_by s a) v c i) turn) in
       becomes_in_range s t _ a _ step range (put_in_range side s.words c _ i range.words head) (put_in_range side (seen_by s a) c _ i v head)
 
   pub step_in_range : IsProblem p → (e : Event) (s t : Core) → IsNamed p s e → Step p e s t → IsInRange p s → IsInRange p t

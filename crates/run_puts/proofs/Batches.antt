@@ -24,13 +24,15 @@ agree_first first other later also (inr (inl e)) k = let P : Status → Type 0 =
 
 module _ {Job : Type 0} (IsJobEnd : Job → JobEnd → Type 0) where
   -- where two ends of one job agree, so do two ends of the batch
-  pub batches_agree : ((job : Job) (a b : JobEnd) → IsJobEnd job a → IsJobEnd job b → Agree a.status b.status) → (jobs : List Job) (ends others : List JobEnd) → AllZip IsJobEnd jobs ends → AllZip IsJobEnd jobs others → Agree (first_not_ok ends) (first_not_ok others)
+  pub batches_agree : ((job : Job) (a b : JobEnd) → IsJobEnd job a → IsJobEnd job b → Agree a.status b.status) → (jobs : List Job) (ends others : List JobEnd) →
+      AllZip IsJobEnd jobs ends → AllZip IsJobEnd jobs others → Agree (first_not_ok ends) (first_not_ok others)
   batches_agree agree [] [] [] h k = inr (inl refl)
   batches_agree agree [] (a ∷ ends) others h k = absurd h
   batches_agree agree [] [] (b ∷ others) h k = absurd k
   batches_agree agree (job ∷ jobs) [] others h k = absurd h
   batches_agree agree (job ∷ jobs) (a ∷ ends) [] h k = absurd k
-  batches_agree agree (job ∷ jobs) (a ∷ ends) (b ∷ others) (x, h) (y, k) = agree_first a.status b.status (first_not_ok ends) (first_not_ok others) (agree job a b x y) (batches_agree agree jobs ends others h k)
+  batches_agree agree (job ∷ jobs) (a ∷ ends) (b ∷ others) (x, h) (y, k) =
+      agree_first a.status b.status (first_not_ok ends) (first_not_ok others) (agree job a b x y) (batches_agree agree jobs ends others h k)
 
   -- where each job can only end Ok, so does the batch
   pub batch_settles : ((job : Job) (e : JobEnd) → IsJobEnd job e → e.status ≡ status.Ok) → (jobs : List Job) (ends : List JobEnd) → AllZip IsJobEnd jobs ends → first_not_ok ends ≡ status.Ok
@@ -40,11 +42,13 @@ module _ {Job : Type 0} (IsJobEnd : Job → JobEnd → Type 0) where
   batch_settles settles (job ∷ jobs) (e ∷ ends) (x, h) = ap (λ (s : Status). or_else s (first_not_ok ends)) (settles job e x) ∙ batch_settles settles jobs ends h
 
   -- a run that puts the ends of the jobs is a run of the batch
-  pub batch_run : (jobs : List Job) (ends : List JobEnd) (end : Status) (puts : List Put) → AllZip IsJobEnd jobs ends → IsRun (IsEnded ends) NeverCut end puts → IsRun (IsBatch IsJobEnd jobs) NeverCut end puts
+  pub batch_run : (jobs : List Job) (ends : List JobEnd) (end : Status) (puts : List Put) → AllZip IsJobEnd jobs ends → IsRun (IsEnded ends) NeverCut end puts →
+      IsRun (IsBatch IsJobEnd jobs) NeverCut end puts
   batch_run jobs ends end puts each h = weaker (IsEnded ends) (IsBatch IsJobEnd jobs) NeverCut (λ meant pieces due. record { ends = ends; each = each; ended = due }) end puts h
 
 -- as many ends as jobs, where entry i is an end of job i, are one end for each job
-pub ends_of_jobs : {A B : Type 0} (R : A → B → Type 0) (xs : List A) (ys : List B) → length ys ≡ length xs → ((i : ℕ) (y : B) → slice_get ys i ≡ Some y → IfSome (slice_get xs i) (λ x. R x y)) → AllZip R xs ys
+pub ends_of_jobs : {A B : Type 0} (R : A → B → Type 0) (xs : List A) (ys : List B) → length ys ≡ length xs →
+    ((i : ℕ) (y : B) → slice_get ys i ≡ Some y → IfSome (slice_get xs i) (λ x. R x y)) → AllZip R xs ys
 ends_of_jobs R [] [] same each = tt
 ends_of_jobs R [] (y ∷ ys) same each = absurd (omega arith)
 ends_of_jobs R (x ∷ xs) [] same each = absurd (omega arith)
@@ -59,10 +63,14 @@ module _ (ends : List JobEnd) where
   abbrev pub IsEndedRun : Status → List Put → Type 0
   IsEndedRun end puts = IsRun (IsEnded ends) NeverCut end puts
 
-  pub one_more : (i : ℕ) (piece : Text) (puts tail : List Put) → i < length (texts ends) → piece ≡ get_or (texts ends) i piece → ArePut ends i puts → tail ≡ whole_put piece ∷ [] → ArePut ends (i + 1) (puts ++ tail)
-  one_more i piece puts tail h read was is = rw (was, is) (sym (map-append whole_put (take i (texts ends)) (piece ∷ [])) ∙ ap (map whole_put) (ap (λ p. take i (texts ends) ++ (p ∷ [])) read ∙ sym (take_more (texts ends) i piece h)))
+  pub one_more : (i : ℕ) (piece : Text) (puts tail : List Put) → i < length (texts ends) → piece ≡ get_or (texts ends) i piece → ArePut ends i puts → tail ≡
+      whole_put piece ∷ [] → ArePut ends (i + 1) (puts ++ tail)
+  one_more i piece puts tail h read was is =
+      rw (was, is) (sym (map-append whole_put (take i (texts ends)) (piece ∷ [])) ∙ ap (map whole_put)
+      (ap (λ p. take i (texts ends) ++ (p ∷ [])) read ∙ sym (take_more (texts ends) i piece h)))
 
-  pub stops_at : (i : ℕ) (piece : Text) (puts tail : List Put) (end : Status) → i < length (texts ends) → piece ≡ get_or (texts ends) i piece → ArePut ends i puts → ((after : List Text) → IsTail (piece ∷ after) end tail) → IsEndedRun end (puts ++ tail)
+  pub stops_at : (i : ℕ) (piece : Text) (puts tail : List Put) (end : Status) → i < length (texts ends) → piece ≡ get_or (texts ends) i piece →
+      ArePut ends i puts → ((after : List Text) → IsTail (piece ∷ after) end tail) → IsEndedRun end (puts ++ tail)
   stops_at i piece puts tail end h read was stops =
       let ts : List Text = texts ends in
       let after : List Text = drop (suc i) ts ++ (end_line ∷ []) in
@@ -81,7 +89,8 @@ module _ (ends : List JobEnd) where
       rw was (early end (texts ends) (end_line ∷ []) last (all_due (first_not_ok ends) (texts ends) end_line [] due) stops)
 
 -- the text of a job, among the texts
-pub text_at : (ends : List JobEnd) (i : ℕ) (e : JobEnd) (piece : Text) → i < length ends → e ≡ get_or ends i e → piece ≡ e.text.items → (i < length (texts ends)) × (piece ≡ get_or (texts ends) i piece)
+pub text_at : (ends : List JobEnd) (i : ℕ) (e : JobEnd) (piece : Text) → i < length ends → e ≡ get_or ends i e → piece ≡ e.text.items →
+    (i < length (texts ends)) × (piece ≡ get_or (texts ends) i piece)
 text_at ends i e piece h read is =
     let many : length (texts ends) ≡ length ends = length-map ends (λ (x : JobEnd). x.text.items) in
     (omega arith, is ∙ (ap (λ (x : JobEnd). x.text.items) read ∙ sym (get_or-map (λ (x : JobEnd). x.text.items) ends i e piece h)))

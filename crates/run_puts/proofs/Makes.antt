@@ -20,7 +20,8 @@ taken_first (p ∷ pieces) old new tail (s, first, more) =
     record { mid = rest.mid; written = Appends-trans old.written s.written rest.mid.written p (concat pieces) first.writes rest.written; faults = rest.faults ∙ first.counts; then = rest.then }
 
 -- a run that failed to write: the count of its sink rose
-failed_last : (answer : Result (Unit {0}) SinkError) (piece : Text) (old new : Seen) → status_after answer ≡ status.WriteFault → PutMakes old (record { piece = piece; answer = answer }) new → Rose old.faults new.faults
+failed_last : (answer : Result (Unit {0}) SinkError) (piece : Text) (old new : Seen) → status_after answer ≡ status.WriteFault →
+    PutMakes old (record { piece = piece; answer = answer }) new → Rose old.faults new.faults
 failed_last (Ok done) piece old new e h = absurd (let bad : status.Memory ≡ status.WriteFault = e in cc)
 failed_last (Err error.Write) piece old new e h = h.counts
 failed_last (Err error.Memory) piece old new e h = absurd (let bad : status.Memory ≡ status.WriteFault = e in cc)
@@ -34,10 +35,12 @@ from_same n m new e h = let P : ℕ → Type 0 = λ k. Rose k new in subst P e h
 tail_rose : (after : List Text) (end : Status) (tail : List Put) (old new : Seen) → IsTail after end tail → end ≡ status.WriteFault → PutsMake old tail new → Rose old.faults new.faults
 tail_rose after end tail old new (failed piece more) e (mid, put, same) = along old mid new same put.counts
 tail_rose after end tail old new (wanting more answer) e (mid, put, same) = along old mid new same (failed_last answer _ old mid e put)
-tail_rose after end tail old new (sink_wanting piece more answer) e (first, one, (mid, put, same)) = from_same old.faults first.faults new.faults one.counts (along first mid new same (failed_last answer _ first mid e put))
+tail_rose after end tail old new (sink_wanting piece more answer) e (first, one, (mid, put, same)) =
+    from_same old.faults first.faults new.faults one.counts (along first mid new same (failed_last answer _ first mid e put))
 
 -- where some pieces were taken, and then a write failed, the count of the sink rose
-pub early_rose : (before after : List Text) (end : Status) (tail : List Put) (old new : Seen) → IsTail after end tail → end ≡ status.WriteFault → PutsMake old (map whole_put before ++ tail) new → Rose old.faults new.faults
+pub early_rose : (before after : List Text) (end : Status) (tail : List Put) (old new : Seen) → IsTail after end tail → end ≡ status.WriteFault →
+    PutsMake old (map whole_put before ++ tail) new → Rose old.faults new.faults
 early_rose before after end tail old new t e h =
     let first = taken_first before old new tail h in
     from_same old.faults first.mid.faults new.faults first.faults (tail_rose after end tail first.mid new t e first.then)

@@ -68,19 +68,22 @@ module _ (Due : Status → List Text → Type 0) (Cut : List Text → Type 0) wh
   }
 
   -- the piece was not taken
-  pub stops_at : (pieces : List Text) (pending : Text) (puts tail : List Put) (end : Status) → IsAt pieces pending puts → Cut pieces → ((after : List Text) → IsTail (pending ∷ after) end tail) → IsRun Due Cut end (puts ++ tail)
+  pub stops_at : (pieces : List Text) (pending : Text) (puts tail : List Put) (end : Status) → IsAt pieces pending puts → Cut pieces →
+      ((after : List Text) → IsTail (pending ∷ after) end tail) → IsRun Due Cut end (puts ++ tail)
   stops_at pieces pending puts tail end i c h =
       rw i.written (early end i.before (pending ∷ []) tail (cut i.before (pending ∷ []) (subst Cut i.all c)) (h []))
 
   -- the piece was taken, and then memory was wanting
-  pub lacks_after : (pieces : List Text) (pending : Text) (puts tail last : List Put) (end : Status) → IsAt pieces pending puts → Cut pieces → tail ≡ whole_put pending ∷ [] → EndsOutOfMemory end last → IsRun Due Cut end (puts ++ tail ++ last)
+  pub lacks_after : (pieces : List Text) (pending : Text) (puts tail last : List Put) (end : Status) → IsAt pieces pending puts → Cut pieces → tail ≡
+      whole_put pending ∷ [] → EndsOutOfMemory end last → IsRun Due Cut end (puts ++ tail ++ last)
   lacks_after pieces pending puts tail last end i c e (answer, s, t) =
       rw (s, t, both pieces pending puts tail i e)
       (early (status_after answer) (i.before ++ (pending ∷ [])) [] (memory_put answer ∷ [])
       (cut (i.before ++ (pending ∷ [])) [] (subst Cut (i.all ∙ sym (append-nil (i.before ++ (pending ∷ [])))) c)) (wanting [] answer))
 
   -- the piece was taken, and then the last line put
-  pub ends : (pieces : List Text) (pending line : Text) (meant end : Status) (puts tail last : List Put) → IsAt pieces pending puts → tail ≡ whole_put pending ∷ [] → Due meant (pieces ++ (line ∷ [])) → IsLast line meant end last → IsRun Due Cut end (puts ++ tail ++ last)
+  pub ends : (pieces : List Text) (pending line : Text) (meant end : Status) (puts tail last : List Put) → IsAt pieces pending puts → tail ≡
+      whole_put pending ∷ [] → Due meant (pieces ++ (line ∷ [])) → IsLast line meant end last → IsRun Due Cut end (puts ++ tail ++ last)
   ends pieces pending line meant end puts tail last i e due (inl (same, t)) =
       let P : Status → Type 0 = λ s. IsRun Due Cut s (puts ++ tail ++ last) in
       let Q : List Put → Type 0 = IsRun Due Cut meant in
@@ -93,16 +96,20 @@ module _ (Due : Status → List Text → Type 0) (Cut : List Text → Type 0) wh
       rw (both pieces pending puts tail i e)
       (early end (i.before ++ (pending ∷ [])) (line ∷ []) last (all_due meant (i.before ++ (pending ∷ [])) line [] (subst D same due)) t)
 
-  pub ends_or_lacks : (pieces : List Text) (pending line : Text) (meant end : Status) (puts tail last : List Put) → IsAt pieces pending puts → Cut pieces → tail ≡ whole_put pending ∷ [] → Due meant (pieces ++ (line ∷ [])) → IsEnd line meant end last → IsRun Due Cut end (puts ++ tail ++ last)
+  pub ends_or_lacks : (pieces : List Text) (pending line : Text) (meant end : Status) (puts tail last : List Put) → IsAt pieces pending puts → Cut pieces →
+      tail ≡ whole_put pending ∷ [] → Due meant (pieces ++ (line ∷ [])) → IsEnd line meant end last → IsRun Due Cut end (puts ++ tail ++ last)
   ends_or_lacks pieces pending line meant end puts tail last i c e due (inl h) = ends pieces pending line meant end puts tail last i e due h
   ends_or_lacks pieces pending line meant end puts tail last i c e due (inr h) = lacks_after pieces pending puts tail last end i c e h
 
 -- a run of pieces that are due by one account is one by another that takes them
-begins_weaker : (Due Other : Status → List Text → Type 0) (Cut : List Text → Type 0) → ((end : Status) (pieces : List Text) → Due end pieces → Other end pieces) → (before after : List Text) → Begins Due Cut before after → Begins Other Cut before after
+begins_weaker : (Due Other : Status → List Text → Type 0) (Cut : List Text → Type 0) →
+    ((end : Status) (pieces : List Text) → Due end pieces → Other end pieces) → (before after : List Text) → Begins Due Cut before after →
+    Begins Other Cut before after
 begins_weaker Due Other Cut takes before after nothing = nothing
 begins_weaker Due Other Cut takes before after (all_due end some next more due) = all_due end some next more (takes end (some ++ (next ∷ more)) due)
 begins_weaker Due Other Cut takes before after (cut some more c) = cut some more c
 
-pub weaker : (Due Other : Status → List Text → Type 0) (Cut : List Text → Type 0) → ((end : Status) (pieces : List Text) → Due end pieces → Other end pieces) → (end : Status) (puts : List Put) → IsRun Due Cut end puts → IsRun Other Cut end puts
+pub weaker : (Due Other : Status → List Text → Type 0) (Cut : List Text → Type 0) → ((end : Status) (pieces : List Text) → Due end pieces → Other end pieces) →
+    (end : Status) (puts : List Put) → IsRun Due Cut end puts → IsRun Other Cut end puts
 weaker Due Other Cut takes end puts (whole meant pieces due) = whole meant pieces (takes meant pieces due)
 weaker Due Other Cut takes end puts (early meant before after tail b t) = early meant before after tail (begins_weaker Due Other Cut takes before after b) t

@@ -34,7 +34,8 @@ positive_scaled n g h = rw num_scaled (omega (arith, lt_right (10 ^ up g) 0 n (t
 pub quotient_left : (q m n : ℕ) (d e g : ℤ) → 0 < n → (scaled_ratio q e).num * suc (over (scaled_ratio m d) (scaled_ratio n g)).less ≡ (q * n) * (10 ^ up e * 10 ^ up g * 10 ^ down d)
 quotient_left q m n d e g hn = rw (den_over (scaled_ratio m d) (scaled_ratio n g) (positive_scaled n g hn), num_scaled q e, num_scaled n g, den_scaled m d) (omega arith)
 
-pub quotient_right : (q m n k : ℕ) (d e g : ℤ) → d ≡ e +ℤ g +ℤ pos k → (over (scaled_ratio m d) (scaled_ratio n g)).num * suc (scaled_ratio q e).less ≡ (m * 10 ^ k) * (10 ^ up e * 10 ^ up g * 10 ^ down d)
+pub quotient_right : (q m n k : ℕ) (d e g : ℤ) → d ≡ e +ℤ g +ℤ pos k → (over (scaled_ratio m d) (scaled_ratio n g)).num * suc (scaled_ratio q e).less ≡
+    (m * 10 ^ k) * (10 ^ up e * 10 ^ up g * 10 ^ down d)
 quotient_right q m n k d e g h =
     rw (num_over, num_scaled m d, den_scaled n g, den_scaled q e)
     (regroup m (10 ^ k) (10 ^ up e * 10 ^ up g * 10 ^ down d) (10 ^ up d) (10 ^ down g) (10 ^ down e) (pow_four k (up e) (up g) (down d) (up d) (down g) (down e) (quotient_balance d e g k h)))

@@ -35,7 +35,8 @@ cut_down r q j e least most he from before f h = nearest_down r f least most (rw
 }))
 
 -- f lies above p and not above p + 1; r is m units, the least that reach past p
-pub cut_up : (r : Sd) (p m j : ℕ) (e : ℤ) → IsSd r → Same (scaled_ratio (m * 10 ^ j) e) (value r) → 10 ^ 17 ≤ p → 10 ^ 17 * 10 ^ j ≤ p + 1 → p + 1 ≤ m * 10 ^ j → ((y : ℕ) → p < y * 10 ^ j → m ≤ y) → (f : Ratio) → IsUpTo p e f → IsUp r f
+pub cut_up : (r : Sd) (p m j : ℕ) (e : ℤ) → IsSd r → Same (scaled_ratio (m * 10 ^ j) e) (value r) → 10 ^ 17 ≤ p → 10 ^ 17 * 10 ^ j ≤ p + 1 →
+    p + 1 ≤ m * 10 ^ j → ((y : ℕ) → p < y * 10 ^ j → m ≤ y) → (f : Ratio) → IsUpTo p e f → IsUp r f
 cut_up r p m j e dr same hp hj reach least f h = record {
   decimal = dr;
   at_least = AtMost-trans h.up_to (AtMost-trans (scaled-AtMost (p + 1) (m * 10 ^ j) e reach) (Same-AtMost same));
@@ -122,13 +123,15 @@ up_at_18 r p u j e hu digits least few hm he =
     cut_up_by r p u j e (inl (omega arith, omega arith)) hu digits least (rw hm same)
 
 -- the front of p is 18 nines
-pub up_at_nines : (r : Sd) (p u j : ℕ) (e : ℤ) → u ≡ 10 ^ j → 10 ^ 17 ≤ p → 10 ^ 17 * u ≤ p + 1 → p / u ≡ 10 ^ 18 - 1 → r.m ≡ 10 ^ 17 → r.e ≡ e +ℤ pos j +ℤ pos 1 → (f : Ratio) → IsUpTo p e f → IsUp r f
+pub up_at_nines : (r : Sd) (p u j : ℕ) (e : ℤ) → u ≡ 10 ^ j → 10 ^ 17 ≤ p → 10 ^ 17 * u ≤ p + 1 → p / u ≡ 10 ^ 18 - 1 → r.m ≡ 10 ^ 17 → r.e ≡
+    e +ℤ pos j +ℤ pos 1 → (f : Ratio) → IsUpTo p e f → IsUp r f
 up_at_nines r p u j e hu digits least nines hm he =
     let same : Same (scaled_ratio ((p / u + 1) * 10 ^ j) e) (scaled_ratio (10 ^ 17) r.e) = carried (p / u + 1) j r.e e (omega arith) he in
     cut_up_by r p u j e (inl (omega arith, omega arith)) hu digits least (rw hm same)
 
 -- the front of p has 19 digits
-pub up_at_19 : (r : Sd) (p u j : ℕ) (e : ℤ) → u ≡ 10 ^ j → 10 ^ 17 ≤ p → 10 ^ 18 ≤ p / u → p < (10 ^ 18 - 1) * 10 * u → r.m ≡ p / u / 10 + 1 → r.e ≡ e +ℤ pos j +ℤ pos 1 → (f : Ratio) → IsUpTo p e f → IsUp r f
+pub up_at_19 : (r : Sd) (p u j : ℕ) (e : ℤ) → u ≡ 10 ^ j → 10 ^ 17 ≤ p → 10 ^ 18 ≤ p / u → p < (10 ^ 18 - 1) * 10 * u → r.m ≡ p / u / 10 + 1 → r.e ≡
+    e +ℤ pos j +ℤ pos 1 → (f : Ratio) → IsUpTo p e f → IsUp r f
 up_at_19 r p u j e hu digits many most hm he =
     let least : 10 ^ 18 * u ≤ p = (le-div_iff_mul-le (power_pos u j hu)).0 many in
     let front : p / (u * 10) < 10 ^ 18 - 1 = div_below p (u * 10) (10 ^ 18 - 1) (omega (arith, power_pos u j hu)) (omega (arith, most)) in

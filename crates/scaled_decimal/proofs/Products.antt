@@ -97,7 +97,8 @@ far_up_to m n k d e g hd hg lt hn = record {
     below p = record { cross = omega (arith, p.cross) }
 
 pub left_nothing : (m n : ℕ) (d e : ℤ) → m ≡ 0 → AtMost (plus (scaled_ratio m d) (scaled_ratio n e)) (scaled_ratio n e)
-left_nothing m n d e h = let P : Ratio → Type 0 = λ k. AtMost k (scaled_ratio n e) in subst P (plus-comm (scaled_ratio n e) (scaled_ratio m d)) (plus_nothing (scaled_ratio n e) (scaled_ratio m d) (rw (num_scaled, h) (omega arith)))
+left_nothing m n d e h = let P : Ratio → Type 0 = λ k. AtMost k (scaled_ratio n e) in subst P (plus-comm (scaled_ratio n e) (scaled_ratio m d))
+    (plus_nothing (scaled_ratio n e) (scaled_ratio m d) (rw (num_scaled, h) (omega arith)))
 
 pub right_nothing : (m n : ℕ) (d e : ℤ) → n ≡ 0 → AtMost (plus (scaled_ratio m d) (scaled_ratio n e)) (scaled_ratio m d)
 right_nothing m n d e h = plus_nothing (scaled_ratio m d) (scaled_ratio n e) (rw (num_scaled, h) (omega arith))

@@ -151,8 +151,10 @@ same_decimal : (r q : Sd) → IsSd r → IsSd q → Same (value r) (value q) →
 same_decimal r q h k s = let (m, e) = one_decimal r q h k s in λ i. record { m = m i; e = e i }
 
 pub one_rounded : (side : Side) (r : Sd) (f : Ratio) → IsRounded side r f → r ≡ rounded_decimal side f
-one_rounded Lower r f h = let k = is_rounded Lower f in same_decimal r (rounded_decimal Lower f) h.decimal k.decimal (Same-both (k.greatest r h.decimal h.at_most) (h.greatest (rounded_decimal Lower f) k.decimal k.at_most))
-one_rounded Upper r f h = let k = is_rounded Upper f in same_decimal r (rounded_decimal Upper f) h.decimal k.decimal (Same-both (h.least (rounded_decimal Upper f) k.decimal k.at_least) (k.least r h.decimal h.at_least))
+one_rounded Lower r f h = let k = is_rounded Lower f in same_decimal r (rounded_decimal Lower f) h.decimal k.decimal
+    (Same-both (k.greatest r h.decimal h.at_most) (h.greatest (rounded_decimal Lower f) k.decimal k.at_most))
+one_rounded Upper r f h = let k = is_rounded Upper f in same_decimal r (rounded_decimal Upper f) h.decimal k.decimal
+    (Same-both (h.least (rounded_decimal Upper f) k.decimal k.at_least) (k.least r h.decimal h.at_least))
 
 pub rounded_is_nearest : RoundedIsNearest
 rounded_is_nearest = record { nearest = is_rounded; one = one_rounded }

@@ -6,7 +6,8 @@ use Rattle.settle_driver.proofs.Common.{CoversRounds, covers_none, rounds_settle
 use Rattle.settle_driver.proofs.Common.{IsPastCell, AreBothSettled, IsFirstSide, ints, by_lt_z, Option, Some, None, MatchOption, is_some, edge_on, way_on}
 use lib.Signed.{lt_z}
 
-one_more : {Le : ℤ → ℤ → Type 0} {Moves : ℕ → ℤ → (ℕ → ℤ) → Type 0} {n : ℕ} → IsSide Le Moves n → (k : ℕ) (edge w next : ℕ → ℤ) → CoversRounds Le Moves n k edge w → ((c : ℕ) → c < n → IsPast Le Moves n w c (next c)) → CoversRounds Le Moves n (k + 1) edge next
+one_more : {Le : ℤ → ℤ → Type 0} {Moves : ℕ → ℤ → (ℕ → ℤ) → Type 0} {n : ℕ} → IsSide Le Moves n → (k : ℕ) (edge w next : ℕ → ℤ) →
+    CoversRounds Le Moves n k edge w → ((c : ℕ) → c < n → IsPast Le Moves n w c (next c)) → CoversRounds Le Moves n (k + 1) edge next
 one_more {Le} {Moves} {n} s k edge w next before past =
     subst (λ (i : ℕ). CoversRounds Le Moves n i edge next) (sym (add-one k)) (covers_more s k edge w next before (past_covers s w next past))
 
@@ -34,7 +35,9 @@ module _ (p : List Entries) (w : List Bound) (c : ℕ) (r : ℤ) where
   stays_by_test t e = raise_stays t (omega (arith, ints, e))
 
 -- the first side on which cell c can move, or none, by the tests of its raise and its sink value
-pub side_by_tests : (p : List Entries) (w : List Bound) (c : ℕ) (l h : ℤ) (o : Option Side) → IsRaise p (lower_at w) c l → IsSink p (upper_at w) c h → MatchOption o ((lt_z (lower_at w c) l ≡ false) × (lt_z h (upper_at w c) ≡ false)) (IsFirstSide (lt_z (lower_at w c) l) (lt_z h (upper_at w c))) → MatchOption o ((s : Side) → CanMove p w c s → ⊥) (λ s. CanMove p w c s × (s ≡ High → CanMove p w c Low → ⊥))
+pub side_by_tests : (p : List Entries) (w : List Bound) (c : ℕ) (l h : ℤ) (o : Option Side) → IsRaise p (lower_at w) c l → IsSink p (upper_at w) c h →
+    MatchOption o ((lt_z (lower_at w c) l ≡ false) × (lt_z h (upper_at w c) ≡ false)) (IsFirstSide (lt_z (lower_at w c) l) (lt_z h (upper_at w c))) →
+    MatchOption o ((s : Side) → CanMove p w c s → ⊥) (λ s. CanMove p w c s × (s ≡ High → CanMove p w c Low → ⊥))
 side_by_tests p w c l h None t u (low, high) = λ s. elim s as (λ x. CanMove p w c x → ⊥) [
   | Low ↦ stays_by_test p w c l t low
   | High ↦ sink_stays p w c h u (omega (arith, ints, high))
@@ -96,7 +99,8 @@ module _ (p : List Entries) (b : Edges) (ok : IsProblem p) where
       rounds_settle (is_side side p ok) k (edge_on side b) (heads_on side w) (edge_heads side p b barrier) (way_on side p b w s.way).under (s.covers side) (rounds_on side p b k rounds)
 
   -- words on the way with a cell that can move show that the rounds which would settle them do not settle
-  pub open_unfinished : (w : List Bound) (k : ℕ) (o : OpenHeads) → AreOnTheWay p b w → (RoundsSettleBoth p b k → AreBothSettled p w) → o.words ≡ w → IsFirstOpen p w o.cell o.side → IsUnfinished p b k o
+  pub open_unfinished : (w : List Bound) (k : ℕ) (o : OpenHeads) → AreOnTheWay p b w → (RoundsSettleBoth p b k → AreBothSettled p w) → o.words ≡ w →
+      IsFirstOpen p w o.cell o.side → IsUnfinished p b k o
   open_unfinished w k o way settles same first = record {
     cause = λ rounds. settled_stays p w o.cell o.side first.within (settles rounds) first.moves;
     words = subst (AreOnTheWay p b) (sym same) way;

@@ -13,7 +13,8 @@ use native.Mathlib.Nat.{mod-lt}
 
 module _ {Le : ℤ → ℤ → Type 0} {Moves : ℕ → ℤ → (ℕ → ℤ) → Type 0} {n : ℕ} (s : IsSide Le Moves n) where
   -- one more cell is past its relaxed head from the old heads
-  past_more : (old l next : ℕ → ℤ) (c : ℕ) → c < n → AsTight Le Moves n old l → IsRelaxed Le Moves n l c (next c) → ((d : ℕ) → (d ≡ c → ⊥) → next d ≡ l d) → ((d : ℕ) → d < c → IsPast Le Moves n old d (l d)) → (d : ℕ) → d < c + 1 → IsPast Le Moves n old d (next d)
+  past_more : (old l next : ℕ → ℤ) (c : ℕ) → c < n → AsTight Le Moves n old l → IsRelaxed Le Moves n l c (next c) → ((d : ℕ) → (d ≡ c → ⊥) → next d ≡ l d) →
+      ((d : ℕ) → d < c → IsPast Le Moves n old d (l d)) → (d : ℕ) → d < c + 1 → IsPast Le Moves n old d (next d)
   past_more old l next c h tight t others before d i =
       elim (cases_eq d c) [
         | inl e ↦ subst (λ (k : ℕ). IsPast Le Moves n old k (next k)) (sym e) (passes_more s old l c (next c) (next c) h tight (s.refl (next c)) (turn_passes s l c (next c) t))
@@ -95,11 +96,13 @@ pub all_front : {X : Type 0} (P : X → Type 0) (xs ys : List X) → All P (xs +
 all_front P xs ys ps k d h = subst P (get_or-append xs ys d k h) (ps k d (omega (arith, length-append xs ys)))
 
 -- what one worker gained stays with tighter heads
-still_past : {Le : ℤ → ℤ → Type 0} {Moves : ℕ → ℤ → (ℕ → ℤ) → Type 0} {n : ℕ} → IsSide Le Moves n → (l : ℕ → ℤ) (c : ℕ) (x y z : ℤ) → c < n → Le x y → Le y z → IsPast Le Moves n l c x → IsPast Le Moves n l c z
+still_past : {Le : ℤ → ℤ → Type 0} {Moves : ℕ → ℤ → (ℕ → ℤ) → Type 0} {n : ℕ} → IsSide Le Moves n → (l : ℕ → ℤ) (c : ℕ) (x y z : ℤ) → c < n → Le x y → Le y z →
+    IsPast Le Moves n l c x → IsPast Le Moves n l c z
 still_past s l c x y z h p q past = passes_more s l l c x z h (as_tight_refl s l) (s.trans x y z p q) past
 
 -- at each cell a phase gains what the worker of that cell gained
-pub phase_gains : (p : List Entries) → IsProblem p → (t : HeadTable) → t.problem.now ≡ p → (words bounds : List Bound) (dealt seats : List HeadSeat) (last : HeadSeat) → 0 < length dealt → length seats ≡ length dealt
+pub phase_gains : (p : List Entries) → IsProblem p → (t : HeadTable) → t.problem.now ≡ p →
+    (words bounds : List Bound) (dealt seats : List HeadSeat) (last : HeadSeat) → 0 < length dealt → length seats ≡ length dealt
     → All (λ s. HasSeen t words s) dealt → ((i : ℕ) (d : HeadSeat) → i < length dealt → HasWorked t i (length dealt) (get_or dealt i d) (get_or seats i d))
     → All (λ s. AreNoLooser p (seen_of s) (seen_of last)) seats → AreNoLooser p (seen_of last) bounds
     → (c : ℕ) → c < length p → IsPastCell p words bounds c
@@ -114,12 +117,15 @@ phase_gains p ok t same words bounds dealt seats last some_one n seen each joine
     let into = joined i last (omega arith) in
     λ side.
     still_past (is_side side p ok) (heads_on side words) c (seen_on side b c) (seen_on side last c) (heads_on side bounds c) h (into side c h) (tight side c h)
-    (subst (λ (bs : List Bound). HasMoved side p (heads_on side bs) c (seen_on side b c)) was (subst (λ (ps : List Entries). HasMoved side ps (seen_on side a) c (seen_on side b c)) same (worked.moved side c here refl)))
+    (subst (λ (bs : List Bound). HasMoved side p (heads_on side bs) c (seen_on side b c)) was
+    (subst (λ (ps : List Entries). HasMoved side ps (seen_on side a) c (seen_on side b c)) same (worked.moved side c here refl)))
 
 -- so where a phase has heads, each cell is past
-pub phase_past : (p : List Entries) → IsProblem p → (t : HeadTable) → t.problem.now ≡ p → (words before : List Bound) → before ≡ words → (dealt seats : Vec HeadSeat Global) (last : HeadSeat) (workers : ℕ) → 1 ≤ workers → vec_len dealt ≡ workers → vec_len seats ≡ vec_len dealt
+pub phase_past : (p : List Entries) → IsProblem p → (t : HeadTable) → t.problem.now ≡ p → (words before : List Bound) → before ≡ words →
+    (dealt seats : Vec HeadSeat Global) (last : HeadSeat) (workers : ℕ) → 1 ≤ workers → vec_len dealt ≡ workers → vec_len seats ≡ vec_len dealt
     → All (λ s. HasSeen t before s) dealt.items → ((i : ℕ) (d : HeadSeat) → i < vec_len dealt → HasWorked t i (vec_len dealt) (get_or dealt.items i d) (get_or seats.items i d))
-    → All (λ s. AreNoLooser t.problem.now (seen_of s) (seen_of last)) seats.items → (r : Result (Vec Bound Global) AllocError) → IfOk r (λ v. AreNoLooser t.problem.now (seen_of last) v.items) → IfOk r (λ v. (c : ℕ) → c < length p → IsPastCell p words v.items c)
+    → All (λ s. AreNoLooser t.problem.now (seen_of s) (seen_of last)) seats.items → (r : Result (Vec Bound Global) AllocError) →
+    IfOk r (λ v. AreNoLooser t.problem.now (seen_of last) v.items) → IfOk r (λ v. (c : ℕ) → c < length p → IsPastCell p words v.items c)
 phase_past p ok t same words before is dealt seats last workers some count count' seen each joined r =
     let n : length dealt.items ≡ workers = omega (arith, dealt.ok, count) in
     let m : length seats.items ≡ length dealt.items = omega (arith, dealt.ok, seats.ok, count') in

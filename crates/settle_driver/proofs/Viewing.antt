@@ -48,7 +48,8 @@ module _ {V : Type 0} (viewed : V → List Entries → Edges → ℕ → V → T
   no_turns turns v = record { count = 0; views = no_views v; each_turn = λ e. inr (omega arith) }
 
   -- the turns of one phase more
-  pub one_phase_more : (k turns : ℕ) (made : Bool) (a m z : V) → AddsTurns viewed stopped p b (k * turns) true a m → AddsTurns viewed stopped p b turns made m z → AddsTurns viewed stopped p b ((k + 1) * turns) made a z
+  pub one_phase_more : (k turns : ℕ) (made : Bool) (a m z : V) → AddsTurns viewed stopped p b (k * turns) true a m →
+      AddsTurns viewed stopped p b turns made m z → AddsTurns viewed stopped p b ((k + 1) * turns) made a z
   one_phase_more k turns made a m z first next =
       let e : k * turns + turns ≡ (k + 1) * turns = omega arith in subst (λ (n : ℕ). AddsTurns viewed stopped p b n made a z) e (turns_add_up (k * turns) turns made a m z first next)
 
@@ -83,7 +84,8 @@ module _ {V : Type 0} (viewed : V → List Entries → Edges → ℕ → V → T
     each_phase = λ e some. s.each_phase (ok_had_memory r e) some;
   }
 
-  phases_of_both : (i j turns : ℕ) (m z : V) → (stopped m → stopped z) → stopped m ⊎ ((k : ℕ) × (0 < k) × (i ≡ k * turns)) → stopped z ⊎ ((l : ℕ) × (0 < l) × (j ≡ l * turns)) → stopped z ⊎ ((n : ℕ) × (0 < n) × (i + j ≡ n * turns))
+  phases_of_both : (i j turns : ℕ) (m z : V) → (stopped m → stopped z) → stopped m ⊎ ((k : ℕ) × (0 < k) × (i ≡ k * turns)) → stopped z ⊎
+      ((l : ℕ) × (0 < l) × (j ≡ l * turns)) → stopped z ⊎ ((n : ℕ) × (0 < n) × (i + j ≡ n * turns))
   phases_of_both i j turns m z stays (inl s) after = inl (stays s)
   phases_of_both i j turns m z stays (inr h) (inl s) = inl s
   phases_of_both i j turns m z stays (inr (k, some, e)) (inr (l, some', d)) = inr (k + l, omega (arith, some), omega (arith, e, d))
@@ -107,7 +109,8 @@ still_past_barrier p ps b old new same past tighter =
     }
 
 -- What a seat has just seen encloses the settled pair.
-seen_encloses : (t : HeadTable) (s : HeadSeat) (heads : List Bound) → length heads ≡ length t.problem.now → IsSeatOf t s → ShowsSeen t.problem.now s heads → AreNoTighterThanSettled t.problem.now (barrier_of t) heads → ArePastBarrier t.problem.now (barrier_of t) (seen_of s)
+seen_encloses : (t : HeadTable) (s : HeadSeat) (heads : List Bound) → length heads ≡ length t.problem.now → IsSeatOf t s → ShowsSeen t.problem.now s heads →
+    AreNoTighterThanSettled t.problem.now (barrier_of t) heads → ArePastBarrier t.problem.now (barrier_of t) (seen_of s)
     → EnclosesPair t.problem.now (barrier_of t) heads
 seen_encloses t s heads whole seat shows held past =
     let sound = s.sound in
@@ -127,5 +130,7 @@ seen_encloses t s heads whole seat shows held past =
       };
     }
 
-pub look_encloses : (p : List Entries) (b : Edges) (t : HeadTable) (s : HeadSeat) (heads : List Bound) → t.problem.now ≡ p → barrier_of t ≡ b → length heads ≡ length p → IsSeatOf t s → ShowsSeen t.problem.now s heads → AreNoTighterThanSettled t.problem.now (barrier_of t) heads → ArePastBarrier p b (seen_of s) → EnclosesPair p b heads
+pub look_encloses : (p : List Entries) (b : Edges) (t : HeadTable) (s : HeadSeat) (heads : List Bound) → t.problem.now ≡ p → barrier_of t ≡ b → length heads ≡
+    length p → IsSeatOf t s → ShowsSeen t.problem.now s heads → AreNoTighterThanSettled t.problem.now (barrier_of t) heads → ArePastBarrier p b (seen_of s) →
+    EnclosesPair p b heads
 look_encloses p b t s heads same edges whole seat shows held past = grind (arith, seen_encloses)

@@ -50,7 +50,8 @@ AreHeads b = IsHead b.low × IsHead b.high
 none_fits : AreHeads no_bound
 none_fits = (record { above = omega (arith, ints); below = omega (arith, ints) }, record { above = omega (arith, ints); below = omega (arith, ints) })
 
-module _ (d : Decks) (at : TimeStep) (p : List Entries) (bounds heads : List Bound) (are : AreHeadsOf d at bounds heads) (words : AreWords p bounds) (many : length p ≡ length (variable_cells d.first at.period))
+module _ (d : Decks) (at : TimeStep) (p : List Entries) (bounds heads : List Bound) (are : AreHeadsOf d at bounds heads) (words : AreWords p bounds)
+    (many : length p ≡ length (variable_cells d.first at.period))
     (fit : (c : ℕ) (lo hi : ℤ) → c < cell_count d.first.grid → is_constant d.first at.period c ≡ true → IsConstantPairFor d at c lo hi → IsHead lo × IsHead hi) where
   each_fits : (c : ℕ) → c < cell_count d.first.grid → AreHeads (bound_at heads c)
   each_fits c lt = elim (cases_Bool (is_variable d.first at.period c)) [

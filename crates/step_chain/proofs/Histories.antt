@@ -31,9 +31,13 @@ module _ (step_encloses : StepEncloses) (heads_fit : HeadsFit) (limits : Limits)
       let start : IsBefore (two a b) at old = record { decks = decks; time = these at (first_in at ats); heads = grid } in
       let m = h.0.model in
       let cells = between_cells a m b h.0.between in
-      let move = step_encloses limits (two a b) s at old kind x start steps.0 m h.0.between before d X (record { within = encloses_member a m cells old before olds; some = some; solves = h.0.solves }) in
-      let here = lies_in_first a m cells x.heads d X move.heads in
-      (here, all_within ats (λ u k. these u (next_in at ats u k)) x.heads xs (heads_of d X) d Xs (heads_fit limits (two a b) s at old kind x start steps.0) (lies_encloses a x.heads d X some here) some steps.1 h.1)
+      let move = step_encloses limits (two a b) s at old kind x start steps.0 m h.0.between before d X
+      (record { within = encloses_member a m cells old before olds; some = some; solves = h.0.solves }) in
+      let here = lies_in_first a m cells x.heads d X move.heads in (
+        here,
+        all_within ats (λ u k. these u (next_in at ats u k)) x.heads xs (heads_of d X) d Xs (heads_fit limits (two a b) s at old kind x start steps.0)
+            (lies_encloses a x.heads d X some here) some steps.1 h.1,
+      )
 
 pub histories_within : StartHeadsFit → StartHeadsEnclose → StepEncloses → HeadsFit → HistoriesLieWithin
 histories_within starts_fit starts_enclose step_encloses heads_fit limits a b s kind xs all d Xs h =

@@ -25,7 +25,8 @@ pub uncut_by : (limits : Limits) (p : List Entries) (b : Edges) → IsProblem p 
 uncut_by limits p b fits h = cut_encloses p b fits (cut_by limits p b h)
 
 -- Between the settled pair lies every solution; with wide limits every one in range.
-pub pair_lies : SettledPairEncloses → ClampedPairEncloses → (limits : Limits) (p : List Entries) (b : Edges) (l u : ℕ → ℤ) → IsProblem p → IsBarrierBy limits p b → IsSettledPair p (edges_by limits b) l u →
+pub pair_lies : SettledPairEncloses → ClampedPairEncloses → (limits : Limits) (p : List Entries) (b : Edges) (l u : ℕ → ℤ) → IsProblem p →
+    IsBarrierBy limits p b → IsSettledPair p (edges_by limits b) l u →
     (s : ℕ) (e : List ExactCell) (d : ℕ) (X : ℕ → ℤ) → EnclosesStep s p e → 0 < d → SolvesStep e d X → LiesBetweenBy limits (length p) d X l u
 pair_lies settled_encloses clamped_encloses Plain p b l u fits h pair s e d X encloses some solves =
     settled_encloses p b l u fits h.fits (held_by Plain p b h) pair (encloses_all p (head_at b.floor) (head_at b.ceiling) fits h.floors h.ceilings) s e d X encloses some solves
@@ -34,10 +35,12 @@ pair_lies settled_encloses clamped_encloses Wide p b l u fits h pair s e d X enc
 
 -- The barrier that is found by plain limits.
 module _ (p : List Entries) (fits : IsProblem p) where
-  plain_barrier : (b : Edges) → IsBarrier p b → ((c : ℕ) → c < length p → IsCellFloor p c (head_at b.floor c)) → ((c : ℕ) → c < length p → IsCellCeiling p c (head_at b.ceiling c)) → IsBarrierBy Plain p b
+  plain_barrier : (b : Edges) → IsBarrier p b → ((c : ℕ) → c < length p → IsCellFloor p c (head_at b.floor c)) →
+      ((c : ℕ) → c < length p → IsCellCeiling p c (head_at b.ceiling c)) → IsBarrierBy Plain p b
   plain_barrier b fit floors ceilings = record { fits = fit; floors = floors; ceilings = ceilings }
 
-  pub plain_found : (r : Result Edges BarrierFault) → IfOk r (IsBarrier p) → IfOk r (λ b. (c : ℕ) → c < length p → IsCellFloor p c (head_at b.floor c)) → IfOk r (λ b. (c : ℕ) → c < length p → IsCellCeiling p c (head_at b.ceiling c)) →
+  pub plain_found : (r : Result Edges BarrierFault) → IfOk r (IsBarrier p) → IfOk r (λ b. (c : ℕ) → c < length p → IsCellFloor p c (head_at b.floor c)) →
+      IfOk r (λ b. (c : ℕ) → c < length p → IsCellCeiling p c (head_at b.ceiling c)) →
       IfOk r (IsBarrierBy Plain p)
   plain_found (Ok b) fit floors ceilings = plain_barrier b fit floors ceilings
   plain_found (Err e) fit floors ceilings = tt
@@ -102,7 +105,8 @@ module _ (limits : Limits) (d : Decks) (s : ℕ) (at : TimeStep) (old : List Bou
 -- what a settling did to its settler, and the settled pair, which there is whether or not the settling reached it
 module _ (limits : Limits) (d : Decks) (s : ℕ) (at : TimeStep) (old : List Bound) (p : List Entries) (barrier : Edges) (fits : IsProblem p) (of_problem : IsBarrierBy limits p barrier)
     (steps : EachMember d (EnclosesSteps s at old p)) (pair_exists : SettledPairExists) (pair_encloses : SettledPairEncloses) (clamped_encloses : ClampedPairEncloses) where
-  pub led_by : {S : Type 0} (leads : S → List Entries → Edges → Bool → S → Type 0) (ended : Bool) (before after : S) → leads before p (edges_by limits barrier) ended after → LeadsBy leads limits d at old p ended before after
+  pub led_by : {S : Type 0} (leads : S → List Entries → Edges → Bool → S → Type 0) (ended : Bool) (before after : S) →
+      leads before p (edges_by limits barrier) ended after → LeadsBy leads limits d at old p ended before after
   led_by leads ended before after led =
       let (l, u, pair) = pair_exists p (edges_by limits barrier) fits (edges_fit limits p barrier of_problem) in
       let solutions = pair_lies pair_encloses clamped_encloses limits p barrier l u fits of_problem pair in
@@ -119,6 +123,7 @@ module _ (limits : Limits) (d : Decks) (s : ℕ) (at : TimeStep) (old : List Bou
       }
 
   -- so did that of a step without heads, or its settler is unchanged
-  pub leads_or_rests : {S : Type 0} (leads : S → List Entries → Edges → Bool → S → Type 0) → IsProblemFor d s at old p → (before after : S) → LeadsWithout leads limits p barrier before after → LeadsOrRests leads limits d s at old before after
+  pub leads_or_rests : {S : Type 0} (leads : S → List Entries → Edges → Bool → S → Type 0) → IsProblemFor d s at old p → (before after : S) →
+      LeadsWithout leads limits p barrier before after → LeadsOrRests leads limits d s at old before after
   leads_or_rests leads is before after (inl same) = inl same
   leads_or_rests leads is before after (inr (ended, plain, led)) = inr (p, is, ended, plain, led_by leads ended before after led)

@@ -48,7 +48,12 @@ module _ (d : Decks) (m : FlowModel) (s : ℕ) (at : TimeStep) (old : List Bound
     variable_holds : (c : ℕ) → c < cell_count m.grid → is_variable m at.period c ≡ true → Holds (bound_at x.heads c) n (X c)
     variable_holds c lt v =
         let k : ℕ = index_of m at.period c in
-        let inside : k < length x.problem = omega (arith, AllZip-length (CellEncloses s) x.problem (exact_step m at.period at.step before) step.cells, count_is m at.period at.step before, index_below m at.period c v lt) in
+        let inside : k < length x.problem = omega (
+          arith,
+          AllZip-length (CellEncloses s) x.problem (exact_step m at.period at.step before) step.cells,
+          count_is m at.period at.step before,
+          index_below m at.period c v lt,
+        ) in
         let here : bound_at x.heads c ≡ bound_at x.bounds k = variable c (below c lt) (sym (cells.variable at.period c) ∙ v) ∙ ap (bound_at x.bounds) (sym (cells.index at.period c)) in
         let P : ℕ → Type 0 = λ i. Holds (bound_at x.bounds k) n (X i) in
         let Q : Bound → Type 0 = λ b. Holds b n (X c) in
@@ -106,7 +111,8 @@ heads_one pair_one d at old bounds xs ys b x y =
       | inl v ↦ x.variable c lt v ∙ sym (y.variable c lt v)
       | inr v ↦ (elim (cases_Bool (is_active d.first c)) [
         | inl a ↦ (let k = active_constant d.first at.period c a v in
-            same_bound (bound_at xs c) (bound_at ys c) (pair_one d at c (lower_at xs c) (upper_at xs c) (lower_at ys c) (upper_at ys c) (record { decks = b.decks; time = b.time; within = lt; constant = k }) (x.constant c lt k) (y.constant c lt k)))
+            same_bound (bound_at xs c) (bound_at ys c) (pair_one d at c (lower_at xs c) (upper_at xs c) (lower_at ys c) (upper_at ys c)
+            (record { decks = b.decks; time = b.time; within = lt; constant = k }) (x.constant c lt k) (y.constant c lt k)))
         | inr a ↦ x.no_flow c lt a ∙ sym (y.no_flow c lt a)
       ])
     ])
@@ -129,7 +135,8 @@ steps_one problem_fits pair_one barrier_one settled_pair_one limits d s at old x
     let S : List Entries → Type 0 = λ p. AreSettled p (edges_by limits k.barrier) y.bounds in
     let H : List Bound → Type 0 = λ bs. AreHeadsOf d at bs y.heads in
     let fits = problem_fits d s at old x.problem b h.posed.problem in
-    let bounds : x.bounds ≡ y.bounds = settled_one barrier_one settled_pair_one limits x.problem h.barrier k.barrier x.bounds y.bounds fits h.posed.barrier (subst B (sym problems) k.posed.barrier) h.pair (subst S (sym problems) k.pair) in
+    let bounds : x.bounds ≡ y.bounds = settled_one barrier_one settled_pair_one limits x.problem h.barrier k.barrier x.bounds y.bounds fits h.posed.barrier
+    (subst B (sym problems) k.posed.barrier) h.pair (subst S (sym problems) k.pair) in
     let heads : x.heads ≡ y.heads = heads_one pair_one d at old x.bounds x.heads y.heads b h.heads (subst H (sym bounds) k.heads) in
     λ i. record { problem = problems i; bounds = bounds i; heads = heads i }
 

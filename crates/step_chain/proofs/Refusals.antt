@@ -12,7 +12,8 @@ use Rattle.step_chain.specs.declared.solved.StepFault.TheVariants as step
 use Rattle.barrier_vector.specs.declared.BarrierFault.TheVariants as barrier
 
 -- a problem with a barrier by limits has no refusal by them
-barrier_excludes : BarrierExcludesRefusal → CutBarrierExcludesRefusal → (limits : Limits) (p : List Entries) (b : Edges) (n : NoBound) → IsProblem p → IsBarrierBy limits p b → HasNoBarrier limits p n → ⊥
+barrier_excludes : BarrierExcludesRefusal → CutBarrierExcludesRefusal → (limits : Limits) (p : List Entries) (b : Edges) (n : NoBound) → IsProblem p →
+    IsBarrierBy limits p b → HasNoBarrier limits p n → ⊥
 barrier_excludes plain cut Plain p b n = plain p b n
 barrier_excludes plain cut Wide p b n = cut p b n
 
@@ -26,14 +27,16 @@ barriers_one plain cut Wide p a b = cut p a b
 
 -- so a step that is posed has no refusal before it settles
 pub posed_excludes : ProblemFits → BarrierExcludesRefusal → CutBarrierExcludesRefusal →
-    (limits : Limits) (d : Decks) (s : ℕ) (at : TimeStep) (old : List Bound) (p : List Entries) (b : Edges) (n : NoBound) → IsBefore d at old → IsPosed limits d s at old p b → HasNoPose limits d s at old n → ⊥
+    (limits : Limits) (d : Decks) (s : ℕ) (at : TimeStep) (old : List Bound) (p : List Entries) (b : Edges) (n : NoBound) → IsBefore d at old →
+    IsPosed limits d s at old p b → HasNoPose limits d s at old n → ⊥
 posed_excludes problem_fits plain cut limits d s at old p b n before h (inl none) = not_refused h.problem none
 posed_excludes problem_fits plain cut limits d s at old p b n before h (inr (q, is, refused)) =
     let R : List Entries → Type 0 = λ p. HasNoBarrier limits p n in
     barrier_excludes plain cut limits p b n (problem_fits d s at old p before h.problem) h.barrier (subst R (same_problem is h.problem) refused)
 
 -- the range refusal of a posed step is one of its settled pair
-ranges_one : ProblemFits → CutBarrierIsOne → SettledPairIsOne → (d : Decks) (s : ℕ) (at : TimeStep) (old : List Bound) (p : List Entries) (b : Edges) (bounds : List Bound) (n : NoBound) → IsBefore d at old →
+ranges_one : ProblemFits → CutBarrierIsOne → SettledPairIsOne → (d : Decks) (s : ℕ) (at : TimeStep) (old : List Bound) (p : List Entries) (b : Edges)
+    (bounds : List Bound) (n : NoBound) → IsBefore d at old →
     IsPosed Wide d s at old p b → AreSettled p (edges_by Wide b) bounds → LeavesRange Wide d s at old n → IsRangeRefusal p b bounds n
 ranges_one problem_fits barrier_one pair_one d s at old p b bounds n before h pair r =
     let same : r.problem ≡ p = same_problem r.posed.problem h.problem in

@@ -24,7 +24,12 @@ module _ (n : ℕ) (P : ℕ → ℤ → Type 0) (each : (c : ℕ) → c < n → 
   value_at c = value c (cases_lt c n)
 
   listed : (xs : List ℤ) × (length xs ≡ n) × ((c : ℕ) → c < n → P c (head_at xs c))
-  listed = (map value_at (range_with_len 0 n), length-map-range_with_len value_at 0 n, λ c h. subst (P c) (sym (get_or-map-range_with_len value_at 0 n c c (pos 0) h (omega arith))) (value_is c (cases_lt c n) h))
+  listed = (
+    map value_at (range_with_len 0 n),
+    length-map-range_with_len value_at 0 n,
+    λ c h.
+        subst (P c) (sym (get_or-map-range_with_len value_at 0 n c c (pos 0) h (omega arith))) (value_is c (cases_lt c n) h),
+  )
 
 least : (p : List Entries) (P : ℕ → Type 0) (c : ℕ) → IsFirstBelow P (length p) c → IsLeastWith p P c
 least p P c is = record { within = is.within; has = is.has; least = is.least }

@@ -32,8 +32,10 @@ module _ (p : List Entries) (ok : IsProblem p) where
     path_or_none : (c : ℕ) → c < length p → ((s : ℕ) × IsPath p q (AnchorRoot side p q) c s) ⊎ IsUnanchored side p c
     path_or_none c within =
         elim (first_or_none (λ k. LeadTo p c k × (0 < anchor_on side (entries_at p k))) (length p) (λ k h. led c k)) [
-          | inl (k, is) ↦ inl (path p q (AnchorRoot side p q) root_or_not is.has.0.0 c (record { root = k; drop = ceil_over q (anchor_on side (entries_at p k)); is_root = (is.within, is.has.1, refl); reaches = is.has.0.1 }))
-          | inr none ↦ inr (λ j k way. elim (cases_lt 0 (anchor_on side (entries_at p k))) [ inl some ↦ absurd (none k (reaches_within p ok j c k within way) ((j, way), some)) | inr fails ↦ omega (arith, fails) ])
+          | inl (k, is) ↦ inl (path p q (AnchorRoot side p q) root_or_not is.has.0.0 c
+              (record { root = k; drop = ceil_over q (anchor_on side (entries_at p k)); is_root = (is.within, is.has.1, refl); reaches = is.has.0.1 }))
+          | inr none ↦ inr (λ j k way. elim (cases_lt 0 (anchor_on side (entries_at p k)))
+              [ inl some ↦ absurd (none k (reaches_within p ok j c k within way) ((j, way), some)) | inr fails ↦ omega (arith, fails) ])
         ]
 
   anchored_or_not : (side : Side) (c : ℕ) → c < length p → ((f : ℤ) × IsAnchoredBound side p c f) ⊎ IsUnanchored side p c

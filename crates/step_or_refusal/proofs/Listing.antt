@@ -13,7 +13,8 @@ use Rattle.step_chain.proofs.Histories.{first_in}
 use Rattle.step_or_refusal.proofs.Step.{ok_or_err}
 use Rattle.listing_run.specs.declared.text.ListingEnd.TheVariants as ends
 
-module _ (step : StepOrRefusal) (fits : HeadsFit) (problem_fits : ProblemFits) (limits : Limits) (m : FlowModel) (s : ℕ) (zones : Option (List ℕ)) (rounds : ℕ) (quick : Bool) (valid : IsModel m) (zoned : AreZones m zones) where
+module _ (step : StepOrRefusal) (fits : HeadsFit) (problem_fits : ProblemFits) (limits : Limits) (m : FlowModel) (s : ℕ) (zones : Option (List ℕ)) (rounds : ℕ)
+    (quick : Bool) (valid : IsModel m) (zoned : AreZones m zones) where
   abbrev task : Task
   task = one_task limits m s zones rounds quick
 

@@ -8,7 +8,8 @@ use Rattle.step_problem.proofs.Sides.{IsSide, same_as_tight, as_tight_trans, sam
 use Rattle.problem_builder.proofs.Members.{variable_active, constant_active}
 
 -- being the first settled vector is of the cells below n alone
-same_first : {Le : ℤ → ℤ → Type 0} {Moves : ℕ → ℤ → (ℕ → ℤ) → Type 0} {n : ℕ} (s : IsSide Le Moves n) (edge l m : ℕ → ℤ) → ((c : ℕ) → c < n → m c ≡ l c) → IsFirstSettled Le Moves n edge l → IsFirstSettled Le Moves n edge m
+same_first : {Le : ℤ → ℤ → Type 0} {Moves : ℕ → ℤ → (ℕ → ℤ) → Type 0} {n : ℕ} (s : IsSide Le Moves n) (edge l m : ℕ → ℤ) → ((c : ℕ) → c < n → m c ≡ l c) →
+    IsFirstSettled Le Moves n edge l → IsFirstSettled Le Moves n edge m
 same_first {Le} s edge l m e k = grind (arith, as_tight_trans, same_as_tight, same_settled)
 
 module _ (n : ℕ) (f : ℕ → Bound) where
@@ -71,7 +72,8 @@ module _ (m : FlowModel) (at : TimeStep) (pairs : (c : ℕ) → (lo : ℤ) × (h
     record {
       whole = bounds_count (cell_count m.grid) head_of;
       variable = λ c h v. head_is c h true true v (variable_active m at.period c v);
-      constant = λ c h k. subst (λ (b : Bound). IsConstantPair m at c b.low b.high) (sym (head_is c h false true (not_variable (is_active m c) (is_variable m at.period c) k) (constant_active m at.period c k))) (pairs c).2;
+      constant = λ c h k. subst (λ (b : Bound). IsConstantPair m at c b.low b.high)
+          (sym (head_is c h false true (not_variable (is_active m c) (is_variable m at.period c) k) (constant_active m at.period c k))) (pairs c).2;
       no_flow = λ c h e. head_is c h false false (no_variable c e) e;
     },
   )

@@ -63,7 +63,10 @@ wide_step fits barrier settled m s at old before =
                   | inr (n, refused) ↦ inr (n, inr (record { problem = p; barrier = b; posed = record { problem = is; barrier = b_is }; bounds = bounds; pair = are; refused = refused }))
                   | inl certificate ↦
                       let (heads, heads_are) = heads_list m at (a_pair m at) bounds in
-                      inl (record { problem = p; bounds = bounds; heads = heads }, record { barrier = b; posed = record { problem = is; barrier = b_is }; pair = are; certificate = certificate; heads = heads_are })
+                      inl (
+                        record { problem = p; bounds = bounds; heads = heads },
+                        record { barrier = b; posed = record { problem = is; barrier = b_is }; pair = are; certificate = certificate; heads = heads_are },
+                      )
                 ]
           ]
     ]
@@ -81,6 +84,15 @@ a_step fits barrier cut settled Plain m s at old before =
                 let (l, u, pair) = settled p b ok b_is.fits in
                 let (bounds, are) = settled_list p b l u ok pair in
                 let (heads, heads_are) = heads_list m at (a_pair m at) bounds in
-                inl (record { problem = p; bounds = bounds; heads = heads }, record { barrier = b; posed = record { problem = is; barrier = b_is }; pair = are; certificate = pair_certifies p b (lower_at bounds) (upper_at bounds) ok b_is.fits are.pair; heads = heads_are })
+                inl (
+                  record { problem = p; bounds = bounds; heads = heads },
+                  record {
+                    barrier = b;
+                    posed = record { problem = is; barrier = b_is };
+                    pair = are;
+                    certificate = pair_certifies p b (lower_at bounds) (upper_at bounds) ok b_is.fits are.pair;
+                    heads = heads_are;
+                  },
+                )
           ]
     ]

@@ -71,7 +71,8 @@ higher_head : (v : ℤ) (k : ℕ) → IsHead v → (v +ℤ pos k) ≤ℤ pos hea
 higher_head v k head far = record { above = omega (arith, ints, head.above); below = far }
 
 -- lower heads that are settled stay so when all are raised by so many units
-pub raised_settled : (p : List Entries) → IsProblem p → (k : ℕ) (m : ℕ → ℤ) → AreHeads ◌≤ℤ◌ (CanRise p) (length p) m → IsSettled ◌≤ℤ◌ (CanRise p) (length p) m → IsSettled ◌≤ℤ◌ (CanRise p) (length p) (λ c. raised k (m c))
+pub raised_settled : (p : List Entries) → IsProblem p → (k : ℕ) (m : ℕ → ℤ) → AreHeads ◌≤ℤ◌ (CanRise p) (length p) m → IsSettled ◌≤ℤ◌ (CanRise p) (length p) m →
+    IsSettled ◌≤ℤ◌ (CanRise p) (length p) (λ c. raised k (m c))
 raised_settled p ok k m heads settled c h v head can = raised_reaches k v (m c) head.below (by_lt_z (v -ℤ pos k) (neg_ℤ (pos head_limit)) out within)
   where
     out : (v -ℤ pos k) <ℤ neg_ℤ (pos head_limit) → (v -ℤ pos k) ≤ℤ m c
@@ -79,10 +80,12 @@ raised_settled p ok k m heads settled c h v head can = raised_reaches k v (m c) 
 
     within : neg_ℤ (pos head_limit) ≤ℤ (v -ℤ pos k) → (v -ℤ pos k) ≤ℤ m c
     within a = settled c h (v -ℤ pos k) (lower_head v k head a)
-        (le_trans _ _ _ can (lower_shifts (entries_at p c) k v (v -ℤ pos k) m (λ d. raised k (m d)) (back_up v (pos k)) (at_ends (λ d. raised k (m d) ≤ℤ (m d +ℤ pos k)) p ok (λ d i. raised_at_most k (m d)) c h)))
+        (le_trans _ _ _ can (lower_shifts (entries_at p c) k v (v -ℤ pos k) m (λ d. raised k (m d)) (back_up v (pos k))
+        (at_ends (λ d. raised k (m d) ≤ℤ (m d +ℤ pos k)) p ok (λ d i. raised_at_most k (m d)) c h)))
 
 -- and upper heads when all are sunk
-pub sunk_settled : (p : List Entries) → IsProblem p → (k : ℕ) (m : ℕ → ℤ) → AreHeads Ge (CanSink p) (length p) m → IsSettled Ge (CanSink p) (length p) m → IsSettled Ge (CanSink p) (length p) (λ c. sunk k (m c))
+pub sunk_settled : (p : List Entries) → IsProblem p → (k : ℕ) (m : ℕ → ℤ) → AreHeads Ge (CanSink p) (length p) m → IsSettled Ge (CanSink p) (length p) m →
+    IsSettled Ge (CanSink p) (length p) (λ c. sunk k (m c))
 sunk_settled p ok k m heads settled c h v head can = sunk_reaches k v (m c) head.above (by_lt_z (pos head_limit) (v +ℤ pos k) out within)
   where
     out : pos head_limit <ℤ (v +ℤ pos k) → m c ≤ℤ (v +ℤ pos k)
@@ -90,4 +93,5 @@ sunk_settled p ok k m heads settled c h v head can = sunk_reaches k v (m c) head
 
     within : (v +ℤ pos k) ≤ℤ pos head_limit → m c ≤ℤ (v +ℤ pos k)
     within a = settled c h (v +ℤ pos k) (higher_head v k head a)
-        (le_trans _ _ _ (upper_shifts (entries_at p c) k v (v +ℤ pos k) m (λ d. sunk k (m d)) (back_down v (pos k)) (at_ends (λ d. (m d -ℤ pos k) ≤ℤ sunk k (m d)) p ok (λ d i. sunk_at_least k (m d)) c h)) can)
+        (le_trans _ _ _ (upper_shifts (entries_at p c) k v (v +ℤ pos k) m (λ d. sunk k (m d)) (back_down v (pos k))
+        (at_ends (λ d. (m d -ℤ pos k) ≤ℤ sunk k (m d)) p ok (λ d i. sunk_at_least k (m d)) c h)) can)

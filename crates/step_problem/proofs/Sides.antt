@@ -127,7 +127,8 @@ module _ {Le : ℤ → ℤ → Type 0} {Moves : ℕ → ℤ → (ℕ → ℤ) �
   covers_more k edge w next p q x (j, before, round) = q j x (p j before) round
 
   -- heads that cover k rounds and are under the settled ones are settled where k rounds settle
-  pub rounds_settle : (k : ℕ) (edge w : ℕ → ℤ) → AreHeads Le Moves n edge → IsNoTighterThanSettled Le Moves n edge w → CoversRounds Le Moves n k edge w → RoundsSettle Le Moves n k edge → IsSettled Le Moves n w
+  pub rounds_settle : (k : ℕ) (edge w : ℕ → ℤ) → AreHeads Le Moves n edge → IsNoTighterThanSettled Le Moves n edge w → CoversRounds Le Moves n k edge w →
+      RoundsSettle Le Moves n k edge → IsSettled Le Moves n w
   rounds_settle k edge w ok under covers (m, rounds, settled) c h v head g =
       let way = rounds_on_the_way k edge m ok rounds in
       let b = under m way.heads settled way.past_barrier in

@@ -36,7 +36,8 @@ module _ {Le : ℤ → ℤ → Type 0} {Moves : ℕ → ℤ → (ℕ → ℤ) �
   }
 
   -- an exchange with a relaxed head from seen heads keeps heads on the way
-  pub turn_keeps : (edge l seen next : ℕ → ℤ) (c : ℕ) (r w : ℤ) → c < n → IsOnTheWay Le Moves n edge l → AreSeen Le Moves n l seen → IsRelaxed Le Moves n seen c r → IsExchange Le l c r w next → IsOnTheWay Le Moves n edge next
+  pub turn_keeps : (edge l seen next : ℕ → ℤ) (c : ℕ) (r w : ℤ) → c < n → IsOnTheWay Le Moves n edge l → AreSeen Le Moves n l seen →
+      IsRelaxed Le Moves n seen c r → IsExchange Le l c r w next → IsOnTheWay Le Moves n edge next
   turn_keeps edge l seen next c r w h k fit t x = record {
     heads = λ d hd. by_cell (λ i z. IsHead z) l next c w x.here x.elsewhere head d (λ ne. k.heads d hd);
     past_barrier = as_tight_trans s edge l next k.past_barrier up;
@@ -58,7 +59,9 @@ module _ {Le : ℤ → ℤ → Type 0} {Moves : ℕ → ℤ → (ℕ → ℤ) �
       certified = ⊎_elim old_certified
           (λ (o : w ≡ r). ⊎_elim
           (λ (a : r ≡ seen c). old_certified (s.anti w (l c) (subst (λ (y : ℤ). Le y (l c)) (sym (o ∙ a)) (fit.behind c h)) x.old))
-          (λ (a : IsHead r × Moves c r seen). subst (λ (y : ℤ). Le y (edge c) ⊎ Moves c y next) (sym o) (inr (s.helps c r seen next h (as_tight_trans s seen l next fit.behind up) a.1))) t.reached) x.one
+          (λ (a : IsHead r × Moves c r seen).
+          subst (λ (y : ℤ). Le y (edge c) ⊎ Moves c y next) (sym o) (inr (s.helps c r seen next h (as_tight_trans s seen l next fit.behind up) a.1)))
+          t.reached) x.one
 
       under : (m : ℕ → ℤ) → AsTight Le Moves n l m → IsSettled Le Moves n m → Le w (m c)
       under m old settled = ⊎_elim (λ (o : w ≡ l c). subst (λ (y : ℤ). Le y (m c)) (sym o) (old c h))
@@ -69,5 +72,6 @@ module _ {Le : ℤ → ℤ → Type 0} {Moves : ℕ → ℤ → (ℕ → ℤ) �
   relaxed_exchange l next c r here elsewhere t = record { here = here; elsewhere = elsewhere; old = t.no_looser; new = s.refl r; one = inr refl }
 
   -- so a sweep's step keeps heads on the way
-  pub relaxed_keeps : (edge l next : ℕ → ℤ) (c : ℕ) (r : ℤ) → c < n → IsOnTheWay Le Moves n edge l → next c ≡ r → ((d : ℕ) → (d ≡ c → ⊥) → next d ≡ l d) → IsRelaxed Le Moves n l c r → IsOnTheWay Le Moves n edge next
+  pub relaxed_keeps : (edge l next : ℕ → ℤ) (c : ℕ) (r : ℤ) → c < n → IsOnTheWay Le Moves n edge l → next c ≡ r → ((d : ℕ) → (d ≡ c → ⊥) → next d ≡ l d) →
+      IsRelaxed Le Moves n l c r → IsOnTheWay Le Moves n edge next
   relaxed_keeps edge l next c r h k here elsewhere t = turn_keeps edge l l next c r r h k (seen_itself edge l k) t (relaxed_exchange l next c r here elsewhere t)

@@ -10,11 +10,13 @@ use Rattle.step_problem.specs.declared.heads.Bound.{Bound}
 use Rattle.view_puts.specs.{IsPutOf, IsStopPut, AreAllShown, LeadOn, ViewPuts}
 
 -- the put of a text, by its result
-put_of : (E : Type 0) (text : Vec ℕ Global) (r : Result (Unit {0}) SinkError) (piece : List ℕ) → piece ≡ text.items → IsPutOf {E = E} (Ok text) (result_err r) (record { piece = piece; answer = r } ∷ [])
+put_of : (E : Type 0) (text : Vec ℕ Global) (r : Result (Unit {0}) SinkError) (piece : List ℕ) → piece ≡ text.items →
+    IsPutOf {E = E} (Ok text) (result_err r) (record { piece = piece; answer = r } ∷ [])
 put_of E text (Ok done) piece same = ap (λ (x : List ℕ). whole_put x ∷ []) same
 put_of E text (Err e) piece same = ap (λ (x : List ℕ). failed_put x e ∷ []) same
 
-pub is_put_of : (E : Type 0) (t : Result (Vec ℕ Global) E) (text : Vec ℕ Global) (r : Result (Unit {0}) SinkError) (o : Option SinkError) (piece : List ℕ) → t ≡ Ok text → o ≡ result_err r → piece ≡ text.items → IsPutOf {E = E} t o (record { piece = piece; answer = r } ∷ [])
+pub is_put_of : (E : Type 0) (t : Result (Vec ℕ Global) E) (text : Vec ℕ Global) (r : Result (Unit {0}) SinkError) (o : Option SinkError) (piece : List ℕ) → t ≡
+    Ok text → o ≡ result_err r → piece ≡ text.items → IsPutOf {E = E} t o (record { piece = piece; answer = r } ∷ [])
 is_put_of E t text r o piece is same items =
     let T : Result (Vec ℕ Global) E → Type 0 = λ x. IsPutOf {E = E} x o (record { piece = piece; answer = r } ∷ []) in
     let O : Option SinkError → Type 0 = λ x. IsPutOf {E = E} (Ok text) x (record { piece = piece; answer = r } ∷ []) in
@@ -50,13 +52,16 @@ module _ (text : List Bound → List ℕ) (Shown : List Bound → Type 0) where
     taken_put (Ok v) puts same h = h ∙ ap (λ (x : List ℕ). whole_put x ∷ []) same
     taken_put (Err x) puts same h = absurd h
 
-    one_taken : (n : ℕ) (before : Option SinkError) → ((more : List Put) × IsPutOf t None more × ((puts : List Put) → leads puts → leads' (puts ++ more))) → ViewPuts text Shown leads n before None → ViewPuts text Shown leads' (n + 1) before None
+    one_taken : (n : ℕ) (before : Option SinkError) → ((more : List Put) × IsPutOf t None more × ((puts : List Put) → leads puts → leads' (puts ++ more))) →
+        ViewPuts text Shown leads n before None → ViewPuts text Shown leads' (n + 1) before None
     one_taken n before put s =
         let r = put in
         let none : s.last ≡ [] = no_stop_put before s.last s.stop in
         let one : r.0 ≡ whole_put (text heads) ∷ [] = taken_put t r.0 is_text r.1 in
         let front : pieces s.views ++ s.last ≡ pieces s.views = ap (λ (ps : List Put). pieces s.views ++ ps) none ∙ append-nil (pieces s.views) in
-        let all : (pieces s.views ++ s.last) ++ r.0 ≡ pieces (s.views ++ heads ∷ []) ++ [] = ap (λ (ps : List Put). ps ++ r.0) front ∙ ap (λ (ps : List Put). pieces s.views ++ ps) one ∙ sym (pieces_more s.views heads) ∙ sym (append-nil (pieces (s.views ++ heads ∷ []))) in
+        let all : (pieces s.views ++ s.last) ++ r.0 ≡ pieces (s.views ++ heads ∷ []) ++ [] =
+        ap (λ (ps : List Put). ps ++ r.0) front ∙ ap (λ (ps : List Put). pieces s.views ++ ps) one ∙ sym (pieces_more s.views heads) ∙ sym
+        (append-nil (pieces (s.views ++ heads ∷ []))) in
         record {
           views = s.views ++ heads ∷ [];
           count = count_more s.views heads ∙ ap (λ (k : ℕ). k + 1) s.count;
@@ -67,7 +72,9 @@ module _ (text : List Bound → List ℕ) (Shown : List Bound → Type 0) where
         }
 
     -- a view that gives true
-    pub one_view_more : (n : ℕ) (before old new : Option SinkError) → is_some old ≡ false → is_some new ≡ false → ((more : List Put) × IsPutOf t new more × ((puts : List Put) → leads puts → leads' (puts ++ more))) → ViewPuts text Shown leads n before old → ViewPuts text Shown leads' (n + 1) before new
+    pub one_view_more : (n : ℕ) (before old new : Option SinkError) → is_some old ≡ false → is_some new ≡ false →
+        ((more : List Put) × IsPutOf t new more × ((puts : List Put) → leads puts → leads' (puts ++ more))) → ViewPuts text Shown leads n before old →
+        ViewPuts text Shown leads' (n + 1) before new
     one_view_more n before None None a b put s = one_taken n before put s
     one_view_more n before None (Some e) a b put s = absurd cc
     one_view_more n before (Some d) new a b put s = absurd cc

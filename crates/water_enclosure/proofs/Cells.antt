@@ -54,7 +54,8 @@ layer_back a n = omega arith
 -- the top of the cell below is the lowest elevation of the cell's own layer
 pub top_after : (m : FlowModel) (a b : ℕ) → b ≡ a + layer_size m.grid → top_at m b ≡ lowest m a
 top_after m a b e =
-    ap (top_at m) e ∙ ap (λ (c : Bool). cond c (dec_at m.grid.top (a + layer_size m.grid)) (lowest m (a + layer_size m.grid - layer_size m.grid))) (past_layer a (layer_size m.grid)) ∙ ap (lowest m) (layer_back a (layer_size m.grid))
+    ap (top_at m) e ∙ ap (λ (c : Bool). cond c (dec_at m.grid.top (a + layer_size m.grid)) (lowest m (a + layer_size m.grid - layer_size m.grid)))
+    (past_layer a (layer_size m.grid)) ∙ ap (lowest m) (layer_back a (layer_size m.grid))
 
 -- of two active cells, one above the other, the lower one's top is at or below the upper one's bottom
 pub tops_below : (m : FlowModel) → IsModel m → (a : ℕ) → a + layer_size m.grid < cell_count m.grid → is_active m a ≡ true → is_active m (a + layer_size m.grid) ≡ true →

@@ -34,7 +34,8 @@ pub way_share : (area s k bed s' k' : Ratio) (S S' M : ℕ) → 0 < k.num → 0 
 way_share area s k bed s' k' S S' M some some' thick p p' =
     let wet = share_some M S s p thick in
     let sum = value_plus (value_plus (half_way_value s k some) (itself bed)) (half_way_value s' k' some') in
-    let whole = value_over (positive s.num k.less bed.less (bed.num * (den s * 2 * k.num)) (den s' * 2 * k'.num) (s'.num * 1 * den k' * (den s * 2 * k.num * den bed)) wet (mul-pos (mul-pos (omega arith) (omega arith)) some')) (itself area) sum in
+    let whole = value_over (positive s.num k.less bed.less (bed.num * (den s * 2 * k.num)) (den s' * 2 * k'.num)
+    (s'.num * 1 * den k' * (den s * 2 * k.num * den bed)) wet (mul-pos (mul-pos (omega arith) (omega arith)) some')) (itself area) sum in
     record {
       is = ap (λ (z : ℕ). z * (den area * (per_unit k bed k' * S + rest M k bed k' S'))) whole.num
           ∙ way_cross area.num (den area) s.num (den s) (den k) k.num bed.num (den bed) s'.num (den s') (den k') k'.num S S' M p.is p'.is
@@ -50,7 +51,8 @@ pub upper_flows_in_order : (U a r k S T : ℕ) (zi zj yi yj : ℤ) → yi ≤ℤ
 upper_flows_in_order U a r k S T zi zj yi yj falls rises thinner part low =
     flows_in_order U U (a * (r * S + k)) (a * (r * T + k)) (zj -ℤ zi) (yj -ℤ yi) (omega (arith, ints, falls, rises))
     (λ d d' e e'. spread U a d d' (r * T + k) (r * S + k) (rises_faster r k S T d d' (S - T) (d' - d) (omega arith) (omega (arith, ints, e, e', falls, rises))))
-    (λ d d' e e'. spread U a d' d (r * S + k) (r * T + k) (falls_faster r k T S d' d (S - T) (d - d') 0 (omega arith) (omega (arith, ints, e, e', falls, rises)) (omega (arith, ints, e, e', part, falls, rises)) (elim low [
+    (λ d d' e e'. spread U a d' d (r * S + k) (r * T + k) (falls_faster r k T S d' d (S - T) (d - d') 0 (omega arith) (omega (arith, ints, e, e', falls, rises))
+    (omega (arith, ints, e, e', part, falls, rises)) (elim low [
       | inl gentle ↦ inl (omega (arith, ints, gentle, e'))
       | inr stays ↦ inr (omega (arith, stays))
     ])))
@@ -63,7 +65,8 @@ pub lower_flows_in_order : (U a r k S T : ℕ) (zi zj yi yj : ℤ) → yi ≤ℤ
     ((pos U *ℤ (zj -ℤ zi)) *ℤ pos (a * (r * T + k))) ≤ℤ ((pos U *ℤ (yj -ℤ yi)) *ℤ pos (a * (r * S + k)))
 lower_flows_in_order U a r k S T zi zj yi yj falls rises thicker part low =
     flows_in_order U U (a * (r * S + k)) (a * (r * T + k)) (zj -ℤ zi) (yj -ℤ yi) (omega (arith, ints, falls, rises))
-    (λ d d' e e'. spread U a d d' (r * T + k) (r * S + k) (falls_faster r k S T d d' (T - S) (d' - d) 0 (omega arith) (omega (arith, ints, e, e', falls, rises)) (omega (arith, ints, e, e', part, falls, rises)) (elim low [
+    (λ d d' e e'. spread U a d d' (r * T + k) (r * S + k) (falls_faster r k S T d d' (T - S) (d' - d) 0 (omega arith) (omega (arith, ints, e, e', falls, rises))
+    (omega (arith, ints, e, e', part, falls, rises)) (elim low [
       | inl gentle ↦ inl (omega (arith, ints, gentle, e))
       | inr stays ↦ inr (omega (arith, stays))
     ])))

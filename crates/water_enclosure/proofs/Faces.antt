@@ -53,7 +53,8 @@ module _ (m : FlowModel) (w : ConvertibleLayers) (valid : IsModel m) (h g : ℕ 
   abbrev pub IsOut : Type 0
   IsOut = ((o.here.z -ℤ o.there.z) ≤ℤ pos Sj) ⊎ (Tj ≡ Sj)
 
-  series_in_order : (p q E : ℕ) → IsSeries p q E → (C C' : Ratio) → IsShare ((p * Si + q * Sj) * E) C (p * Si * (q * Sj)) → IsShare ((p * Ti + q * Tj) * E) C' (p * Ti * (q * Tj)) → IsInto → IsOut → InOrder C C'
+  series_in_order : (p q E : ℕ) → IsSeries p q E → (C C' : Ratio) → IsShare ((p * Si + q * Sj) * E) C (p * Si * (q * Sj)) →
+      IsShare ((p * Ti + q * Tj) * E) C' (p * Ti * (q * Tj)) → IsInto → IsOut → InOrder C C'
   series_in_order p q E some C C' share share' gently_in gently_out =
       let wet_h = mul-pos some.some_p (some_h m w h g o.M i o.some o.here) in
       let wet_g = mul-pos some.some_q (some_g m w h g o.M j o.some o.there) in
@@ -69,15 +70,20 @@ module _ (m : FlowModel) (w : ConvertibleLayers) (valid : IsModel m) (h g : ℕ 
 
   -- a branch of two halves, of which i is the first
   first_half : (d v k d' v' k' : Ratio) → 0 < d.num → 0 < d'.num → 0 < (product (product two v) k).num → 0 < (product (product two v') k').num → IsInto → IsOut →
-      InOrder (in_a_row (half d v k (saturated_thickness m w h i)) (half d' v' k' (saturated_thickness m w h j))) (in_a_row (half d v k (saturated_thickness m w g i)) (half d' v' k' (saturated_thickness m w g j)))
+      InOrder (in_a_row (half d v k (saturated_thickness m w h i)) (half d' v' k' (saturated_thickness m w h j)))
+      (in_a_row (half d v k (saturated_thickness m w g i)) (half d' v' k' (saturated_thickness m w g j)))
   first_half d v k d' v' k' long long' some some' =
-      series_in_order (part d (product (product two v) k) d' (product (product two v') k')) (part d' (product (product two v') k') d (product (product two v) k)) (d.num * den (product (product two v) k) * (d'.num * den (product (product two v') k')) * o.M) (record {
+      series_in_order (part d (product (product two v) k) d' (product (product two v') k'))
+      (part d' (product (product two v') k') d (product (product two v) k))
+      (d.num * den (product (product two v) k) * (d'.num * den (product (product two v') k')) * o.M) (record {
         some_p = mul-pos (mul-pos (omega arith) some) (mul-pos long' (omega arith));
         some_q = mul-pos (mul-pos (omega arith) some') (mul-pos long (omega arith));
         some_E = mul-pos (mul-pos (mul-pos long (omega arith)) (mul-pos long' (omega arith))) o.some;
       }) _ _
-      (series_share d v k (saturated_thickness m w h i) d' v' k' (saturated_thickness m w h j) Si Sj o.M some some' long (some_h m w h g o.M i o.some o.here) (some_h m w h g o.M j o.some o.there) (share_h m w h g o.M i o.some o.here) (share_h m w h g o.M j o.some o.there))
-      (series_share d v k (saturated_thickness m w g i) d' v' k' (saturated_thickness m w g j) Ti Tj o.M some some' long (some_g m w h g o.M i o.some o.here) (some_g m w h g o.M j o.some o.there) (share_g m w h g o.M i o.some o.here) (share_g m w h g o.M j o.some o.there))
+      (series_share d v k (saturated_thickness m w h i) d' v' k' (saturated_thickness m w h j) Si Sj o.M some some' long (some_h m w h g o.M i o.some o.here)
+      (some_h m w h g o.M j o.some o.there) (share_h m w h g o.M i o.some o.here) (share_h m w h g o.M j o.some o.there))
+      (series_share d v k (saturated_thickness m w g i) d' v' k' (saturated_thickness m w g j) Ti Tj o.M some some' long (some_g m w h g o.M i o.some o.here)
+      (some_g m w h g o.M j o.some o.there) (share_g m w h g o.M i o.some o.here) (share_g m w h g o.M j o.some o.there))
 
   -- the same shares with the second half first
   turned : (P Q A B E : ℕ) (C : Ratio) → IsShare ((P * A + Q * B) * E) C (P * A * (Q * B)) → IsShare ((Q * B + P * A) * E) C (Q * B * (P * A))
@@ -91,7 +97,8 @@ module _ (m : FlowModel) (w : ConvertibleLayers) (valid : IsModel m) (h g : ℕ 
 
   -- a branch of two halves, of which i is the second
   second_half : (d v k d' v' k' : Ratio) → 0 < d.num → 0 < d'.num → 0 < (product (product two v) k).num → 0 < (product (product two v') k').num → IsInto → IsOut →
-      InOrder (in_a_row (half d v k (saturated_thickness m w h j)) (half d' v' k' (saturated_thickness m w h i))) (in_a_row (half d v k (saturated_thickness m w g j)) (half d' v' k' (saturated_thickness m w g i)))
+      InOrder (in_a_row (half d v k (saturated_thickness m w h j)) (half d' v' k' (saturated_thickness m w h i)))
+      (in_a_row (half d v k (saturated_thickness m w g j)) (half d' v' k' (saturated_thickness m w g i)))
   second_half d v k d' v' k' long long' some some' =
       let P = part d (product (product two v) k) d' (product (product two v') k') in
       let Q = part d' (product (product two v') k') d (product (product two v) k) in
@@ -101,8 +108,12 @@ module _ (m : FlowModel) (w : ConvertibleLayers) (valid : IsModel m) (h g : ℕ 
         some_q = mul-pos (mul-pos (omega arith) some) (mul-pos long' (omega arith));
         some_E = mul-pos (mul-pos (mul-pos long (omega arith)) (mul-pos long' (omega arith))) o.some;
       }) _ _
-      (turned P Q Sj Si E _ (series_share d v k (saturated_thickness m w h j) d' v' k' (saturated_thickness m w h i) Sj Si o.M some some' long (some_h m w h g o.M j o.some o.there) (some_h m w h g o.M i o.some o.here) (share_h m w h g o.M j o.some o.there) (share_h m w h g o.M i o.some o.here)))
-      (turned P Q Tj Ti E _ (series_share d v k (saturated_thickness m w g j) d' v' k' (saturated_thickness m w g i) Tj Ti o.M some some' long (some_g m w h g o.M j o.some o.there) (some_g m w h g o.M i o.some o.here) (share_g m w h g o.M j o.some o.there) (share_g m w h g o.M i o.some o.here)))
+      (turned P Q Sj Si E _ (series_share d v k (saturated_thickness m w h j) d' v' k' (saturated_thickness m w h i) Sj Si o.M some some' long
+      (some_h m w h g o.M j o.some o.there) (some_h m w h g o.M i o.some o.here) (share_h m w h g o.M j o.some o.there)
+      (share_h m w h g o.M i o.some o.here)))
+      (turned P Q Tj Ti E _ (series_share d v k (saturated_thickness m w g j) d' v' k' (saturated_thickness m w g i) Tj Ti o.M some some' long
+      (some_g m w h g o.M j o.some o.there) (some_g m w h g o.M i o.some o.here) (share_g m w h g o.M j o.some o.there)
+      (share_g m w h g o.M i o.some o.here)))
 
   active_hk_i : 0 < (size (hk_at m i)).num
   active_hk_i = hk_some m valid i wet_i.within wet_i.active
@@ -138,7 +149,8 @@ module _ (m : FlowModel) (w : ConvertibleLayers) (valid : IsModel m) (h g : ℕ 
       let v = size (delr_at m i) in
       let k = product (size (hk_at m i)) (size (hani_at m i)) in
       let k' = product (size (hk_at m j)) (size (hani_at m j)) in
-      first_half (size (delc_at m i)) v k (size (delc_at m j)) v k' (delc_some m valid i) (delc_some m valid j) (factor_some v k (delr_some m valid i) along_i) (factor_some v k' (delr_some m valid i) along_j)
+      first_half (size (delc_at m i)) v k (size (delc_at m j)) v k' (delc_some m valid i) (delc_some m valid j) (factor_some v k (delr_some m valid i) along_i)
+      (factor_some v k' (delr_some m valid i) along_j)
 
   column_second : IsInto → IsOut → InOrder (column_branch m (saturated_thickness m w h) j i) (column_branch m (saturated_thickness m w g) j i)
   unfolding column_branch
@@ -146,7 +158,8 @@ module _ (m : FlowModel) (w : ConvertibleLayers) (valid : IsModel m) (h g : ℕ 
       let v = size (delr_at m j) in
       let k = product (size (hk_at m j)) (size (hani_at m j)) in
       let k' = product (size (hk_at m i)) (size (hani_at m i)) in
-      second_half (size (delc_at m j)) v k (size (delc_at m i)) v k' (delc_some m valid j) (delc_some m valid i) (factor_some v k (delr_some m valid j) along_j) (factor_some v k' (delr_some m valid j) along_i)
+      second_half (size (delc_at m j)) v k (size (delc_at m i)) v k' (delc_some m valid j) (delc_some m valid i) (factor_some v k (delr_some m valid j) along_j)
+      (factor_some v k' (delr_some m valid j) along_i)
 
   unit_some : (k bed k' : Ratio) → 0 < k'.num → 0 < per_unit k bed k'
   unit_some k bed k' some = mul-pos (mul-pos (omega arith) (omega arith)) (mul-pos (omega arith) some)
@@ -169,7 +182,8 @@ module _ (m : FlowModel) (w : ConvertibleLayers) (valid : IsModel m) (h g : ℕ 
       inr (ap (λ (x : ℤ). thick (is_convertible m w j) o.there.cell.T o.there.cell.B x) (let e : o.there.y ≡ o.there.z = omega (arith, ints, le, back) in e))
 
   -- i lies above j: j is full at both heads
-  upper : 1 < m.grid.layers → Sj ≡ Tj → (is_convertible m w i ≡ true → o.here.cell.B ≤ℤ o.there.y) → InOrder (vertical_branch m (saturated_thickness m w h) i j) (vertical_branch m (saturated_thickness m w g) i j)
+  upper : 1 < m.grid.layers → Sj ≡ Tj → (is_convertible m w i ≡ true → o.here.cell.B ≤ℤ o.there.y) →
+      InOrder (vertical_branch m (saturated_thickness m w h) i j) (vertical_branch m (saturated_thickness m w g) i j)
   unfolding vertical_branch vertical_part
   upper many same over_bottom =
       let area = product (size (delr_at m i)) (size (delc_at m i)) in
@@ -183,15 +197,22 @@ module _ (m : FlowModel) (w : ConvertibleLayers) (valid : IsModel m) (h g : ℕ 
       let more = rest o.M k bed k' Sj in
       let wet_h = some_h m w h g o.M i o.some o.here in
       let wet_g = some_g m w h g o.M i o.some o.here in
-      let share = way_share area (saturated_thickness m w h i) k bed (saturated_thickness m w h j) k' Si Sj o.M some some' wet_h (share_h m w h g o.M i o.some o.here) (share_h m w h g o.M j o.some o.there) in
-      let share' = subst (λ (x : ℕ). IsShare (den area * (r * Ti + rest o.M k bed k' x)) (over area (series_of (half_way (saturated_thickness m w g i) k) bed (half_way (saturated_thickness m w g j) k'))) U) (sym same) (way_share area (saturated_thickness m w g i) k bed (saturated_thickness m w g j) k' Ti Tj o.M some some' wet_g (share_g m w h g o.M i o.some o.here) (share_g m w h g o.M j o.some o.there)) in
+      let share = way_share area (saturated_thickness m w h i) k bed (saturated_thickness m w h j) k' Si Sj o.M some some' wet_h
+      (share_h m w h g o.M i o.some o.here) (share_h m w h g o.M j o.some o.there) in
+      let share' = subst (λ (x : ℕ). IsShare (den area * (r * Ti + rest o.M k bed k' x))
+      (over area (series_of (half_way (saturated_thickness m w g i) k) bed (half_way (saturated_thickness m w g j) k'))) U) (sym same)
+      (way_share area (saturated_thickness m w g i) k bed (saturated_thickness m w g j) k' Ti Tj o.M some some' wet_g
+      (share_g m w h g o.M i o.some o.here) (share_g m w h g o.M j o.some o.there)) in
       flows_at_most _ _ U (den area * (r * Si + more)) U (den area * (r * Ti + more)) o.M (h j) (h i) (g j) (g i) o.there.z o.here.z o.there.y o.here.y share share'
-      (way_some (den area) r Si more (omega arith) (unit_some k bed k' some') wet_h) (way_some (den area) r Ti more (omega arith) (unit_some k bed k' some') wet_g) o.some o.there.is_z o.here.is_z o.there.is_y o.here.is_y
-      (upper_flows_in_order U (den area) r more Si Ti o.here.z o.there.z o.here.y o.there.y o.falls o.rises (thinner m w h g o.M i o.some o.here o.falls) (thinner_within m w h g o.M i o.some o.here o.falls)
+      (way_some (den area) r Si more (omega arith) (unit_some k bed k' some') wet_h)
+      (way_some (den area) r Ti more (omega arith) (unit_some k bed k' some') wet_g) o.some o.there.is_z o.here.is_z o.there.is_y o.here.is_y
+      (upper_flows_in_order U (den area) r more Si Ti o.here.z o.there.z o.here.y o.there.y o.falls o.rises (thinner m w h g o.M i o.some o.here o.falls)
+      (thinner_within m w h g o.M i o.some o.here o.falls)
       (thick_to_bottom (is_convertible m w i) o.here.cell.T o.here.cell.B o.here.y o.here.z o.there.y o.here.cell.room o.here.wet_y over_bottom o.falls))
 
   -- i lies below j: i is full at both heads
-  lower : 1 < m.grid.layers → Si ≡ Ti → (is_convertible m w j ≡ true → o.there.cell.B ≤ℤ o.here.z) → InOrder (vertical_branch m (saturated_thickness m w h) j i) (vertical_branch m (saturated_thickness m w g) j i)
+  lower : 1 < m.grid.layers → Si ≡ Ti → (is_convertible m w j ≡ true → o.there.cell.B ≤ℤ o.here.z) →
+      InOrder (vertical_branch m (saturated_thickness m w h) j i) (vertical_branch m (saturated_thickness m w g) j i)
   unfolding vertical_branch vertical_part
   lower many same over_bottom =
       let area = product (size (delr_at m j)) (size (delc_at m j)) in
@@ -205,26 +226,35 @@ module _ (m : FlowModel) (w : ConvertibleLayers) (valid : IsModel m) (h g : ℕ 
       let more = rest o.M k bed k' Si in
       let wet_h = some_h m w h g o.M j o.some o.there in
       let wet_g = some_g m w h g o.M j o.some o.there in
-      let share = way_share area (saturated_thickness m w h j) k bed (saturated_thickness m w h i) k' Sj Si o.M some some' wet_h (share_h m w h g o.M j o.some o.there) (share_h m w h g o.M i o.some o.here) in
-      let share' = subst (λ (x : ℕ). IsShare (den area * (r * Tj + rest o.M k bed k' x)) (over area (series_of (half_way (saturated_thickness m w g j) k) bed (half_way (saturated_thickness m w g i) k'))) U) (sym same) (way_share area (saturated_thickness m w g j) k bed (saturated_thickness m w g i) k' Tj Ti o.M some some' wet_g (share_g m w h g o.M j o.some o.there) (share_g m w h g o.M i o.some o.here)) in
+      let share = way_share area (saturated_thickness m w h j) k bed (saturated_thickness m w h i) k' Sj Si o.M some some' wet_h
+      (share_h m w h g o.M j o.some o.there) (share_h m w h g o.M i o.some o.here) in
+      let share' = subst (λ (x : ℕ). IsShare (den area * (r * Tj + rest o.M k bed k' x))
+      (over area (series_of (half_way (saturated_thickness m w g j) k) bed (half_way (saturated_thickness m w g i) k'))) U) (sym same)
+      (way_share area (saturated_thickness m w g j) k bed (saturated_thickness m w g i) k' Tj Ti o.M some some' wet_g
+      (share_g m w h g o.M j o.some o.there) (share_g m w h g o.M i o.some o.here)) in
       flows_at_most _ _ U (den area * (r * Sj + more)) U (den area * (r * Tj + more)) o.M (h j) (h i) (g j) (g i) o.there.z o.here.z o.there.y o.here.y share share'
-      (way_some (den area) r Sj more (omega arith) (unit_some k bed k' some') wet_h) (way_some (den area) r Tj more (omega arith) (unit_some k bed k' some') wet_g) o.some o.there.is_z o.here.is_z o.there.is_y o.here.is_y
-      (lower_flows_in_order U (den area) r more Sj Tj o.here.z o.there.z o.here.y o.there.y o.falls o.rises (thicker m w h g o.M j o.some o.there o.rises) (thicker_within m w h g o.M j o.some o.there o.rises)
+      (way_some (den area) r Sj more (omega arith) (unit_some k bed k' some') wet_h)
+      (way_some (den area) r Tj more (omega arith) (unit_some k bed k' some') wet_g) o.some o.there.is_z o.here.is_z o.there.is_y o.here.is_y
+      (lower_flows_in_order U (den area) r more Sj Tj o.here.z o.there.z o.here.y o.there.y o.falls o.rises (thicker m w h g o.M j o.some o.there o.rises)
+      (thicker_within m w h g o.M j o.some o.there o.rises)
       (thick_to_bottom (is_convertible m w j) o.there.cell.T o.there.cell.B o.there.z o.there.y o.here.z o.there.cell.room o.there.wet_z over_bottom o.rises))
 
   -- the lower cell of two is full where its head is at or above the upper one's bottom
   full_there : (AtMost (number (top_at m j)) (h j) × AtMost (number (top_at m j)) (g j)) ⊎ (is_convertible m w j ≡ false) → Sj ≡ Tj
-  full_there (inl (a, b)) = thick_stays (is_convertible m w j) o.there.cell.T o.there.cell.B o.there.z o.there.y (inr (over_le o.M _ _ _ _ o.there.cell.top o.there.is_z a)) (inr (over_le o.M _ _ _ _ o.there.cell.top o.there.is_y b))
+  full_there (inl (a, b)) = thick_stays (is_convertible m w j) o.there.cell.T o.there.cell.B o.there.z o.there.y
+      (inr (over_le o.M _ _ _ _ o.there.cell.top o.there.is_z a)) (inr (over_le o.M _ _ _ _ o.there.cell.top o.there.is_y b))
   full_there (inr e) = thick_stays (is_convertible m w j) o.there.cell.T o.there.cell.B o.there.z o.there.y (inl e) (inl e)
 
   full_here : (AtMost (number (top_at m i)) (h i) × AtMost (number (top_at m i)) (g i)) ⊎ (is_convertible m w i ≡ false) → Si ≡ Ti
-  full_here (inl (a, b)) = thick_stays (is_convertible m w i) o.here.cell.T o.here.cell.B o.here.z o.here.y (inr (over_le o.M _ _ _ _ o.here.cell.top o.here.is_z a)) (inr (over_le o.M _ _ _ _ o.here.cell.top o.here.is_y b))
+  full_here (inl (a, b)) = thick_stays (is_convertible m w i) o.here.cell.T o.here.cell.B o.here.z o.here.y
+      (inr (over_le o.M _ _ _ _ o.here.cell.top o.here.is_z a)) (inr (over_le o.M _ _ _ _ o.here.cell.top o.here.is_y b))
   full_here (inr e) = thick_stays (is_convertible m w i) o.here.cell.T o.here.cell.B o.here.z o.here.y (inl e) (inl e)
 
   full_below : (u l : ℕ) → l ≡ u + layer_size m.grid → l < cell_count m.grid → is_active m u ≡ true → is_active m l ≡ true → AreOverBottom m w h g u l →
       (AtMost (number (top_at m l)) (h l) × AtMost (number (top_at m l)) (g l)) ⊎ (is_convertible m w l ≡ false)
   full_below u l e lt upper lower heads =
-      let low : AtMost (number (top_at m l)) (number (bottom_at m u)) = subst (λ (x : ℕ). AtMost (number (top_at m x)) (number (bottom_at m u))) (sym e) (tops_below m valid u (omega (arith, e, lt)) upper (subst (λ (x : ℕ). is_active m x ≡ true) e lower)) in
+      let low : AtMost (number (top_at m l)) (number (bottom_at m u)) = subst (λ (x : ℕ). AtMost (number (top_at m x)) (number (bottom_at m u))) (sym e)
+      (tops_below m valid u (omega (arith, e, lt)) upper (subst (λ (x : ℕ). is_active m x ≡ true) e lower)) in
       elim (cases_Bool (is_convertible m w l)) [
         | inl converts ↦ let (a, b) = heads (or_right (is_convertible m w u) (is_convertible m w l) converts) in inl (AtMost-trans low a, AtMost-trans low b)
         | inr none ↦ inr none
@@ -239,17 +269,27 @@ module _ (m : FlowModel) (w : ConvertibleLayers) (valid : IsModel m) (h g : ℕ 
       by_layers (suc (suc n)) s u k = omega arith
 
   -- the flow into i over a face between the two
-  pub over_before : (axis : Axis) → i ≡ j + stride m.grid axis → FallsInto axis → FallsOut axis → (axis ≡ Vertical → AreOverBottom m w h g j i) → InOrder (branch m (saturated_thickness m w h) axis j) (branch m (saturated_thickness m w g) axis j)
-  over_before Row e gently out_gently over = subst (λ (x : ℕ). InOrder (row_branch m (saturated_thickness m w h) j x) (row_branch m (saturated_thickness m w g) j x)) e (row_second (into m w h g i j o gently) (out_of out_gently))
-  over_before Column e gently out_gently over = subst (λ (x : ℕ). InOrder (column_branch m (saturated_thickness m w h) j x) (column_branch m (saturated_thickness m w g) j x)) e (column_second (into m w h g i j o gently) (out_of out_gently))
+  pub over_before : (axis : Axis) → i ≡ j + stride m.grid axis → FallsInto axis → FallsOut axis → (axis ≡ Vertical → AreOverBottom m w h g j i) →
+      InOrder (branch m (saturated_thickness m w h) axis j) (branch m (saturated_thickness m w g) axis j)
+  over_before Row e gently out_gently over =
+      subst (λ (x : ℕ). InOrder (row_branch m (saturated_thickness m w h) j x) (row_branch m (saturated_thickness m w g) j x)) e
+      (row_second (into m w h g i j o gently) (out_of out_gently))
+  over_before Column e gently out_gently over =
+      subst (λ (x : ℕ). InOrder (column_branch m (saturated_thickness m w h) j x) (column_branch m (saturated_thickness m w g) j x)) e
+      (column_second (into m w h g i j o gently) (out_of out_gently))
   over_before Vertical e gently out_gently over =
       subst (λ (x : ℕ). InOrder (vertical_branch m (saturated_thickness m w h) j x) (vertical_branch m (saturated_thickness m w g) j x)) e
       (lower (many_layers j i e wet_i.within) (full_here (full_below j i e wet_i.within wet_j.active wet_i.active (over refl)))
       (λ converts. over_le o.M _ _ _ _ o.there.cell.bottom o.here.is_z ((over refl) (or_left (is_convertible m w j) (is_convertible m w i) converts)).0))
 
-  pub over_after : (axis : Axis) → j ≡ i + stride m.grid axis → FallsInto axis → FallsOut axis → (axis ≡ Vertical → AreOverBottom m w h g i j) → InOrder (branch m (saturated_thickness m w h) axis i) (branch m (saturated_thickness m w g) axis i)
-  over_after Row e gently out_gently over = subst (λ (x : ℕ). InOrder (row_branch m (saturated_thickness m w h) i x) (row_branch m (saturated_thickness m w g) i x)) e (row_first (into m w h g i j o gently) (out_of out_gently))
-  over_after Column e gently out_gently over = subst (λ (x : ℕ). InOrder (column_branch m (saturated_thickness m w h) i x) (column_branch m (saturated_thickness m w g) i x)) e (column_first (into m w h g i j o gently) (out_of out_gently))
+  pub over_after : (axis : Axis) → j ≡ i + stride m.grid axis → FallsInto axis → FallsOut axis → (axis ≡ Vertical → AreOverBottom m w h g i j) →
+      InOrder (branch m (saturated_thickness m w h) axis i) (branch m (saturated_thickness m w g) axis i)
+  over_after Row e gently out_gently over =
+      subst (λ (x : ℕ). InOrder (row_branch m (saturated_thickness m w h) i x) (row_branch m (saturated_thickness m w g) i x)) e
+      (row_first (into m w h g i j o gently) (out_of out_gently))
+  over_after Column e gently out_gently over =
+      subst (λ (x : ℕ). InOrder (column_branch m (saturated_thickness m w h) i x) (column_branch m (saturated_thickness m w g) i x)) e
+      (column_first (into m w h g i j o gently) (out_of out_gently))
   over_after Vertical e gently out_gently over =
       subst (λ (x : ℕ). InOrder (vertical_branch m (saturated_thickness m w h) i x) (vertical_branch m (saturated_thickness m w g) i x)) e
       (upper (many_layers i j e wet_j.within) (full_there (full_below i j e wet_j.within wet_i.active wet_j.active (over refl)))

@@ -9,7 +9,8 @@ pub flows_at_most : (C C' : Ratio) (U V U' V' M : ℕ) (f g f' g' : Fraction) (a
 flows_at_most C C' U V U' V' M f g f' g' a b a' b' p p' some some' more of og of' og' h =
     le_over (V * M * V') _ _ _ _ (mul-pos (mul-pos some more) some')
     (wider (V * M) V' _ _ (IsOver-times V M _ _ _ _ (IsOver-signed V C U p) (IsOver-minus M f g a b of og)))
-    (subst (λ (k : ℕ). IsOver k (times (as_fraction C') (minus f' g')) ((pos U' *ℤ (a' -ℤ b')) *ℤ pos V)) (turn V V' M) (wider (V' * M) V _ _ (IsOver-times V' M _ _ _ _ (IsOver-signed V' C' U' p') (IsOver-minus M f' g' a' b' of' og'))))
+    (subst (λ (k : ℕ). IsOver k (times (as_fraction C') (minus f' g')) ((pos U' *ℤ (a' -ℤ b')) *ℤ pos V)) (turn V V' M)
+    (wider (V' * M) V _ _ (IsOver-times V' M _ _ _ _ (IsOver-signed V' C' U' p') (IsOver-minus M f' g' a' b' of' og'))))
     h
   where
     turn : (V V' M : ℕ) → V' * M * V ≡ V * M * V'

@@ -37,7 +37,8 @@ then_below f u g le less =
 module _ (m : FlowModel) (w : ConvertibleLayers) (valid : IsModel m) where
   -- facts of each variable cell
   each : (at : TimeStep) (P : ℕ → Type 0) → ((c : ℕ) → c < cell_count m.grid → is_variable m at.period c ≡ true → P c) → All P (variable_cells m at.period)
-  each at P holds = All-from_get_or P (variable_cells m at.period) 0 (λ i lt. holds (variable_cell m at.period i) (variable_at m at valid.grid.size i lt).within (variable_at m at valid.grid.size i lt).passes)
+  each at P holds = All-from_get_or P (variable_cells m at.period) 0 (λ i lt. holds (variable_cell m at.period i) (variable_at m at valid.grid.size i lt).within
+      (variable_at m at valid.grid.size i lt).passes)
 
   of_each : (at : TimeStep) (P : ℕ → Type 0) → All P (variable_cells m at.period) → (c : ℕ) → c < cell_count m.grid → is_variable m at.period c ≡ true → P c
   of_each at P all c lt v = subst P (named m at valid.grid.size c v lt) (All-get_or P (variable_cells m at.period) (index_of m at.period c) 0 (index_within m at valid.grid.size c v lt) all)
@@ -49,7 +50,9 @@ module _ (m : FlowModel) (w : ConvertibleLayers) (valid : IsModel m) where
   in_order : (at : TimeStep) (d e : ℕ) (X Z : ℕ → ℤ) → All (λ c. AtMost (share d (X c)) (share e (Z c))) (variable_cells m at.period) → AreInOrder (heads_at m at d X) (heads_at m at e Z)
   in_order at d e X Z all c lt active =
       elim (cases_Bool (is_variable m at.period c)) [
-        | inl v ↦ subst (λ (f : Fraction). AtMost f (heads_at m at e Z c)) (sym (variable_at_head m at d X c v)) (subst (λ (f : Fraction). AtMost (share d (X c)) f) (sym (variable_at_head m at e Z c v)) (of_each at (λ c. AtMost (share d (X c)) (share e (Z c))) all c lt v))
+        | inl v ↦ subst (λ (f : Fraction). AtMost f (heads_at m at e Z c)) (sym (variable_at_head m at d X c v))
+            (subst (λ (f : Fraction). AtMost (share d (X c)) f) (sym (variable_at_head m at e Z c v))
+            (of_each at (λ c. AtMost (share d (X c)) (share e (Z c))) all c lt v))
         | inr k ↦
             let constant : is_constant m at.period c ≡ true = λ j. active j && not (k j) in
             AtMost-of (heads_at m at d X c) (heads_at m at e Z c) (known_at m at d X c constant ∙ sym (known_at m at e Z c constant))
@@ -70,12 +73,16 @@ module _ (m : FlowModel) (w : ConvertibleLayers) (valid : IsModel m) where
       over_low : All (λ c. AtMost (share (10 ^ 9) (pair.low c)) (share d (X c))) (variable_cells m at.period)
       over_low = greater_balances_lie_lower m w at old_low old (10 ^ 9) d pair.low X valid signs.low_gentle near.gentle
           (each at (λ c. AtMost (old_low c) (old c)) (λ c lt v. above_low c lt (variable_active m at.period c v)))
-          (each at (λ c. IsBelow (at_X c) (at_low c)) (λ c lt v. below_then (at_X c) (as_fraction unit) (at_low c) (of_each at (λ c. IsWithin unit (at_X c)) near.balances c lt v).0 (of_each at (λ c. GainsAtLeast unit (at_low c)) signs.low c lt v)))
+          (each at (λ c. IsBelow (at_X c) (at_low c)) (λ c lt v.
+          below_then (at_X c) (as_fraction unit) (at_low c) (of_each at (λ c. IsWithin unit (at_X c)) near.balances c lt v).0
+          (of_each at (λ c. GainsAtLeast unit (at_low c)) signs.low c lt v)))
 
       under_high : All (λ c. AtMost (share d (X c)) (share (10 ^ 9) (pair.high c))) (variable_cells m at.period)
       under_high = greater_balances_lie_lower m w at old old_high d (10 ^ 9) X pair.high valid near.gentle signs.high_gentle
           (each at (λ c. AtMost (old c) (old_high c)) (λ c lt v. below_high c lt (variable_active m at.period c v)))
-          (each at (λ c. IsBelow (at_high c) (at_X c)) (λ c lt v. then_below (at_high c) (opposite (as_fraction unit)) (at_X c) (of_each at (λ c. LosesAtLeast unit (at_high c)) signs.high c lt v) (of_each at (λ c. IsWithin unit (at_X c)) near.balances c lt v).1))
+          (each at (λ c. IsBelow (at_high c) (at_X c)) (λ c lt v.
+          then_below (at_high c) (opposite (as_fraction unit)) (at_X c) (of_each at (λ c. LosesAtLeast unit (at_high c)) signs.high c lt v)
+          (of_each at (λ c. IsWithin unit (at_X c)) near.balances c lt v).1))
 
       between : All (LiesInPair d X pair) (variable_cells m at.period)
       between = each at (LiesInPair d X pair) (λ c lt v. record {
@@ -125,8 +132,10 @@ module _ (m : FlowModel) (w : ConvertibleLayers) (valid : IsModel m) where
 
 pub signs_enclose_histories : SignsEncloseHistories
 signs_enclose_histories unit m w pairs d Xs valid signs near =
-    enclose_from m w valid unit d (times m) pairs Xs (start_head m) (start_head m) (start_head m) (λ c lt active. AtMost-of (start_head m c) (start_head m c) refl) (λ c lt active. AtMost-of (start_head m c) (start_head m c) refl) signs near.steps
+    enclose_from m w valid unit d (times m) pairs Xs (start_head m) (start_head m) (start_head m) (λ c lt active.
+    AtMost-of (start_head m c) (start_head m c) refl) (λ c lt active. AtMost-of (start_head m c) (start_head m c) refl) signs near.steps
 
 pub signs_enclose_flows : SignsEncloseFlows
 signs_enclose_flows unit m w pairs d Xs valid signs near =
-    flows_from m w valid unit d (times m) pairs Xs (start_head m) (start_head m) (start_head m) (λ c lt active. AtMost-of (start_head m c) (start_head m c) refl) (λ c lt active. AtMost-of (start_head m c) (start_head m c) refl) signs near.steps
+    flows_from m w valid unit d (times m) pairs Xs (start_head m) (start_head m) (start_head m) (λ c lt active.
+    AtMost-of (start_head m c) (start_head m c) refl) (λ c lt active. AtMost-of (start_head m c) (start_head m c) refl) signs near.steps

@@ -70,7 +70,9 @@ module _ (m : FlowModel) (at : TimeStep) (size : HasSize m.grid) where
           let inside = end_within m.grid here f size place.within g in
           let there : x.cell ≡ index_of m at.period f.end = sym (ap (λ (y : ExactLink). y.cell) e) in
           let at_end : variable_cell m at.period x.cell ≡ f.end = ap (variable_cell m at.period) there ∙ named f.end v inside in
-          let links : (cell_at step x.cell).links ≡ map (variable_branch m w at h) (variable_faces m at.period f.end) = ap (λ (y : ExactCell). y.links) (cell_is x.cell (in_range x j)) ∙ ap (λ c. map (variable_branch m w at h) (variable_faces m at.period c)) at_end in
+          let links : (cell_at step x.cell).links ≡ map (variable_branch m w at h) (variable_faces m at.period f.end) =
+          ap (λ (y : ExactCell). y.links) (cell_is x.cell (in_range x j)) ∙ ap (λ c.
+          map (variable_branch m w at h) (variable_faces m at.period c)) at_end in
           let member : In (variable_faces m at.period f.end) (turned here f) = passing_have m.grid test f.end (turned here f) (face_back m.grid here f size g) place.passes in
           record {
             back = variable_branch m w at h (turned here f);
@@ -81,7 +83,12 @@ module _ (m : FlowModel) (at : TimeStep) (size : HasSize m.grid) where
           }
 
       distinct : (a b : ℕ) → a < b → b < length (cell_at step i).links → (get_or (cell_at step i).links a no_link).cell ≡ (get_or (cell_at step i).links b no_link).cell → ⊥
-      distinct a b less k same = omega (arith, same, Ordered-at (λ (x y : ExactLink). x.cell < y.cell) (cell_at step i).links a b no_link (subst (Ordered (λ (x y : ExactLink). x.cell < y.cell)) (sym links_are) ordered) less k)
+      distinct a b less k same = omega (
+        arith,
+        same,
+        Ordered-at (λ (x y : ExactLink). x.cell < y.cell) (cell_at step i).links a b no_link
+            (subst (Ordered (λ (x y : ExactLink). x.cell < y.cell)) (sym links_are) ordered) less k,
+      )
 
     pub are_linked : AreLinked step
     are_linked = record {

@@ -35,12 +35,14 @@ module _ (m : FlowModel) (w : ConvertibleLayers) (valid : IsModel m) (p : ℕ) (
             subst (λ (f : ℕ). AtMost (times (as_fraction (conductance_at m w h x.axis f)) (minus (h x.end) (h i))) (times (as_fraction (conductance_at m w g x.axis f)) (minus (g x.end) (g i)))) same
             (over_before m w valid h g i x.end wet_i wet_j pair x.axis e into out (over_of x.end i x.axis e lt active_end active))
         | inr (has, first, end) ↦
-            subst (λ (f : ℕ). AtMost (times (as_fraction (conductance_at m w h x.axis f)) (minus (h x.end) (h i))) (times (as_fraction (conductance_at m w g x.axis f)) (minus (g x.end) (g i)))) (sym first)
+            subst (λ (f : ℕ). AtMost (times (as_fraction (conductance_at m w h x.axis f)) (minus (h x.end) (h i)))
+            (times (as_fraction (conductance_at m w g x.axis f)) (minus (g x.end) (g i)))) (sym first)
             (over_after m w valid h g i x.end wet_i wet_j pair x.axis end into out (over_of i x.end x.axis end lt' active active_end))
       ]
 
   -- a variable neighbour falls gently to i, as i does to it
-  pub variable_in_order : (i : ℕ) (x : Face) → i < cell_count m.grid → is_active m i ≡ true → is_active m x.end ≡ true → is_variable m p i ≡ true → IsFaceOf m.grid i x → is_variable m p x.end ≡ true → AtMost (g i) (h i) → AtMost (h x.end) (g x.end) →
+  pub variable_in_order : (i : ℕ) (x : Face) → i < cell_count m.grid → is_active m i ≡ true → is_active m x.end ≡ true → is_variable m p i ≡ true →
+      IsFaceOf m.grid i x → is_variable m p x.end ≡ true → AtMost (g i) (h i) → AtMost (h x.end) (g x.end) →
       AtMost (times (as_fraction (conductance_at m w h x.axis x.first)) (minus (h x.end) (h i))) (times (as_fraction (conductance_at m w g x.axis x.first)) (minus (g x.end) (g i)))
   variable_in_order i x lt active active_end variable face ends falls rises =
       let lt' = end_within m.grid i x valid.grid.size lt face in

@@ -26,7 +26,9 @@ unfoldable use Rattle.water_table.specs.{storage_flow}
 
 -- all that cell c gets by its own head v, but for storage
 abbrev own_flow : ExactCell → Fraction → Fraction
-own_flow e v = plus (fraction_total (λ x. x.flow) e.flows) (plus (fraction_total (fixed_flow v) e.fixed) (plus (fraction_total (river_flow v) e.rivers) (plus (fraction_total (drain_flow v) e.drains) (fraction_total (evap_flow v) e.evaps))))
+own_flow e v = plus (fraction_total (λ x. x.flow) e.flows)
+    (plus (fraction_total (fixed_flow v) e.fixed)
+    (plus (fraction_total (river_flow v) e.rivers) (plus (fraction_total (drain_flow v) e.drains) (fraction_total (evap_flow v) e.evaps))))
 
 own_over : (k m : ℕ) (e : ExactCell) (u : WholeCell) (v : Fraction) (y : ℤ) → IsOver m v y → CellOver k m e u → IsOver (k * m) (own_flow e v) (own_whole u y)
 own_over k m e u v y own o =
@@ -65,7 +67,8 @@ module _ (m : FlowModel) (w : ConvertibleLayers) (at : TimeStep) (valid : IsMode
     cell_over : (i : ℕ) → i < count → CellOver k d (convertible_cell m w at h (number i)) (whole_at s.cells i)
     cell_over i lt =
         let here : i < length (convertible_step m w at h) = omega (arith, lt, step_length m at valid.grid.size w h) in
-        subst (λ (e : ExactCell). CellOver k d e (whole_at s.cells i)) (cell_is m at valid.grid.size w h i here) (AllZip-at (CellOver k d) (convertible_step m w at h) s.cells i no_cell no_whole s.over here)
+        subst (λ (e : ExactCell). CellOver k d e (whole_at s.cells i)) (cell_is m at valid.grid.size w h i here)
+        (AllZip-at (CellOver k d) (convertible_step m w at h) s.cells i no_cell no_whole s.over here)
 
     cancel : (i j : ℕ) → i < count → j < count → flows.pair i j ≡ neg_ℤ (flows.pair j i)
     cancel i j a b = rw (both_ways.same i j (omega (arith, a, same_length)) (omega (arith, b, same_length))) (turned_flow (weight (whole_at s.cells j).links i) (s.Y j) (s.Y i))
@@ -84,7 +87,8 @@ module _ (m : FlowModel) (w : ConvertibleLayers) (at : TimeStep) (valid : IsMode
     balance_is_over : (i : ℕ) → i < count → IsOver (k * d) (water_balance m w at old h (number i)) (pair_balance count flows i)
     balance_is_over i lt =
         subst (λ (z : ℤ). IsOver (k * d) (water_balance m w at old h (number i)) z) (sym (balance_is i lt))
-        (IsOver-plus (k * d) _ _ _ _ (balance_over k d (h (number i)) (s.Y i) (s.heads i) (λ j. h (number j)) s.Y s.heads (convertible_cell m w at h (number i)) (whole_at s.cells i) (cell_over i lt)) (s.stores i lt))
+        (IsOver-plus (k * d) _ _ _ _ (balance_over k d (h (number i)) (s.Y i) (s.heads i) (λ j. h (number j)) s.Y s.heads (convertible_cell m w at h (number i))
+        (whole_at s.cells i) (cell_over i lt)) (s.stores i lt))
 
 -- A step at the heads h and at the heads g, both in whole numbers over one denominator.
 module _ (m : FlowModel) (w : ConvertibleLayers) (at : TimeStep) (valid : IsModel m) (old older h g : ℕ → Fraction) where
@@ -190,9 +194,13 @@ module _ (m : FlowModel) (w : ConvertibleLayers) (at : TimeStep) (valid : IsMode
           let eg = known_g x.end ends in
           let same : AtMost (h x.end) (g x.end) = AtMost-of (h x.end) (g x.end) (eh ∙ sym eg) in
           let back : AtMost (g x.end) (h x.end) = AtMost-of (g x.end) (h x.end) (eg ∙ sym eh) in
-          let fact = face_in_order m w valid at.period h g gentle_h gentle_g c x within active face active_end falls same (In-All (λ (f : Face). FallsGently m w g c f.axis f.end) (constant_faces m at.period c) x (gentle_g.falls c within variable).1 is_in) (inr back) in
-          subst (λ (f : Fraction). AtMost (times (as_fraction (conductance_at m w h x.axis x.first)) (minus f (h c))) (times (as_fraction (conductance_at m w g x.axis x.first)) (minus (constant_head m at.period at.step x.end) (g c)))) eh
-          (subst (λ (f : Fraction). AtMost (times (as_fraction (conductance_at m w h x.axis x.first)) (minus (h x.end) (h c))) (times (as_fraction (conductance_at m w g x.axis x.first)) (minus f (g c)))) eg fact)
+          let fact = face_in_order m w valid at.period h g gentle_h gentle_g c x within active face active_end falls same
+          (In-All (λ (f : Face). FallsGently m w g c f.axis f.end) (constant_faces m at.period c) x (gentle_g.falls c within variable).1 is_in)
+          (inr back) in
+          subst (λ (f : Fraction). AtMost (times (as_fraction (conductance_at m w h x.axis x.first)) (minus f (h c)))
+          (times (as_fraction (conductance_at m w g x.axis x.first)) (minus (constant_head m at.period at.step x.end) (g c)))) eh
+          (subst (λ (f : Fraction). AtMost (times (as_fraction (conductance_at m w h x.axis x.first)) (minus (h x.end) (h c)))
+          (times (as_fraction (conductance_at m w g x.axis x.first)) (minus f (g c)))) eg fact)
 
       own_falls : AtMost (own_flow (convertible_cell m w at h c) (h c)) (own_flow (convertible_cell m w at g c) (g c))
       own_falls =
@@ -220,8 +228,10 @@ module _ (m : FlowModel) (w : ConvertibleLayers) (at : TimeStep) (valid : IsMode
     own_in_order i lt less =
         let falls = fall_of i (omega (arith, ints, less)) in
         let o = over_le (both.k * both.d) _ _ _ _
-        (own_over both.k both.d (convertible_cell m w at h (named_cell i)) (whole_at both.at_h.cells i) (h (named_cell i)) (both.at_h.Y i) (both.at_h.heads i) (cell_over m w at valid both.k both.d old h both.at_h i lt))
-        (own_over both.k both.d (convertible_cell m w at g (named_cell i)) (whole_at both.at_g.cells i) (g (named_cell i)) (both.at_g.Y i) (both.at_g.heads i) (cell_over m w at valid both.k both.d older g both.at_g i lt)) (own_falls i lt falls) in
+        (own_over both.k both.d (convertible_cell m w at h (named_cell i)) (whole_at both.at_h.cells i) (h (named_cell i)) (both.at_h.Y i) (both.at_h.heads i)
+        (cell_over m w at valid both.k both.d old h both.at_h i lt))
+        (own_over both.k both.d (convertible_cell m w at g (named_cell i)) (whole_at both.at_g.cells i) (g (named_cell i)) (both.at_g.Y i) (both.at_g.heads i)
+        (cell_over m w at valid both.k both.d older g both.at_g i lt)) (own_falls i lt falls) in
         let s = over_le (both.k * both.d) _ _ _ _ (both.at_h.stores i lt) (both.at_g.stores i lt) (stored_falls i lt falls) in
         omega (arith, ints, o, s)
 
@@ -235,15 +245,19 @@ module _ (m : FlowModel) (w : ConvertibleLayers) (at : TimeStep) (valid : IsMode
         let head_h = subst (λ (e : ℕ). IsOver both.d (h e) (both.at_h.Y j)) at_end (both.at_h.heads j) in
         let head_g = subst (λ (e : ℕ). IsOver both.d (g e) (both.at_g.Y j)) at_end (both.at_g.heads j) in
         let rises = le_over both.d _ _ _ _ both.some_d head_h head_g le in
-        let fact = variable_in_order m w valid at.period h g gentle_h gentle_g (named_cell i) x (within i lt falls) (active i lt falls) (variable_active m at.period x.end ends) (variable i lt falls) face ends falls rises in
+        let fact = variable_in_order m w valid at.period h g gentle_h gentle_g (named_cell i) x (within i lt falls) (active i lt falls)
+        (variable_active m at.period x.end ends) (variable i lt falls) face ends falls rises in
         over_le (both.k * both.d) _ _ _ _ (IsOver-times both.k both.d _ _ _ _ (IsOver-signed both.k _ c share) (IsOver-minus both.d _ _ _ _ head_h (both.at_h.heads i)))
         (IsOver-times both.k both.d _ _ _ _ (IsOver-signed both.k _ c' share') (IsOver-minus both.d _ _ _ _ head_g (both.at_g.heads i))) fact
 
     pair_in_order : (i j : ℕ) → i < n → j < n → both.at_g.Y i <ℤ both.at_h.Y i → both.at_h.Y j ≤ℤ both.at_g.Y j → F.pair i j ≤ℤ G.pair i j
     pair_in_order i j lt lt' less le =
-        weights_in_order both.k both.d j (variable_branch m w at h) (variable_branch m w at g) (both.at_h.Y j -ℤ both.at_h.Y i) (both.at_g.Y j -ℤ both.at_g.Y i) (λ s. refl) (variable_faces m at.period (named_cell i))
-        (whole_at both.at_h.cells i).links (whole_at both.at_g.cells i).links (cell_over m w at valid both.k both.d old h both.at_h i lt).links (cell_over m w at valid both.k both.d older g both.at_g i lt).links
-        (All-In (EachInOrder both.k both.d j (variable_branch m w at h) (variable_branch m w at g) (both.at_h.Y j -ℤ both.at_h.Y i) (both.at_g.Y j -ℤ both.at_g.Y i) (λ s. refl)) (variable_faces m at.period (named_cell i)) (link_in_order i j lt less le))
+        weights_in_order both.k both.d j (variable_branch m w at h) (variable_branch m w at g) (both.at_h.Y j -ℤ both.at_h.Y i) (both.at_g.Y j -ℤ both.at_g.Y i)
+        (λ s. refl) (variable_faces m at.period (named_cell i))
+        (whole_at both.at_h.cells i).links (whole_at both.at_g.cells i).links (cell_over m w at valid both.k both.d old h both.at_h i lt).links
+        (cell_over m w at valid both.k both.d older g both.at_g i lt).links
+        (All-In (EachInOrder both.k both.d j (variable_branch m w at h) (variable_branch m w at g) (both.at_h.Y j -ℤ both.at_h.Y i)
+        (both.at_g.Y j -ℤ both.at_g.Y i) (λ s. refl)) (variable_faces m at.period (named_cell i)) (link_in_order i j lt less le))
 
     comparable : AreComparable n both.at_h.Y both.at_g.Y F G
     comparable = record {
@@ -255,19 +269,23 @@ module _ (m : FlowModel) (w : ConvertibleLayers) (at : TimeStep) (valid : IsMode
     pub heads_in_order : All (λ c. IsBelow (water_balance m w at older g c) (water_balance m w at old h c)) (variable_cells m at.period) → All (λ c. AtMost (h c) (g c)) (variable_cells m at.period)
     heads_in_order gains = All-from_get_or (λ c. AtMost (h c) (g c)) (variable_cells m at.period) 0 (λ i lt.
         le_over both.d _ _ _ _ both.some_d (both.at_h.heads i) (both.at_g.heads i) (pairs_lie_lower n both.at_h.Y both.at_g.Y F G comparable
-        (λ j lt' higher. below_over (both.k * both.d) _ _ _ _ both.some (balance_is_over m w at valid both.k both.d older g both.at_g j lt') (balance_is_over m w at valid both.k both.d old h both.at_h j lt')
+        (λ j lt' higher. below_over (both.k * both.d) _ _ _ _ both.some (balance_is_over m w at valid both.k both.d older g both.at_g j lt')
+        (balance_is_over m w at valid both.k both.d old h both.at_h j lt')
         (All-get_or (λ c. IsBelow (water_balance m w at older g c) (water_balance m w at old h c)) (variable_cells m at.period) j 0 lt' gains)) i lt))
 
     -- each flow that follows from a cell's own head
     pub own_flows_at_most : All (λ c. AtMost (g c) (h c)) (variable_cells m at.period) → All (OwnFlowsAreAtMost m w at old h older g) (variable_cells m at.period)
-    own_flows_at_most below = All-from_get_or (OwnFlowsAreAtMost m w at old h older g) (variable_cells m at.period) 0 (λ i lt. at_index i lt (All-get_or (λ c. AtMost (g c) (h c)) (variable_cells m at.period) i 0 lt below))
+    own_flows_at_most below = All-from_get_or (OwnFlowsAreAtMost m w at old h older g) (variable_cells m at.period) 0 (λ i lt.
+        at_index i lt (All-get_or (λ c. AtMost (g c) (h c)) (variable_cells m at.period) i 0 lt below))
       where
         of_all : {X : Type 0} (P : X → Type 0) (xs : List X) → ((x : X) → P x) → All P xs
         of_all P xs each = All-In P xs (λ x is_in. each x)
 
         at_index : (i : ℕ) → i < n → AtMost (g (named_cell i)) (h (named_cell i)) → OwnFlowsAreAtMost m w at old h older g (named_cell i)
         at_index i lt falls = record {
-          constants = All-In (λ (x : Face). AtMost (fixed_flow (h (named_cell i)) (constant_branch m w at h x)) (fixed_flow (g (named_cell i)) (constant_branch m w at g x))) (constant_faces m at.period (named_cell i)) (constant_falls i lt falls);
+          constants = All-In (λ (x : Face).
+              AtMost (fixed_flow (h (named_cell i)) (constant_branch m w at h x)) (fixed_flow (g (named_cell i)) (constant_branch m w at g x)))
+              (constant_faces m at.period (named_cell i)) (constant_falls i lt falls);
           generals = of_all (λ x. AtMost (fixed_flow (h (named_cell i)) x) (fixed_flow (g (named_cell i)) x)) _ (fixed_falls (h (named_cell i)) (g (named_cell i)) falls);
           rivers = of_all (λ x. AtMost (river_flow (h (named_cell i)) x) (river_flow (g (named_cell i)) x)) _ (river_falls (h (named_cell i)) (g (named_cell i)) falls);
           drains = of_all (λ x. AtMost (drain_flow (h (named_cell i)) x) (drain_flow (g (named_cell i)) x)) _ (drain_falls (h (named_cell i)) (g (named_cell i)) falls);
@@ -280,7 +298,8 @@ pub known_at : (m : FlowModel) (at : TimeStep) (d : ℕ) (X : ℕ → ℤ) (c : 
 known_at m at d X c e = cond-true (is_constant m at.period c) _ _ e
 
 pub variable_at_head : (m : FlowModel) (at : TimeStep) (d : ℕ) (X : ℕ → ℤ) (c : ℕ) → is_variable m at.period c ≡ true → heads_at m at d X c ≡ share d (X c)
-variable_at_head m at d X c e = ap (λ (b : Bool). cond (is_active m c && not b) (constant_head m at.period at.step c) (share d (X c))) e ∙ cond-false (is_active m c && false) _ _ (none (is_active m c))
+variable_at_head m at d X c e = ap (λ (b : Bool). cond (is_active m c && not b) (constant_head m at.period at.step c) (share d (X c))) e ∙ cond-false
+    (is_active m c && false) _ _ (none (is_active m c))
   where
     none : (b : Bool) → (b && false) ≡ false
     none true = refl

@@ -68,7 +68,8 @@ module _ (m : FlowModel) (w : ConvertibleLayers) where
     full_h le (inl e) = thick_stays (is_convertible m w c) s.cell.T s.cell.B s.y s.z (inl e) (inl e)
     full_h le (inr f) = let k = over_le M _ _ _ _ s.cell.top s.is_z f in thick_stays (is_convertible m w c) s.cell.T s.cell.B s.y s.z (inr (omega (arith, ints, k, le))) (inr k)
 
-  cell_at : (h g : ℕ → Fraction) (M c : ℕ) → 0 < M → (valid : IsModel m) → IsWetCell h g c → (z y T B : ℤ) → IsOver M (h c) z → IsOver M (g c) y → IsOver M (number (top_at m c)) T → IsOver M (number (bottom_at m c)) B → CellAt h g M c
+  cell_at : (h g : ℕ → Fraction) (M c : ℕ) → 0 < M → (valid : IsModel m) → IsWetCell h g c → (z y T B : ℤ) → IsOver M (h c) z → IsOver M (g c) y →
+      IsOver M (number (top_at m c)) T → IsOver M (number (bottom_at m c)) B → CellAt h g M c
   cell_at h g M c some valid wet z y T B oz oy ot ob = record {
     cell = record { T = T; B = B; top = ot; bottom = ob; room = below_over M _ _ _ _ some ob ot (room m valid c wet.within wet.active) };
     z = z;

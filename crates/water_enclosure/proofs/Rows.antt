@@ -59,7 +59,8 @@ abbrev pub part : Ratio → Ratio → Ratio → Ratio → ℕ
 part d t d' t' = den d * t.num * (d'.num * den t')
 
 pub series_share : (d w k s d' w' k' s' : Ratio) (S S' M : ℕ) → 0 < (times (times two w) k).num → 0 < (times (times two w') k').num → 0 < d.num → 0 < S → 0 < S' → IsShare M s S → IsShare M s' S' →
-    IsShare ((part d (times (times two w) k) d' (times (times two w') k') * S + part d' (times (times two w') k') d (times (times two w) k) * S') * (d.num * den (times (times two w) k) * (d'.num * den (times (times two w') k')) * M))
+    IsShare ((part d (times (times two w) k) d' (times (times two w') k') * S + part d' (times (times two w') k') d (times (times two w) k) * S') *
+    (d.num * den (times (times two w) k) * (d'.num * den (times (times two w') k')) * M))
     (in_a_row (half d w k s) (half d' w' k' s'))
     (part d (times (times two w) k) d' (times (times two w') k') * S * (part d' (times (times two w') k') d (times (times two w) k) * S'))
 unfolding in_a_row
@@ -73,8 +74,11 @@ series_share d w k s d' w' k' s' S S' M some some' long thick thick' p p' =
     let other = half_value d' w' k' s' some' wet' in
     let sum = value_plus one_half other in
     let a = half_cross d.num (den d) t.num (den t) s.num (den s) S M (d'.num * den t') p.is in
-    let b : d'.num * (den t' * den s') * (den d' * t'.num * (d.num * den t) * S') ≡ den d' * (t'.num * s'.num) * E = half_cross d'.num (den d') t'.num (den t') s'.num (den s') S' M (d.num * den t) p'.is ∙ turn (den d' * (t'.num * s'.num)) (d'.num * den t') (d.num * den t) M in
-    let whole = value_over (positive (d.num * (den t * den s)) (den d' * (t'.num * s'.num)) (d'.num * (den t' * den s')) (den d * (t.num * s.num)) (mul-pos long (mul-pos (omega arith) (omega arith))) (mul-pos (omega arith) (mul-pos some' wet'))) value_one sum in
+    let b : d'.num * (den t' * den s') * (den d' * t'.num * (d.num * den t) * S') ≡ den d' * (t'.num * s'.num) * E =
+    half_cross d'.num (den d') t'.num (den t') s'.num (den s') S' M (d.num * den t) p'.is ∙ turn (den d' * (t'.num * s'.num)) (d'.num * den t')
+    (d.num * den t) M in
+    let whole = value_over (positive (d.num * (den t * den s)) (den d' * (t'.num * s'.num)) (d'.num * (den t' * den s')) (den d * (t.num * s.num))
+    (mul-pos long (mul-pos (omega arith) (omega arith))) (mul-pos (omega arith) (mul-pos some' wet'))) value_one sum in
     record {
       is = ap (λ (z : ℕ). z * ((part d t d' t' * S + part d' t' d t * S') * E)) whole.num
           ∙ series_cross (d.num * (den t * den s)) (den d * (t.num * s.num)) (d'.num * (den t' * den s')) (den d' * (t'.num * s'.num)) (part d t d' t' * S) (part d' t' d t * S') E a b
@@ -94,11 +98,13 @@ pub row_flows_in_order : (p q E Si Sj Ti Tj : ℕ) (zi zj yi yj : ℤ) → yi �
     ((pos (p * Si * (q * Sj)) *ℤ (zj -ℤ zi)) *ℤ pos ((p * Ti + q * Tj) * E)) ≤ℤ ((pos (p * Ti * (q * Tj)) *ℤ (yj -ℤ yi)) *ℤ pos ((p * Si + q * Sj) * E))
 row_flows_in_order p q E Si Sj Ti Tj zi zj yi yj falls rises thinner thicker part part' some some' into out =
     flows_in_order (p * Si * (q * Sj)) (p * Ti * (q * Tj)) ((p * Si + q * Sj) * E) ((p * Ti + q * Tj) * E) (zj -ℤ zi) (yj -ℤ yi) (omega (arith, ints, falls, rises))
-    (λ d d' e e'. spread_in p q E Si Sj Ti Tj d d' (thicknesses_keep_order q p Sj Tj Si Ti d d' thicker thinner (omega (arith, ints, e, e', falls, rises)) (omega (arith, ints, e, e', part, falls, rises)) some (elim into [
+    (λ d d' e e'. spread_in p q E Si Sj Ti Tj d d' (thicknesses_keep_order q p Sj Tj Si Ti d d' thicker thinner (omega (arith, ints, e, e', falls, rises))
+    (omega (arith, ints, e, e', part, falls, rises)) some (elim into [
       | inl gentle ↦ inl (omega (arith, ints, gentle, e'))
       | inr stays ↦ inr stays
     ])))
-    (λ d d' e e'. spread_out p q E Si Sj Ti Tj d d' (thicknesses_keep_order p q Ti Si Tj Sj d' d thinner thicker (omega (arith, ints, e, e', falls, rises)) (omega (arith, ints, e, e', part', falls, rises)) some' (elim out [
+    (λ d d' e e'. spread_out p q E Si Sj Ti Tj d d' (thicknesses_keep_order p q Ti Si Tj Sj d' d thinner thicker (omega (arith, ints, e, e', falls, rises))
+    (omega (arith, ints, e, e', part', falls, rises)) some' (elim out [
       | inl gentle ↦ inl (omega (arith, ints, gentle, e))
       | inr stays ↦ inr stays
     ])))

@@ -43,7 +43,8 @@ thick_stays true T B z z' (inr h) (inr h') = ap (λ (x : ℤ). unsigned_abs (x -
 -- from the head z to a head at or above the bottom the fall is within the thickness, or the thickness stays if the head rises
 pub thick_to_bottom : (b : Bool) (T B z z' low : ℤ) → B <ℤ T → (b ≡ true → B <ℤ z) → (b ≡ true → B ≤ℤ low) → z ≤ℤ z' → ((z -ℤ low) ≤ℤ pos (thick b T B z)) ⊎ (thick b T B z ≡ thick b T B z')
 thick_to_bottom false T B z z' low room wet over le = inr refl
-thick_to_bottom true T B z z' low room wet over le = by_lt_z z T (λ partly. inl (omega (arith, ints, clamps, room, wet refl, over refl, partly))) (λ full. inr (thick_stays true T B z z' (inr full) (inr (omega (arith, ints, full, le)))))
+thick_to_bottom true T B z z' low room wet over le = by_lt_z z T (λ partly. inl (omega (arith, ints, clamps, room, wet refl, over refl, partly))) (λ full.
+    inr (thick_stays true T B z z' (inr full) (inr (omega (arith, ints, full, le)))))
 
 module _ (m : FlowModel) (w : ConvertibleLayers) (c : ℕ) where
   -- a cell's top and bottom over M
@@ -63,5 +64,6 @@ module _ (m : FlowModel) (w : ConvertibleLayers) (c : ℕ) where
   thick_share M some s h z o wet = by_layer (is_convertible m w c) wet
     where
       by_layer : (b : Bool) → (b ≡ true → s.B <ℤ z) → IsShare M (cond b (gap (lesser (h c) (number (top_at m c))) (number (bottom_at m c))) (thickness m c)) (thick b s.T s.B z)
-      by_layer true wet = gap_share M (lesser (h c) (number (top_at m c))) (number (bottom_at m c)) (int_min z s.T) s.B some (IsOver-lesser M (h c) (number (top_at m c)) z s.T o s.top) s.bottom (let r = s.room in let q = wet refl in omega (arith, ints, clamps, r, q))
+      by_layer true wet = gap_share M (lesser (h c) (number (top_at m c))) (number (bottom_at m c)) (int_min z s.T) s.B some
+          (IsOver-lesser M (h c) (number (top_at m c)) z s.T o s.top) s.bottom (let r = s.room in let q = wet refl in omega (arith, ints, clamps, r, q))
       by_layer false wet = gap_share M (number (top_at m c)) (number (bottom_at m c)) s.T s.B some s.top s.bottom (let r = s.room in omega (arith, ints, r))

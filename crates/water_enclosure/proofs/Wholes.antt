@@ -22,7 +22,8 @@ abbrev pub own_whole : WholeCell → ℤ → ℤ
 own_whole w y = total (λ q. q) w.flows +ℤ (total (whole_fixed y) w.fixed +ℤ (total (whole_river y) w.rivers +ℤ (total (whole_drain y) w.drains +ℤ total (whole_evap y) w.evaps)))
 
 pub apart : (w : WholeCell) (y : ℤ) (Y : ℕ → ℤ) → whole_balance w y Y ≡ own_whole w y +ℤ total (whole_link Y y) w.links
-apart w y Y = six (total (λ q. q) w.flows) (total (whole_link Y y) w.links) (total (whole_fixed y) w.fixed) (total (whole_river y) w.rivers) (total (whole_drain y) w.drains) (total (whole_evap y) w.evaps)
+apart w y Y = six (total (λ q. q) w.flows) (total (whole_link Y y) w.links) (total (whole_fixed y) w.fixed) (total (whole_river y) w.rivers)
+    (total (whole_drain y) w.drains) (total (whole_evap y) w.evaps)
   where
     six : (a b c d e f : ℤ) → a +ℤ b +ℤ c +ℤ d +ℤ e +ℤ f ≡ a +ℤ (c +ℤ (d +ℤ (e +ℤ f))) +ℤ b
     six a b c d e f = omega (arith, ints)
@@ -40,7 +41,8 @@ module _ {S : Type 0} (k m j : ℕ) (a b : S → ExactLink) (D D' : ℤ) (same :
   abbrev pub EachInOrder : S → Type 0
   EachInOrder s = (a s).cell ≡ j → (c c' : ℕ) → IsShare k (a s).conductance c → IsShare k (b s).conductance c' → (pos c *ℤ D) ≤ℤ (pos c' *ℤ D')
 
-  pub weights_in_order : (xs : List S) (ws ws' : List WholeLink) → AllZip (LinkOver k m) (map a xs) ws → AllZip (LinkOver k m) (map b xs) ws' → All EachInOrder xs → (weight ws j *ℤ D) ≤ℤ (weight ws' j *ℤ D')
+  pub weights_in_order : (xs : List S) (ws ws' : List WholeLink) → AllZip (LinkOver k m) (map a xs) ws → AllZip (LinkOver k m) (map b xs) ws' →
+      All EachInOrder xs → (weight ws j *ℤ D) ≤ℤ (weight ws' j *ℤ D')
   weights_in_order [] [] [] z z' each = rw (zero-*ℤ D, zero-*ℤ D') (omega (arith, ints))
   weights_in_order [] (v ∷ ws) ws' z z' each = absurd z
   weights_in_order [] [] (v ∷ ws') z z' each = absurd z'

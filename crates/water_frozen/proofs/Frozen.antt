@@ -31,13 +31,16 @@ module _ (m f : FlowModel) (w : ConvertibleLayers) (l : ℕ → ℤ) (p : ℕ) (
   -- a convertible cell right below an active one is full
   full_below : (u : ℕ) → u + layer_size m.grid < cell_count m.grid → is_active m u ≡ true → is_active m (u + layer_size m.grid) ≡ true → is_convertible m w (u + layer_size m.grid) ≡ true →
       AtMost (number (top_at m (u + layer_size m.grid))) (h (u + layer_size m.grid))
-  full_below u lt upper lower converts = AtMost-trans (tops_below m valid u lt upper lower) (gentle.over_bottom u lt upper lower (or_right (is_convertible m w u) (is_convertible m w (u + layer_size m.grid)) converts))
+  full_below u lt upper lower converts = AtMost-trans (tops_below m valid u lt upper lower)
+      (gentle.over_bottom u lt upper lower (or_right (is_convertible m w u) (is_convertible m w (u + layer_size m.grid)) converts))
 
   full_under : (c : ℕ) → c < cell_count m.grid → is_active m c ≡ true → is_convertible m w c ≡ true → is_covered m c ≡ true → AtMost (number (top_at m c)) (h c)
   full_under c lt active converts covered =
       let (past, upper) = and_parts (not (nat_lt c (layer_size m.grid))) _ covered in
       let back : c - layer_size m.grid + layer_size m.grid ≡ c = omega (arith, at_least c (layer_size m.grid) past) in
-      subst (λ (x : ℕ). AtMost (number (top_at m x)) (h x)) back (full_below (c - layer_size m.grid) (omega (arith, back, lt)) upper (subst (λ (x : ℕ). is_active m x ≡ true) (sym back) active) (subst (λ (x : ℕ). is_convertible m w x ≡ true) (sym back) converts))
+      subst (λ (x : ℕ). AtMost (number (top_at m x)) (h x)) back
+      (full_below (c - layer_size m.grid) (omega (arith, back, lt)) upper (subst (λ (x : ℕ). is_active m x ≡ true) (sym back) active)
+      (subst (λ (x : ℕ). is_convertible m w x ≡ true) (sym back) converts))
 
   module _ (c : ℕ) (lt : c < cell_count m.grid) (active : is_active m c ≡ true) where
     abbrev top : Fraction
@@ -69,8 +72,11 @@ module _ (m f : FlowModel) (w : ConvertibleLayers) (l : ℕ → ℤ) (p : ℕ) (
     by_layer = elim (cases_Bool (is_convertible m w c)) [
       | inr e ↦ Same-of (kept (λ j. e j && not (is_covered m c)) ∙ ap sat_by (sym e))
       | inl e ↦ subst (λ (b : Bool). Same (thickness f c) (sat_by b)) (sym e) (elim (cases_Bool (is_covered m c)) [
-        | inl k ↦ subst (λ (r : Ratio). Same r (gap (lesser (h c) top) bottom)) (sym (kept (λ j. e j && not (k j)))) (gap_same top (lesser (h c) top) bottom (lesser_full (h c) top (full_under c lt active e k)) (weakly bottom top below_top))
-        | inr k ↦ subst (λ (r : Ratio). Same r (gap (lesser (h c) top) bottom)) (sym frozen_thick) (Same-sym (gap_same (lesser (h c) top) (number (top_at f c)) bottom (FractionSame-sym (z.water_table c active (λ j. e j && not (k j)))) (weakly _ _ (wet_lesser e))))
+        | inl k ↦ subst (λ (r : Ratio). Same r (gap (lesser (h c) top) bottom)) (sym (kept (λ j. e j && not (k j))))
+            (gap_same top (lesser (h c) top) bottom (lesser_full (h c) top (full_under c lt active e k)) (weakly bottom top below_top))
+        | inr k ↦ subst (λ (r : Ratio). Same r (gap (lesser (h c) top) bottom)) (sym frozen_thick)
+            (Same-sym (gap_same (lesser (h c) top) (number (top_at f c)) bottom (FractionSame-sym (z.water_table c active (λ j. e j && not (k j))))
+            (weakly _ _ (wet_lesser e))))
       ])
     ]
 
@@ -113,7 +119,8 @@ module _ (m f : FlowModel) (w : ConvertibleLayers) (l : ℕ → ℤ) (p : ℕ) (
 
     column_is : column_conductance f a b ≡ column_branch m (thickness f) a b
     unfolding column_conductance column_branch
-    column_is = λ j. in_a_row (half (size (delc_is a j)) (size (delr_is a j)) (times (size (hk_is a j)) (size (hani_is a j))) (thickness f a)) (half (size (delc_is b j)) (size (delr_is a j)) (times (size (hk_is b j)) (size (hani_is b j))) (thickness f b))
+    column_is = λ j. in_a_row (half (size (delc_is a j)) (size (delr_is a j)) (times (size (hk_is a j)) (size (hani_is a j))) (thickness f a))
+        (half (size (delc_is b j)) (size (delr_is a j)) (times (size (hk_is b j)) (size (hani_is b j))) (thickness f b))
 
     row_same : Same (row_branch m (thickness f) a b) (row_branch m (saturated_thickness m w h) a b)
     unfolding row_branch half
@@ -184,6 +191,9 @@ pub frozen_branches_are_at_heads : FrozenBranchesAreAtHeads
 frozen_branches_are_at_heads m f w l p valid z gentle Row a lt lt' active active' =
     Same-trans (Same-of (row_is m f w l p valid z gentle a (a + 1) lt lt' active active')) (row_same m f w l p valid z gentle a (a + 1) lt lt' active active')
 frozen_branches_are_at_heads m f w l p valid z gentle Column a lt lt' active active' =
-    Same-trans (Same-of (ap (λ (x : ℕ). column_conductance f a (a + x)) z.cols ∙ column_is m f w l p valid z gentle a (a + m.grid.cols) lt lt' active active')) (column_same m f w l p valid z gentle a (a + m.grid.cols) lt lt' active active')
+    Same-trans (Same-of (ap (λ (x : ℕ). column_conductance f a (a + x)) z.cols ∙ column_is m f w l p valid z gentle a (a + m.grid.cols) lt lt' active active'))
+    (column_same m f w l p valid z gentle a (a + m.grid.cols) lt lt' active active')
 frozen_branches_are_at_heads m f w l p valid z gentle Vertical a lt lt' active active' =
-    Same-trans (Same-of (ap (λ (x : ℕ). vertical_conductance f a (a + x)) (size_is m f w l p valid z gentle a lt lt' active active') ∙ vertical_is m f w l p valid z gentle a lt lt' active active')) (vertical_same m f w l p valid z gentle a lt lt' active active')
+    Same-trans (Same-of (ap (λ (x : ℕ). vertical_conductance f a (a + x))
+    (size_is m f w l p valid z gentle a lt lt' active active') ∙ vertical_is m f w l p valid z gentle a lt lt' active active'))
+    (vertical_same m f w l p valid z gentle a lt lt' active active')

@@ -77,5 +77,7 @@ module _ where
 pub way_same : (area k k' bed t t' v v' : Ratio) → 0 < k.num → 0 < k'.num → 0 < t.num → 0 < t'.num → Same t t' → Same v v' →
     Same (over area (plus (plus (over (over t two) k) bed) (over (over v two) k'))) (over area (plus (plus (over (over t' two) k) bed) (over (over v' two) k')))
 way_same area k k' bed t t' v v' some some' thick thick' s z =
-    over-Same (plus-positive _ _ (plus-positive _ _ (over-positive _ _ (over-positive _ _ thick)))) (plus-positive _ _ (plus-positive _ _ (over-positive _ _ (over-positive _ _ thick')))) (Same-self area)
-    (plus-Same (plus-Same (over-Same some some (over-Same two_some two_some s (Same-self two)) (Same-self k)) (Same-self bed)) (over-Same some' some' (over-Same two_some two_some z (Same-self two)) (Same-self k')))
+    over-Same (plus-positive _ _ (plus-positive _ _ (over-positive _ _ (over-positive _ _ thick))))
+    (plus-positive _ _ (plus-positive _ _ (over-positive _ _ (over-positive _ _ thick')))) (Same-self area)
+    (plus-Same (plus-Same (over-Same some some (over-Same two_some two_some s (Same-self two)) (Same-self k)) (Same-self bed))
+    (over-Same some' some' (over-Same two_some two_some z (Same-self two)) (Same-self k')))

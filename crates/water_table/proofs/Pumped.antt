@@ -46,7 +46,9 @@ timed = record {
 
 valid : IsModel pumped_model
 valid = row_valid (negsuc 0 ∷ pos 1 ∷ negsuc 0 ∷ []) (decimal 1 0 ∷ no_number ∷ decimal 1 0 ∷ []) [] true (decimal 1 0) 1 (Well (cell 1) pumping ∷ []) 3 (omega arith) (omega arith)
-    (All-cons IsHeadNumber (decimal 1 0) (no_number ∷ decimal 1 0 ∷ []) one_head (All-cons IsHeadNumber no_number (decimal 1 0 ∷ []) zero_head (All-cons IsHeadNumber (decimal 1 0) [] one_head (All-nil IsHeadNumber)))) (All-nil IsNotNegative)
+    (All-cons IsHeadNumber (decimal 1 0) (no_number ∷ decimal 1 0 ∷ []) one_head
+    (All-cons IsHeadNumber no_number (decimal 1 0 ∷ []) zero_head (All-cons IsHeadNumber (decimal 1 0) [] one_head (All-nil IsHeadNumber))))
+    (All-nil IsNotNegative)
     refl refl (inl refl) timed (omega arith)
     (record { few = omega arith; entries = All-cons (IsEntryValid 3) (Well (cell 1) pumping) [] (omega arith, pumping_dec) (All-nil (IsEntryValid 3)) })
 
@@ -79,7 +81,11 @@ module _ (h : ℕ → Fraction) where
     falls : (c : ℕ) → c < 3 → is_variable pumped_model 1 c ≡ true → All (Falls c) (variable_faces pumped_model 1 c) × All (Falls c) (constant_faces pumped_model 1 c)
     unfolding given_in
     falls zero k v = absurd (false≢true v)
-    falls (suc zero) k v = (All-nil (Falls 1), All-cons (Falls 1) (record { axis = Row; first = 0; end = 0 }) (record { axis = Row; first = 1; end = 2 } ∷ []) (inr left) (All-cons (Falls 1) (record { axis = Row; first = 1; end = 2 }) [] (inr right) (All-nil (Falls 1))))
+    falls (suc zero) k v = (
+      All-nil (Falls 1),
+      All-cons (Falls 1) (record { axis = Row; first = 0; end = 0 }) (record { axis = Row; first = 1; end = 2 } ∷ [])
+          (inr left) (All-cons (Falls 1) (record { axis = Row; first = 1; end = 2 }) [] (inr right) (All-nil (Falls 1))),
+    )
     falls (suc (suc zero)) k v = absurd (false≢true v)
     falls (suc (suc (suc c))) k v = absurd (omega (arith, k))
 
@@ -88,7 +94,8 @@ module _ (h : ℕ → Fraction) where
 
 gentle : IsGentle pumped_model pumped_layers 1 (middle_head (pos 60))
 unfolding given_in constant_head saturated_thickness scaled_ratio ratio times
-gentle = gentle_by (middle_head (pos 60)) (record { below = omega (arith, ints) }) (record { below = omega (arith, ints) }) (record { below = omega (arith, ints) }) (record { at_most = omega (arith, ints) }) (record { at_most = omega (arith, ints) })
+gentle = gentle_by (middle_head (pos 60)) (record { below = omega (arith, ints) }) (record { below = omega (arith, ints) })
+    (record { below = omega (arith, ints) }) (record { at_most = omega (arith, ints) }) (record { at_most = omega (arith, ints) })
 
 -- at 0.25 m the cell isn't full, and the fall of 0.75 m isn't within it
 too_steep : FallsGently pumped_model pumped_layers (middle_head (pos 25)) 1 Row 0 → ⊥
@@ -99,15 +106,18 @@ too_steep (inr within) = omega (arith, ints, within.at_most)
 
 steep : IsGentle pumped_model pumped_layers 1 (middle_head (pos 25)) → ⊥
 unfolding given_in
-steep g = too_steep (All-head (λ x. FallsGently pumped_model pumped_layers (middle_head (pos 25)) 1 x.axis x.end) (record { axis = Row; first = 0; end = 0 }) (record { axis = Row; first = 1; end = 2 } ∷ []) (g.falls 1 (omega arith) refl).1)
+steep g = too_steep (All-head (λ x. FallsGently pumped_model pumped_layers (middle_head (pos 25)) 1 x.axis x.end) (record { axis = Row; first = 0; end = 0 })
+    (record { axis = Row; first = 1; end = 2 } ∷ []) (g.falls 1 (omega arith) refl).1)
 
 low_gentle : IsGentle pumped_model pumped_layers 1 (listed_heads pumped_model only_step narrow_pair.low)
 unfolding given_in constant_head saturated_thickness scaled_ratio ratio times
-low_gentle = gentle_by (listed_heads pumped_model only_step narrow_pair.low) (record { below = omega (arith, ints) }) (record { below = omega (arith, ints) }) (record { below = omega (arith, ints) }) (record { at_most = omega (arith, ints) }) (record { at_most = omega (arith, ints) })
+low_gentle = gentle_by (listed_heads pumped_model only_step narrow_pair.low) (record { below = omega (arith, ints) }) (record { below = omega (arith, ints) })
+    (record { below = omega (arith, ints) }) (record { at_most = omega (arith, ints) }) (record { at_most = omega (arith, ints) })
 
 high_gentle : IsGentle pumped_model pumped_layers 1 (listed_heads pumped_model only_step narrow_pair.high)
 unfolding given_in constant_head saturated_thickness scaled_ratio ratio times
-high_gentle = gentle_by (listed_heads pumped_model only_step narrow_pair.high) (record { below = omega (arith, ints) }) (record { below = omega (arith, ints) }) (record { below = omega (arith, ints) }) (record { at_most = omega (arith, ints) }) (record { at_most = omega (arith, ints) })
+high_gentle = gentle_by (listed_heads pumped_model only_step narrow_pair.high) (record { below = omega (arith, ints) }) (record { below = omega (arith, ints) })
+    (record { below = omega (arith, ints) }) (record { at_most = omega (arith, ints) }) (record { at_most = omega (arith, ints) })
 
 gains : GainsAtLeast (ratio 1 (10 ^ 9)) (water_balance pumped_model pumped_layers only_step (start_head pumped_model) (listed_heads pumped_model only_step narrow_pair.low) 1)
 unfolding variable_below given_in constant_head row_branch saturated_thickness in_a_row half entries_of scaled_ratio ratio plus times over storage_flow
@@ -146,7 +156,15 @@ solved : NearlySolves (ratio 1 (10 ^ 9)) pumped_model pumped_layers 100 (middle_
 unfolding all_times ratio
 solved = record {
   some = omega arith;
-  steps = (record { gentle = gentle; balances = all_one (λ c. IsWithin (ratio 1 (10 ^ 9)) (water_balance pumped_model pumped_layers only_step (start_head pumped_model) (middle_head (pos 60)) c)) (none_within (ratio 1 (10 ^ 9)) (middle_balance (pos 60)) (omega arith) high) }, tt);
+  steps = (
+    record {
+      gentle = gentle;
+      balances =
+          all_one (λ c. IsWithin (ratio 1 (10 ^ 9)) (water_balance pumped_model pumped_layers only_step (start_head pumped_model) (middle_head (pos 60)) c))
+          (none_within (ratio 1 (10 ^ 9)) (middle_balance (pos 60)) (omega arith) high);
+    },
+    tt,
+  );
 }
 
 pub has_two_solutions : HasTwoSolutions

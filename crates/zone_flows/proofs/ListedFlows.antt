@@ -41,7 +41,8 @@ module _ {X Y E : Type 0} (f : X → Result Y E) where
   each_ok [] (y ∷ ys) e = absurd cc
   each_ok (x ∷ xs) ys e = by_parts (f x) (each_or_first f xs) refl (each_ok xs) e
     where
-      by_parts : (r : Result Y E) (s : Result (List Y) E) → f x ≡ r → ((zs : List Y) → s ≡ Ok zs → AllZip (λ x y. f x ≡ Ok y) xs zs) → (r >>= λ y. s >>= λ zs. Ok (y ∷ zs)) ≡ Ok ys → AllZip (λ x y. f x ≡ Ok y) (x ∷ xs) ys
+      by_parts : (r : Result Y E) (s : Result (List Y) E) → f x ≡ r → ((zs : List Y) → s ≡ Ok zs → AllZip (λ x y. f x ≡ Ok y) xs zs) →
+          (r >>= λ y. s >>= λ zs. Ok (y ∷ zs)) ≡ Ok ys → AllZip (λ x y. f x ≡ Ok y) (x ∷ xs) ys
       by_parts (Ok y) (Ok zs) first rest e = subst (AllZip (λ x y. f x ≡ Ok y) (x ∷ xs)) (ap (value_or (y ∷ zs)) e) (first, rest zs refl)
       by_parts (Ok y) (Err r) first rest e = absurd cc
       by_parts (Err r) s first rest e = absurd cc
@@ -80,9 +81,11 @@ module _ (fs : List Face) where
   flows_of_pairs vs e = from_pairs _ vs (each_ok (flow_or_large fs) _ vs e)
 
 module _ (p : List Entries) (zones : List ℕ) (l u : ℕ → ℤ) (ok : IsProblem p) where
-  flow_encloses : (s : ℕ) (e : List ExactCell) (h : ℕ → Fraction) → EnclosesStep s p e → HeadsLieWithin p l u h → (v : ZoneFlow) → IsZoneFlow (faces zones l u p) v → EnclosesSigned v.lo v.hi (s + 9) (exact_flow v.from v.to (exact_faces zones h e))
+  flow_encloses : (s : ℕ) (e : List ExactCell) (h : ℕ → Fraction) → EnclosesStep s p e → HeadsLieWithin p l u h → (v : ZoneFlow) →
+      IsZoneFlow (faces zones l u p) v → EnclosesSigned v.lo v.hi (s + 9) (exact_flow v.from v.to (exact_faces zones h e))
   flow_encloses s e h encloses named v f = rw (f.lo, f.hi) (sums_enclose p zones l u ok s e h encloses named v.from v.to)
 
   pub ok_encloses : (r : Result (Vec ZoneFlow Global) ZoneFault) → Returns (zone_flows (faces zones l u p)) r → IfOk r (λ flows. EncloseEveryStep p zones l u flows.items)
-  ok_encloses (Ok flows) is = λ s e h encloses named. All-weaker (IsZoneFlow (faces zones l u p)) _ (flow_encloses s e h encloses named) flows.items (flows_of_pairs (faces zones l u p) flows.items is).0
+  ok_encloses (Ok flows) is = λ s e h encloses named. All-weaker (IsZoneFlow (faces zones l u p)) _ (flow_encloses s e h encloses named) flows.items
+      (flows_of_pairs (faces zones l u p) flows.items is).0
   ok_encloses (Err fault) is = tt

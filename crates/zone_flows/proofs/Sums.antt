@@ -27,7 +27,8 @@ split : (dir : Dir) (s x : TermPair) (xs : List TermPair) → capped_term (plus_
 split dir s x xs = capped_twice s (part dir x) (parts dir xs) (parts_lo dir xs) (parts_hi dir xs) ∙ ap (λ (z : TermPair). capped_term (plus_pair s z)) (sym (front_part dir x xs))
 
 -- The sums of a list of flows are what they bring in and what they take out, each standing still at 2^126.
-flows_are_parts : (s : ZoneSum) (xs : List TermPair) → IsZoneSum s → plus_flows (Some s) xs ≡ Some (record { into = capped_term (plus_pair s.into (parts In xs)); out = capped_term (plus_pair s.out (parts Out xs)) })
+flows_are_parts : (s : ZoneSum) (xs : List TermPair) → IsZoneSum s → plus_flows (Some s) xs ≡
+    Some (record { into = capped_term (plus_pair s.into (parts In xs)); out = capped_term (plus_pair s.out (parts Out xs)) })
 unfolding plus_flows
 flows_are_parts s [] h = rw (nothing_more In s.into h.into, nothing_more Out s.out h.out) refl
 flows_are_parts s (x ∷ xs) h =

@@ -52,7 +52,8 @@ gained old new f w h k is value = record { at = λ q. is q ∙ at_key q (is_betw
     its_key : (q : ℕ) → is_between (q / 1000) (q % 1000) f ≡ true → f.from * 1000 + f.to ≡ q
     its_key q e = grind (arith, nat_tests)
 
-    at_key : (q : ℕ) (b : Bool) → is_between (q / 1000) (q % 1000) f ≡ b → cond (is_at (nat_cmp (f.from * 1000 + f.to)) q) (Some w) (get nat_cmp old q) ≡ plus_flows (get nat_cmp old q) (map (λ f. f.flow) (filter (is_between (q / 1000) (q % 1000)) (f ∷ [])))
+    at_key : (q : ℕ) (b : Bool) → is_between (q / 1000) (q % 1000) f ≡ b → cond (is_at (nat_cmp (f.from * 1000 + f.to)) q) (Some w) (get nat_cmp old q) ≡
+        plus_flows (get nat_cmp old q) (map (λ f. f.flow) (filter (is_between (q / 1000) (q % 1000)) (f ∷ [])))
     at_key q true e = rw (tests q, e) (ap (λ (z : ZoneSum). Some z) value ∙ ap (λ (n : ℕ). Some (add_flow (unwrap_or (get nat_cmp old n) no_flows) f.flow)) (its_key q e))
     at_key q false e = rw (tests q, e) refl
 
@@ -71,7 +72,8 @@ sums_grow es ds q s is are sum = rw is (All-values-insert_entry nat_cmp q s IsZo
 module _ {X : Type 0} (f : X → List Face) (xs : List X) (i : ℕ) (old mid : Table) (so_far : Gains old mid (flat_map f (take i xs))) where
   pub one_more : (d : X) (new : Table) → i < length xs → Gains mid new (f (get_or xs i d)) → Gains old new (flat_map f (take (i + 1) xs))
   one_more d new lt h =
-      subst (Gains old new) (ap (λ ys. flat_map f (take i xs) ++ ys) (sym (append-nil (f (get_or xs i d)))) ∙ sym (flat_map-append f (take i xs) (get_or xs i d ∷ [])) ∙ ap (flat_map f) (sym (take_more xs i d lt)))
+      subst (Gains old new) (ap (λ ys. flat_map f (take i xs) ++ ys) (sym (append-nil (f (get_or xs i d)))) ∙ sym
+      (flat_map-append f (take i xs) (get_or xs i d ∷ [])) ∙ ap (flat_map f) (sym (take_more xs i d lt)))
       (both old mid new (flat_map f (take i xs)) (f (get_or xs i d)) so_far h)
 
   pub all_gained : length xs ≤ i → Gains old mid (flat_map f xs)

@@ -24,10 +24,12 @@ pub gains_nothing : (keys : BTreeSet ℕ) → Gains keys keys (λ z. false)
 gains_nothing keys q = sym (or_none (contains nat_cmp keys q))
 
 -- one more item of a list
-pub gains_item : {X : Type 0} (old mid new : BTreeSet ℕ) (f : ZonePair → X → Bool) (xs : List X) (i : ℕ) (d : X) → i < length xs → Gains old mid (λ z. list_any (f z) (take i xs)) → Gains mid new (λ z. f z (get_or xs i d)) → Gains old new (λ z. list_any (f z) (take (i + 1) xs))
+pub gains_item : {X : Type 0} (old mid new : BTreeSet ℕ) (f : ZonePair → X → Bool) (xs : List X) (i : ℕ) (d : X) → i < length xs →
+    Gains old mid (λ z. list_any (f z) (take i xs)) → Gains mid new (λ z. f z (get_or xs i d)) → Gains old new (λ z. list_any (f z) (take (i + 1) xs))
 gains_item old mid new f xs i d lt h k = grind (arith, gains_same, list_any_more, gains_both)
 
-pub gains_all : {X : Type 0} (old new : BTreeSet ℕ) (f : ZonePair → X → Bool) (xs : List X) (i : ℕ) → length xs ≤ i → Gains old new (λ z. list_any (f z) (take i xs)) → Gains old new (λ z. list_any (f z) xs)
+pub gains_all : {X : Type 0} (old new : BTreeSet ℕ) (f : ZonePair → X → Bool) (xs : List X) (i : ℕ) → length xs ≤ i →
+    Gains old new (λ z. list_any (f z) (take i xs)) → Gains old new (λ z. list_any (f z) xs)
 gains_all old new f xs i over h = gains_same old new (λ z. list_any (f z) (take i xs)) (λ z. list_any (f z) xs) (λ z. ap (list_any (f z)) (take_all i xs over)) h
 
 -- one more cell, which is variable or not

@@ -115,7 +115,8 @@ each_key P (k ∷ ks) h = (h k (is_itself k k (has ks k) refl), each_key P ks (�
     on q i = or_right (is_at (nat_cmp q) k) (has ks q) i
 
 -- the pairs of ascending keys that are those whose pairs pass a test
-pub pairs_are : (n : ℕ) → n ≡ 1000 → (test : ZonePair → Bool) (ks : List ℕ) → Ascend ks → ((q : ℕ) → test (pair_of q) ≡ has ks q) → ((q : ℕ) → test (pair_of q) ≡ true → q < n * 1000) → map pair_of ks ≡ filter test (pairs_below n)
+pub pairs_are : (n : ℕ) → n ≡ 1000 → (test : ZonePair → Bool) (ks : List ℕ) → Ascend ks → ((q : ℕ) → test (pair_of q) ≡ has ks q) →
+    ((q : ℕ) → test (pair_of q) ≡ true → q < n * 1000) → map pair_of ks ≡ filter test (pairs_below n)
 pairs_are n is test ks up same small =
     let within : Between 0 (n * 1000) ks = each_key (λ k. (0 ≤ k) × (k < n * 1000)) ks (λ q i. (omega arith, small q (same q ∙ i))) in
     ap (map pair_of) (sym (passing_are (λ q. test (pair_of q)) (n * 1000) 0 (n * 1000) ks (omega arith) up within (λ q l. same q)))

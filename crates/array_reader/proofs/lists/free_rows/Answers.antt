@@ -9,7 +9,8 @@ returns-in_err-row g c =
 
 pub loop-preserved : goal.loop-preserved
 loop-preserved g c =
-    rw (c.in_ok-extend_from_slice.ensures.items, c.deref.ensures.value) (list_goes_on _ c.loop.values.items c.args.rows c.loop.counter _ _ c.in_ok-row.row.items _ c.loop-test.true c.in_ok-row.ensures c.loop.invariant)
+    rw (c.in_ok-extend_from_slice.ensures.items, c.deref.ensures.value)
+    (list_goes_on _ c.loop.values.items c.args.rows c.loop.counter _ _ c.in_ok-row.row.items _ c.loop-test.true c.in_ok-row.ensures c.loop.invariant)
 
 pub returns : goal.returns
 unfolding free_rows

@@ -16,7 +16,9 @@ anchored_bound-requires-clause-paths c =
     let made = paths_made side p c.recall_conditions.ensures.fits roots levels paths
     (drops_on side p o.mark o.need (capped_flow (need side p)) o.anchors.items c.deref.result.now roots c.requires.outline c.deref.ensures.value q c.in_ok-roots.ensures)
     (searched_as p o.need (capped_flow (need side p)) roots c.deref-2.result.now levels paths q c.deref-2.ensures.value c.in_ok-anchored.ensures) in
-    subst (λ (z : List (Option ℕ)). AreAnchorPaths side p z c.deref-in-loop-c-2.result.now) (sym c.deref-in-loop-c.ensures.value) (subst (λ (z : List ℕ). AreAnchorPaths side p levels z) (sym c.deref-in-loop-c-2.ensures.value) made)
+    subst (λ (z : List (Option ℕ)). AreAnchorPaths side p z c.deref-in-loop-c-2.result.now) (sym c.deref-in-loop-c.ensures.value)
+    (subst (λ (z : List ℕ). AreAnchorPaths side p levels z) (sym c.deref-in-loop-c-2.ensures.value) made)
 
 pub loop-c-preserved : goal.loop-c-preserved
-loop-c-preserved c = each_more None (IsAnchoredOrNone c.args.side c.args.p.now) c.loop-c.c c.loop-c.bounds.items c.push.new.self.items c.anchored_bound.result c.in_ok-push.ensures.items c.anchored_bound.ensures c.loop-c.invariant
+loop-c-preserved c = each_more None (IsAnchoredOrNone c.args.side c.args.p.now) c.loop-c.c c.loop-c.bounds.items c.push.new.self.items c.anchored_bound.result
+    c.in_ok-push.ensures.items c.anchored_bound.ensures c.loop-c.invariant

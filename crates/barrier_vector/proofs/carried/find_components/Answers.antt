@@ -11,5 +11,6 @@ returns c =
     components_made c.args.p.now c.recall_conditions.ensures.fits c.in_ok-labels.labels.items
     c.in_ok-least.least.items c.in_ok-inner.inner.levels.items c.in_ok-inner.inner.paths.items c.in_ok-totals.totals.items c.in_ok-labels.ensures
     (rw c.deref.ensures.value at c.in_ok-least.ensures)
-    (searched_as c.args.p.now c.args.q (capped_flow (lack c.args.p.now)) c.in_ok-least.least.items c.deref-2.result.now c.in_ok-inner.inner.levels.items c.in_ok-inner.inner.paths.items c.requires.lack c.deref-2.ensures.value c.in_ok-inner.ensures)
+    (searched_as c.args.p.now c.args.q (capped_flow (lack c.args.p.now)) c.in_ok-least.least.items c.deref-2.result.now c.in_ok-inner.inner.levels.items
+    c.in_ok-inner.inner.paths.items c.requires.lack c.deref-2.ensures.value c.in_ok-inner.ensures)
     c.in_ok-totals.ensures.whole (rw c.deref-3.ensures.value at c.in_ok-totals.ensures.sums) (rw (c.deref-3.ensures.value, c.deref-4.ensures.value) at c.in_ok-totals.ensures.paths)

@@ -10,7 +10,8 @@ add_to-requires-clause-label c = λ m e. let h = c.requires.labels c.loop-c.c m 
 pub add_to-requires-clause-sums : goal.add_to-requires-clause-sums
 add_to-requires-clause-sums c =
     let small : c.loop-c.c < 2 ^ 32 = omega (arith, c.loop-c-test.true, c.recall_conditions.ensures.fits.few) in
-    λ m. sum_within c.args.labels.now c.loop-c.totals.items c.deref_mut.result.now c.loop-c.totals.items c.loop-c.totals.items c.loop-c.c m c.deref_mut.ensures.value refl small (c.loop-c.invariant.within m)
+    λ m. sum_within c.args.labels.now c.loop-c.totals.items c.deref_mut.result.now c.loop-c.totals.items c.loop-c.totals.items c.loop-c.c m
+    c.deref_mut.ensures.value refl small (c.loop-c.invariant.within m)
 
 pub loop-c-preserved : goal.loop-c-preserved
 loop-c-preserved c =
@@ -21,7 +22,11 @@ loop-c-preserved c =
     let added = simp to_z-of_z at c.add_to.ensures.sums in
     record {
       whole = ap (λ (z : List Total). length z) is ∙ c.add_to.auto.totals ∙ w ∙ c.loop-c.invariant.whole;
-      sums = λ m. sum_more c.args.labels.now c.loop-c.totals.items c.deref_mut.result.now c.add_to.new.totals _ c.loop-c.c m c.deref_mut.ensures.value is (λ k. deep_low (entries_at c.args.p.now k)) c.deep_flow.result (c.deep_flow.ensures.value ∙ ap deep_low c.cell.ensures) (c.loop-c.invariant.sums m) (added m);
-      within = λ m. within_more c.args.labels.now c.loop-c.totals.items c.deref_mut.result.now c.add_to.new.totals _ c.loop-c.c m c.deref_mut.ensures.value is _ c.deep_flow.result c.deep_flow.ensures.within (c.loop-c.invariant.within m) (added m);
-      paths = λ m. longest_more c.args.labels.now c.loop-c.totals.items c.deref_mut.result.now c.add_to.new.totals _ c.loop-c.c m c.deref_mut.ensures.value is (slice_index c.args.paths.now) (c.loop-c.invariant.paths m) (c.add_to.ensures.paths m);
+      sums = λ m. sum_more c.args.labels.now c.loop-c.totals.items c.deref_mut.result.now c.add_to.new.totals _ c.loop-c.c m c.deref_mut.ensures.value is (λ k.
+          deep_low (entries_at c.args.p.now k)) c.deep_flow.result (c.deep_flow.ensures.value ∙ ap deep_low c.cell.ensures) (c.loop-c.invariant.sums m)
+          (added m);
+      within = λ m. within_more c.args.labels.now c.loop-c.totals.items c.deref_mut.result.now c.add_to.new.totals _ c.loop-c.c m c.deref_mut.ensures.value is _
+          c.deep_flow.result c.deep_flow.ensures.within (c.loop-c.invariant.within m) (added m);
+      paths = λ m. longest_more c.args.labels.now c.loop-c.totals.items c.deref_mut.result.now c.add_to.new.totals _ c.loop-c.c m c.deref_mut.ensures.value is
+          (slice_index c.args.paths.now) (c.loop-c.invariant.paths m) (c.add_to.ensures.paths m);
     }

@@ -24,23 +24,32 @@ loop-left-init c =
     let paths = written c.begin.new.paths (drop (length c.begin.new.paths) c.in_ok-paths.paths.items) c.in_ok-paths.paths.len m in
     let count = c.in_ok-frontier.ensures.marks.count in
     record {
-      up_to = rw (levels, paths) (up_to_start c.args.p.now c.len-count.ensures.fits c.args.q c.args.own.now c.deref_mut.result.now c.begin.new.levels c.begin.new.paths c.in_ok-frontier.frontier.items c.requires.own (whole ∙ c.len-count.ensures.count) none_at (all ∙ c.len-count.ensures.count) c.in_ok-frontier.ensures);
+      up_to = rw (levels, paths) (up_to_start c.args.p.now c.len-count.ensures.fits c.args.q c.args.own.now c.deref_mut.result.now c.begin.new.levels
+          c.begin.new.paths c.in_ok-frontier.frontier.items c.requires.own (whole ∙ c.len-count.ensures.count) none_at
+          (all ∙ c.len-count.ensures.count) c.in_ok-frontier.ensures);
       left = let now = ap count_unmarked levels in omega (arith, count, now, all, c.len.ensures);
     }
 
 pub spread-requires-clause-frontier : goal.spread-requires-clause-frontier
-spread-requires-clause-frontier c = subst (λ (z : List ℕ). All (λ k. k < length c.args.p.now) z) (sym c.deref.ensures.value) (front_within c.args.p.now c.args.q c.args.own.now c.loop-left.level c.loop-left.levels.items c.loop-left.paths.items c.loop-left.frontier.items c.loop-left.invariant.up_to)
+spread-requires-clause-frontier c = subst (λ (z : List ℕ). All (λ k. k < length c.args.p.now) z) (sym c.deref.ensures.value)
+    (front_within c.args.p.now c.args.q c.args.own.now c.loop-left.level c.loop-left.levels.items c.loop-left.paths.items c.loop-left.frontier.items
+    c.loop-left.invariant.up_to)
 
 pub extend_paths-requires-clause-frontier : goal.extend_paths-requires-clause-frontier
 extend_paths-requires-clause-frontier c =
-    let whole : length c.deref_mut-in-loop-left.result.now ≡ length c.args.p.now = omega (arith, c.deref_mut-in-loop-left.ensures.value, c.deref_mut-in-loop-left.ensures.len, c.loop-left.invariant.up_to.levels_whole) in
-    subst (λ (z : List ℕ). All (λ k. k < length c.args.p.now) z) (sym c.deref-in-loop-left-2.ensures.value) (next_within _ (length c.args.p.now) (c.loop-left.level + 1) c.deref_mut-in-loop-left.result.now c.spread.new.marks c.in_ok-frontier-2.frontier.items whole c.in_ok-frontier-2.ensures)
+    let whole : length c.deref_mut-in-loop-left.result.now ≡ length c.args.p.now =
+    omega (arith, c.deref_mut-in-loop-left.ensures.value, c.deref_mut-in-loop-left.ensures.len, c.loop-left.invariant.up_to.levels_whole) in
+    subst (λ (z : List ℕ). All (λ k. k < length c.args.p.now) z) (sym c.deref-in-loop-left-2.ensures.value)
+    (next_within _ (length c.args.p.now) (c.loop-left.level + 1) c.deref_mut-in-loop-left.result.now c.spread.new.marks c.in_ok-frontier-2.frontier.items
+    whole c.in_ok-frontier-2.ensures)
 
 pub extend_paths-requires-clause-past : goal.extend_paths-requires-clause-past
 extend_paths-requires-clause-past c =
     let n : c.loop-left.levels.len ≡ length c.spread.new.marks = omega (arith, c.deref_mut-in-loop-left.ensures.len, c.spread.auto.marks) in
     subst (λ (z : List ℕ). All (λ k. mark_at c.deref-in-loop-left.result.now k ≡ Some c.loop-left.level → ⊥) z) (sym c.deref-in-loop-left-2.ensures.value)
-    (subst (λ (m : List (Option ℕ)). All (λ k. mark_at m k ≡ Some c.loop-left.level → ⊥) c.in_ok-frontier-2.frontier.items) (sym (c.deref-in-loop-left.ensures.value ∙ written c.spread.new.marks (drop (length c.spread.new.marks) c.loop-left.levels.items) c.loop-left.levels.len n))
+    (subst (λ (m : List (Option ℕ)). All (λ k. mark_at m k ≡ Some c.loop-left.level → ⊥) c.in_ok-frontier-2.frontier.items)
+    (sym (c.deref-in-loop-left.ensures.value ∙ written c.spread.new.marks
+    (drop (length c.spread.new.marks) c.loop-left.levels.items) c.loop-left.levels.len n))
     (next_past _ (c.loop-left.level + 1) c.loop-left.level c.deref_mut-in-loop-left.result.now c.spread.new.marks c.in_ok-frontier-2.frontier.items (λ e. omega (arith, e)) c.in_ok-frontier-2.ensures))
 
 pub loop-left-preserved : goal.loop-left-preserved
@@ -54,7 +63,8 @@ loop-left-preserved c =
           c.loop-left.frontier.items c.deref.result.now c.in_ok-frontier-2.frontier.items c.deref-in-loop-left-2.result.now
           c.deref_mut-in-loop-left.ensures.value c.deref-in-loop-left.ensures.value (written c.spread.new.marks (drop (length c.spread.new.marks) c.loop-left.levels.items) c.loop-left.levels.len n)
           c.deref_mut-in-loop-left-2.ensures.value (written c.extend_paths.new.paths (drop (length c.extend_paths.new.paths) c.loop-left.paths.items) c.loop-left.paths.len m)
-          c.deref.ensures.value c.deref-in-loop-left-2.ensures.value c.loop-left.invariant.up_to c.in_ok-frontier-2.ensures c.extend_paths.auto.paths c.extend_paths.ensures.others c.extend_paths.ensures.paths;
+          c.deref.ensures.value c.deref-in-loop-left-2.ensures.value c.loop-left.invariant.up_to c.in_ok-frontier-2.ensures c.extend_paths.auto.paths
+          c.extend_paths.ensures.others c.extend_paths.ensures.paths;
       left =
           let count = c.in_ok-frontier-2.ensures.count in
           let now = ap count_unmarked (written c.spread.new.marks (drop (length c.spread.new.marks) c.loop-left.levels.items) c.loop-left.levels.len n) in
@@ -62,4 +72,11 @@ loop-left-preserved c =
     }
 
 pub returns : goal.returns
-returns c = searched_at_end c.args.p.now c.len-count.ensures.fits c.args.q c.args.own.now c.loop-left.level c.loop-left.levels.items c.loop-left.paths.items c.loop-left.frontier.items c.loop-left.invariant.up_to (elim c.loop-left-test.branch [ then-loop-left-test+else-not-is_empty w ↦ inr (let empty = w.if-not-is_empty.ensures in grind (arith, common_steps, empty)) | else-loop-left-test w ↦ inl (let h : c.loop-left.left ≤ 0 = w.loop-left-test.false in omega (arith, h, c.loop-left.invariant.left)) ])
+returns c = searched_at_end c.args.p.now c.len-count.ensures.fits c.args.q c.args.own.now c.loop-left.level c.loop-left.levels.items c.loop-left.paths.items
+    c.loop-left.frontier.items c.loop-left.invariant.up_to
+    (elim c.loop-left-test.branch [
+      | then-loop-left-test+else-not-is_empty w ↦ inr
+          (let empty = w.if-not-is_empty.ensures in grind (arith, common_steps, empty))
+      | else-loop-left-test w ↦ inl
+          (let h : c.loop-left.left ≤ 0 = w.loop-left-test.false in omega (arith, h, c.loop-left.invariant.left))
+    ])

@@ -6,5 +6,6 @@ abbrev pub invariant-loop-index : goal.invariant-loop-index
 invariant-loop-index l = record {
   digits : digits_of l.tables.first ≡ digits_of l.fn.tables.first;
   tables : AreDeckTables l.decks (digits_of l.tables.first) l.tables;
-  so_far : IsSoFar l.fn.limits l.decks (digits_of l.fn.tables.first) (option_map (λ z. z.now) l.fn.zones) l.listing (heads_before l.start l.listing l.index) (drop l.index (times l.decks.first)) (drop l.index l.listing);
+  so_far : IsSoFar l.fn.limits l.decks (digits_of l.fn.tables.first) (option_map (λ z. z.now) l.fn.zones) l.listing (heads_before l.start l.listing l.index)
+      (drop l.index (times l.decks.first)) (drop l.index l.listing);
 }

@@ -4,14 +4,17 @@ use Rattle.barrier_vector.specs.declared.BarrierFault.{BarrierFault}
 use Rattle.barrier_vector.specs.declared.BarrierFault.TheVariants as barrier
 use Rattle.check_run.proofs.posed.pose.Goals as goal
 
-barrier_unposed : (limits : Limits) (ds : Decks) (s : ℕ) (at : TimeStep) (old : List Bound) (p : List Entries) → IsProblemFor ds s at old p → (f : BarrierFault) → IsBarrierFault limits p f → IsUnposed limits ds s at old (of_barrier f)
+barrier_unposed : (limits : Limits) (ds : Decks) (s : ℕ) (at : TimeStep) (old : List Bound) (p : List Entries) → IsProblemFor ds s at old p →
+    (f : BarrierFault) → IsBarrierFault limits p f → IsUnposed limits ds s at old (of_barrier f)
 barrier_unposed limits ds s at old p is (barrier.NoBound n) h = inr (p, is, h)
 barrier_unposed limits ds s at old p is barrier.Memory h = tt
 
 pub returns-in_err-barrier-clause-fault : goal.returns-in_err-barrier-clause-fault
 returns-in_err-barrier-clause-fault c =
     let p = err_from_is_err_and c.from_residual-in_err-barrier.result c.from_residual-in_err-barrier.ensures.1 in
-    rw (p.1, p.2) (barrier_unposed c.args.limits c.args.decks.now (digits_of c.args.tables.now.first) c.args.at c.args.old.now c.in_ok-made.made.problem c.in_ok-made.ensures.problem c.in_err-barrier.field-0.0 c.in_err-barrier.ensures.fault)
+    rw (p.1, p.2) (barrier_unposed c.args.limits c.args.decks.now
+    (digits_of c.args.tables.now.first) c.args.at c.args.old.now c.in_ok-made.made.problem c.in_ok-made.ensures.problem c.in_err-barrier.field-0.0
+    c.in_err-barrier.ensures.fault)
 
 pub returns-clause-posed : goal.returns-clause-posed
 returns-clause-posed c = record {

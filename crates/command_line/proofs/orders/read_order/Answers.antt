@@ -10,10 +10,14 @@ returns-in-Err-clause-usage c = λ e.
 
 pub returns-in-Some-clause-order : goal.returns-in-Some-clause-order
 returns-in-Some-clause-order c =
-    order_at_ok (map (λ w. w.now) c.args.words.now) (app_of c.in-Ok.command) c.in-Ok-try_get_matches_from.matches c.in-Ok.ensures.is c.in-Ok-try_get_matches_from.ensures.kinds c.in-Ok-try_get_matches_from.ensures.matches
+    order_at_ok (map (λ w. w.now) c.args.words.now)
+    (app_of c.in-Ok.command) c.in-Ok-try_get_matches_from.matches c.in-Ok.ensures.is c.in-Ok-try_get_matches_from.ensures.kinds
+    c.in-Ok-try_get_matches_from.ensures.matches
     ∙ sym c.in-Some.ensures
 
 pub returns-clause-usage : goal.returns-clause-usage
 returns-clause-usage c = λ e.
-    order_at_ok (map (λ w. w.now) c.args.words.now) (app_of c.in-Ok.command) c.in-Ok-try_get_matches_from.matches c.in-Ok.ensures.is c.in-Ok-try_get_matches_from.ensures.kinds c.in-Ok-try_get_matches_from.ensures.matches
+    order_at_ok (map (λ w. w.now) c.args.words.now)
+    (app_of c.in-Ok.command) c.in-Ok-try_get_matches_from.matches c.in-Ok.ensures.is c.in-Ok-try_get_matches_from.ensures.kinds
+    c.in-Ok-try_get_matches_from.ensures.matches
     ∙ sym c.in-None.ensures

@@ -25,5 +25,6 @@ returns c =
     let f : FitsSigned w128 c.in-Some.low = fits_wider _ g in
     let g' : FitsSigned w64 c.in-Some-ceil_at.high = c.requires.high _ c.in-Some-ceil_at.ensures.ceiling in
     let f' : FitsSigned w128 c.in-Some-ceil_at.high = fits_wider _ g' in
-    let pair : pair_of c.in-Some.low c.in-Some-ceil_at.high ≡ head_pair c.args.x = head_pair_is c.args.x c.in-Some.low c.in-Some-ceil_at.high c.in-Some.ensures.floor c.in-Some-ceil_at.ensures.ceiling in
+    let pair : pair_of c.in-Some.low c.in-Some-ceil_at.high ≡ head_pair c.args.x =
+    head_pair_is c.args.x c.in-Some.low c.in-Some-ceil_at.high c.in-Some.ensures.floor c.in-Some-ceil_at.ensures.ceiling in
     record { rounded = simp to_z-of_z pair }

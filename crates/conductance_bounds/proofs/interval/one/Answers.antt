@@ -10,4 +10,5 @@ pub returns-clause-bounds : goal.returns-clause-bounds
 returns-clause-bounds c = one_bounds
 
 pub returns-clause-reach : goal.returns-clause-reach
-returns-clause-reach c = size_reach _ 17 (record { positive = omega arith; above = omega (arith, ints); below = omega (arith, ints) }) (record { positive = omega arith; above = omega (arith, ints); below = omega (arith, ints) })
+returns-clause-reach c = size_reach _ 17 (record { positive = omega arith; above = omega (arith, ints); below = omega (arith, ints) })
+    (record { positive = omega arith; above = omega (arith, ints); below = omega (arith, ints) })

@@ -9,7 +9,9 @@ returns-in_default c = record { bounds = (λ t p. ap (option_map (signed_pair c.
 
 pub returns-in_default-floor_units : goal.returns-in_default-floor_units
 returns-in_default-floor_units c = record {
-  bounds = (λ t p. ap (option_map (signed_pair c.args.neg)) (none_below t c.args.places (2 ^ 126 - 1) c.args.x p (Reaches-passes (2 ^ 126) (2 ^ 126 - 1) (value c.args.x.lo) (value c.args.x.hi) c.args.places (omega arith) c.requires.ordered.order c.in_default-floor_units.ensures.value)));
+  bounds = (λ t p. ap (option_map (signed_pair c.args.neg))
+      (none_below t c.args.places (2 ^ 126 - 1) c.args.x p (Reaches-passes (2 ^ 126) (2 ^ 126 - 1) (value c.args.x.lo) (value c.args.x.hi) c.args.places
+      (omega arith) c.requires.ordered.order c.in_default-floor_units.ensures.value)));
 }
 
 pub returns-then-neg : goal.returns-then-neg
@@ -21,7 +23,9 @@ returns-then-neg c =
     record {
       bounds = (λ t p. simp to_z-of_z (
           ap Some (flow_lost c.args.neg c.in-Some-floor_units.least c.in-Some.most _ _ c.if-neg.true c.with_sign.ensures c.with_sign-then-neg.ensures)
-          ∙ ap (option_map (signed_pair c.args.neg)) (some_below t c.args.places (2 ^ 126) c.in-Some-floor_units.least c.in-Some.most c.args.x p c.in-Some-floor_units.ensures.value.0 c.in-Some.ensures.value.0 many)));
+          ∙ ap (option_map (signed_pair c.args.neg))
+          (some_below t c.args.places (2 ^ 126) c.in-Some-floor_units.least c.in-Some.most c.args.x p c.in-Some-floor_units.ensures.value.0
+          c.in-Some.ensures.value.0 many)));
     }
 
 pub returns-else-neg : goal.returns-else-neg
@@ -33,5 +37,7 @@ returns-else-neg c =
     record {
       bounds = (λ t p. simp to_z-of_z (
           ap Some (flow_gained c.args.neg c.in-Some-floor_units.least c.in-Some.most _ _ c.if-neg.false c.with_sign-else-neg.ensures c.with_sign-else-neg-2.ensures)
-          ∙ ap (option_map (signed_pair c.args.neg)) (some_below t c.args.places (2 ^ 126) c.in-Some-floor_units.least c.in-Some.most c.args.x p c.in-Some-floor_units.ensures.value.0 c.in-Some.ensures.value.0 many)));
+          ∙ ap (option_map (signed_pair c.args.neg))
+          (some_below t c.args.places (2 ^ 126) c.in-Some-floor_units.least c.in-Some.most c.args.x p c.in-Some-floor_units.ensures.value.0
+          c.in-Some.ensures.value.0 many)));
     }

@@ -28,8 +28,10 @@ returns-clause-usable c =
     let high : c.abs_diff-2.result ≡ unsigned_abs (c.edges-top.result.hi -ℤ c.edges-bottom.result.lo) = search rules in
     let less = low ∙ (λ i. unsigned_abs (c.edges-top.ensures.floor i -ℤ c.edges-bottom.ensures.ceiling i)) in
     let more = high ∙ (λ i. unsigned_abs (c.edges-top.ensures.ceiling i -ℤ c.edges-bottom.ensures.floor i)) in
-    are_thick (record { lo = c.of_units_dn.result; hi = c.of_units_up.result }) c.abs_diff.result c.abs_diff-2.result (omega (arith, less, more, room.order)) c.of_units_dn.ensures.nearest c.of_units_up.ensures.nearest
+    are_thick (record { lo = c.of_units_dn.result; hi = c.of_units_up.result }) c.abs_diff.result c.abs_diff-2.result
+    (omega (arith, less, more, room.order)) c.of_units_dn.ensures.nearest c.of_units_up.ensures.nearest
     (c.of_units_dn.ensures.size (omega (arith, less, room.some))) (c.of_units_up.ensures.size (omega (arith, less, more, room.some, room.order)))
 
 pub returns-clause-encloses : goal.returns-clause-encloses
-returns-clause-encloses c = subst (λ (t : Span). IsBetween t.lo t.hi (gap (number c.args.top) (number c.args.bottom))) (sym (returns-clause-rounded c)) (thick_between c.args.top c.args.bottom c.requires.thick)
+returns-clause-encloses c = subst (λ (t : Span). IsBetween t.lo t.hi (gap (number c.args.top) (number c.args.bottom))) (sym (returns-clause-rounded c))
+    (thick_between c.args.top c.args.bottom c.requires.thick)

@@ -13,7 +13,13 @@ loop-step-init c =
     }
 
 pub times-power-requires-clause-near : goal.times-power-requires-clause-near
-times-power-requires-clause-near c = omega (arith, sizes_reach c.loop-step.power (17 + 3 * c.loop-step._step) (4 * c.loop-step._step) 4000 (omega (arith, c.loop-step-test.true, c.requires.slow.few)) (omega (arith, c.loop-step-test.true, c.requires.slow.few)) c.loop-step.invariant.low c.loop-step.invariant.high, c.exact_span-t.ensures.reach)
+times-power-requires-clause-near c = omega (
+  arith,
+  sizes_reach c.loop-step.power (17 + 3 * c.loop-step._step) (4 * c.loop-step._step) 4000
+      (omega (arith, c.loop-step-test.true, c.requires.slow.few))
+      (omega (arith, c.loop-step-test.true, c.requires.slow.few)) c.loop-step.invariant.low c.loop-step.invariant.high,
+  c.exact_span-t.ensures.reach,
+)
 
 pub loop-step-preserved : goal.loop-step-preserved
 loop-step-preserved c =
@@ -22,6 +28,8 @@ loop-step-preserved c =
     record {
       ordered = c.times-power.ensures.ordered;
       bounds = power_next (size c.args.tsmult) c.loop-step._step _ (c.times-power.ensures.bounds _ _ c.loop-step.invariant.bounds c.exact_span-t.ensures.bounds);
-      low = power_size c.loop-step.power.lo c.exact_span-t.result.lo c.times-power.result.lo c.loop-step._step c.loop-step.invariant.low t (c.times-power.ensures.lower c.loop-step.invariant.low.positive t.positive);
-      high = power_size c.loop-step.power.hi c.exact_span-t.result.hi c.times-power.result.hi c.loop-step._step c.loop-step.invariant.high t' (c.times-power.ensures.upper c.loop-step.invariant.high.positive t'.positive);
+      low = power_size c.loop-step.power.lo c.exact_span-t.result.lo c.times-power.result.lo c.loop-step._step c.loop-step.invariant.low t
+          (c.times-power.ensures.lower c.loop-step.invariant.low.positive t.positive);
+      high = power_size c.loop-step.power.hi c.exact_span-t.result.hi c.times-power.result.hi c.loop-step._step c.loop-step.invariant.high t'
+          (c.times-power.ensures.upper c.loop-step.invariant.high.positive t'.positive);
     }

@@ -13,10 +13,22 @@ loop-step-init c =
     }
 
 pub times-requires-clause-near : goal.times-requires-clause-near
-times-requires-clause-near c = omega (arith, sizes_reach c.loop-step.sum 17 (5 * c.loop-step._step) 5000 (omega arith) (omega (arith, c.loop-step-test.true, c.requires.slow.few)) c.loop-step.invariant.low c.loop-step.invariant.high, c.exact_span-t.ensures.reach)
+times-requires-clause-near c = omega (
+  arith,
+  sizes_reach c.loop-step.sum 17 (5 * c.loop-step._step) 5000 (omega arith)
+      (omega (arith, c.loop-step-test.true, c.requires.slow.few)) c.loop-step.invariant.low c.loop-step.invariant.high,
+  c.exact_span-t.ensures.reach,
+)
 
 pub plus-sum-requires-clause-near : goal.plus-sum-requires-clause-near
-plus-sum-requires-clause-near c = omega (arith, sizes_reach c.loop-step.sum 17 (5 * c.loop-step._step) 5000 (omega arith) (omega (arith, c.loop-step-test.true, c.requires.slow.few)) c.loop-step.invariant.low c.loop-step.invariant.high, c.exact_span-t.ensures.reach, c.times.ensures.reach, c.one-one.ensures.reach)
+plus-sum-requires-clause-near c = omega (
+  arith,
+  sizes_reach c.loop-step.sum 17 (5 * c.loop-step._step) 5000 (omega arith)
+      (omega (arith, c.loop-step-test.true, c.requires.slow.few)) c.loop-step.invariant.low c.loop-step.invariant.high,
+  c.exact_span-t.ensures.reach,
+  c.times.ensures.reach,
+  c.one-one.ensures.reach,
+)
 
 pub loop-step-preserved : goal.loop-step-preserved
 loop-step-preserved c =
@@ -28,6 +40,8 @@ loop-step-preserved c =
     record {
       ordered = c.plus-sum.ensures.ordered;
       bounds = sum_next (size c.args.tsmult) c.loop-step._step _ (c.plus-sum.ensures.bounds _ _ (c.times.ensures.bounds _ _ c.loop-step.invariant.bounds c.exact_span-t.ensures.bounds) one.bounds);
-      low = sum_size c.loop-step.sum.lo c.exact_span-t.result.lo c.times.result.lo c.one-one.result.lo c.plus-sum.result.lo c.loop-step._step c.loop-step.invariant.low t one.low p (c.plus-sum.ensures.lower p.positive one.low.positive);
-      high = sum_size c.loop-step.sum.hi c.exact_span-t.result.hi c.times.result.hi c.one-one.result.hi c.plus-sum.result.hi c.loop-step._step c.loop-step.invariant.high t' one.high p' (c.plus-sum.ensures.upper p'.positive one.high.positive);
+      low = sum_size c.loop-step.sum.lo c.exact_span-t.result.lo c.times.result.lo c.one-one.result.lo c.plus-sum.result.lo c.loop-step._step
+          c.loop-step.invariant.low t one.low p (c.plus-sum.ensures.lower p.positive one.low.positive);
+      high = sum_size c.loop-step.sum.hi c.exact_span-t.result.hi c.times.result.hi c.one-one.result.hi c.plus-sum.result.hi c.loop-step._step
+          c.loop-step.invariant.high t' one.high p' (c.plus-sum.ensures.upper p'.positive one.high.positive);
     }

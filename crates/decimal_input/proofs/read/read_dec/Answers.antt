@@ -6,15 +6,22 @@ use Rattle.decimal_input.proofs.read.read_dec.Goals as goal
 
 pub returns-in_default-clause-exact : goal.returns-in_default-clause-exact
 returns-in_default-clause-exact c =
-    let word = joined c.args.word.now c.split_sign-neg.result.1.now c.split_digits.result.0.now c.split_digits.result.1.now c.split_part.result.0.now c.split_part.result.1.now c.split_sign-neg.result.0
+    let word = joined c.args.word.now c.split_sign-neg.result.1.now c.split_digits.result.0.now c.split_digits.result.1.now c.split_part.result.0.now
+    c.split_part.result.1.now c.split_sign-neg.result.0
     c.split_sign-neg.ensures.sign c.split_sign-neg.ensures.rest c.split_digits.ensures.digits c.split_digits.ensures.rest c.split_part.ensures.digits c.split_part.ensures.rest in
-    names_read c.args.word.now (Err BadNumber) (omega arith) (subst (λ (X : Option Spelling). IsNumber X (Err BadNumber)) word (no_exponent c.split_sign-neg.result.0 c.split_digits.result.0.now c.split_part.result.0.now (exponent_of c.split_part.result.1.now) c.in_default.ensures.capped))
+    names_read c.args.word.now (Err BadNumber) (omega arith)
+    (subst (λ (X : Option Spelling). IsNumber X (Err BadNumber)) word
+    (no_exponent c.split_sign-neg.result.0 c.split_digits.result.0.now c.split_part.result.0.now
+    (exponent_of c.split_part.result.1.now) c.in_default.ensures.capped))
 
 pub returns-then-whole-part-eq0-clause-exact : goal.returns-then-whole-part-eq0-clause-exact
 returns-then-whole-part-eq0-clause-exact c =
-    let word = joined c.args.word.now c.split_sign-neg.result.1.now c.split_digits.result.0.now c.split_digits.result.1.now c.split_part.result.0.now c.split_part.result.1.now c.split_sign-neg.result.0
+    let word = joined c.args.word.now c.split_sign-neg.result.1.now c.split_digits.result.0.now c.split_digits.result.1.now c.split_part.result.0.now
+    c.split_part.result.1.now c.split_sign-neg.result.0
     c.split_sign-neg.ensures.sign c.split_sign-neg.ensures.rest c.split_digits.ensures.digits c.split_digits.ensures.rest c.split_part.ensures.digits c.split_part.ensures.rest in
-    names_read c.args.word.now (Err BadNumber) (omega arith) (subst (λ (X : Option Spelling). IsNumber X (Err BadNumber)) word (no_digit c.split_sign-neg.result.0 c.split_digits.result.0.now c.split_part.result.0.now (exponent_of c.split_part.result.1.now) (omega arith)))
+    names_read c.args.word.now (Err BadNumber) (omega arith)
+    (subst (λ (X : Option Spelling). IsNumber X (Err BadNumber)) word
+    (no_digit c.split_sign-neg.result.0 c.split_digits.result.0.now c.split_part.result.0.now (exponent_of c.split_part.result.1.now) (omega arith)))
 
 pub returns-clause-exact : goal.returns-clause-exact
 returns-clause-exact c =

@@ -19,10 +19,22 @@ pub returns-then-up : goal.returns-then-up
 returns-then-up c =
     let k = c.unsigned_abs-places.result in
     let unit : c.pow-unit.result ≡ 10 ^ min k 18 = c.pow-unit.ensures ∙ ap (λ (n : ℕ). 10 ^ n) c.min.ensures in
-    record { value = rw c.if-up.true (ceiling_quotient (scaled_ratio c.args.m c.args.e) c.args.m c.args.s k c.pow-unit.result c.requires.digits (omega arith) unit (cut_units c.args.m c.args.s k c.args.e (omega (arith, ints))), omega (arith, c.requires.digits, div-le_self (c.args.m - 1) c.pow-unit.result)) }
+    record {
+      value = rw c.if-up.true (
+        ceiling_quotient (scaled_ratio c.args.m c.args.e) c.args.m c.args.s k c.pow-unit.result c.requires.digits
+            (omega arith) unit (cut_units c.args.m c.args.s k c.args.e (omega (arith, ints))),
+        omega (arith, c.requires.digits, div-le_self (c.args.m - 1) c.pow-unit.result),
+      );
+    }
 
 pub returns-else-up : goal.returns-else-up
 returns-else-up c =
     let k = c.unsigned_abs-places.result in
     let unit : c.pow-unit.result ≡ 10 ^ min k 18 = c.pow-unit.ensures ∙ ap (λ (n : ℕ). 10 ^ n) c.min.ensures in
-    record { value = rw c.if-up.false (floor_quotient (scaled_ratio c.args.m c.args.e) c.args.m c.args.s k c.pow-unit.result c.requires.digits unit (cut_units c.args.m c.args.s k c.args.e (omega (arith, ints))), omega (arith, c.requires.digits, div-le_self c.args.m c.pow-unit.result)) }
+    record {
+      value = rw c.if-up.false (
+        floor_quotient (scaled_ratio c.args.m c.args.e) c.args.m c.args.s k c.pow-unit.result c.requires.digits unit
+            (cut_units c.args.m c.args.s k c.args.e (omega (arith, ints))),
+        omega (arith, c.requires.digits, div-le_self c.args.m c.pow-unit.result),
+      );
+    }

@@ -6,7 +6,8 @@ use Rattle.deck_problems.proofs.OneProblem.{time_of_member}
 use Rattle.deck_problems.proofs.problem.problem_for.Goals as goal
 
 pub returns-in_default-clause-constant : goal.returns-in_default-clause-constant
-returns-in_default-clause-constant c = constants_alone c.args.decks.now.first c.args.decks.now.second c.args.at c.in_ok-first.first.constant_heads c.in_default.not-Some c.in_ok-first.ensures.problem.constant
+returns-in_default-clause-constant c = constants_alone c.args.decks.now.first c.args.decks.now.second c.args.at c.in_ok-first.first.constant_heads
+    c.in_default.not-Some c.in_ok-first.ensures.problem.constant
 
 pub second_problem-requires-clause-time : goal.second_problem-requires-clause-time
 second_problem-requires-clause-time c =
@@ -17,14 +18,18 @@ second_problem-requires-clause-time c =
 pub returns-in_err-second-clause-fault : goal.returns-in_err-second-clause-fault
 returns-in_err-second-clause-fault c =
     let p = err_from_is_err_and c.from_residual-in_err-second.result c.from_residual-in_err-second.ensures.1 in
-    rw (p.1, p.2) (second_refused c.args.decks.now c.in-Some.model c.in-Some.is (digits_of c.args.tables.now.first) c.args.at c.args.old.now c.in_ok-first.first.problem c.in_ok-first.ensures.problem.problem c.in_err-second.field-0.0 c.in_err-second.ensures.fault)
+    rw (p.1, p.2) (second_refused c.args.decks.now c.in-Some.model c.in-Some.is
+    (digits_of c.args.tables.now.first) c.args.at c.args.old.now c.in_ok-first.first.problem c.in_ok-first.ensures.problem.problem c.in_err-second.field-0.0
+    c.in_err-second.ensures.fault)
 
 pub hull_problem-requires : goal.hull_problem-requires
 hull_problem-requires c =
     let d = c.args.decks.now in
     let b = c.in-Some.model in
     record {
-      alike = c.problems_are_alike.ensures d.first b (digits_of c.args.tables.now.first) c.args.at c.args.old.now c.in_ok-first.first.problem c.in_ok-second.second.problem c.requires.decks.first (second_is d b c.in-Some.is c.requires.decks).alike
+      alike = c.problems_are_alike.ensures d.first b
+          (digits_of c.args.tables.now.first) c.args.at c.args.old.now c.in_ok-first.first.problem c.in_ok-second.second.problem c.requires.decks.first
+          (second_is d b c.in-Some.is c.requires.decks).alike
           c.in_ok-first.ensures.problem.problem c.in_ok-second.ensures.problem.problem;
     }
 
@@ -40,11 +45,13 @@ returns-clause-constant c =
     c.in_ok-first.ensures.problem.constant c.in_ok-second.ensures.problem.constant (rw c.as_slice.ensures at c.hull_bounds.ensures)
 
 pub returns-clause-cells : goal.returns-clause-cells
-returns-clause-cells c = hull_cells c.args.decks.now.first c.args.at c.in_ok-first.first.problem c.in_ok-second.second.problem c.in_ok-problem.problem c.in_ok-problem.ensures.hull c.in_ok-first.ensures.problem.cells
+returns-clause-cells c = hull_cells c.args.decks.now.first c.args.at c.in_ok-first.first.problem c.in_ok-second.second.problem c.in_ok-problem.problem
+    c.in_ok-problem.ensures.hull c.in_ok-first.ensures.problem.cells
 
 pub returns-clause-problem : goal.returns-clause-problem
 returns-clause-problem c =
-    problem_of_hull c.args.decks.now c.in-Some.model c.in-Some.is (digits_of c.args.tables.now.first) c.args.at c.args.old.now c.in_ok-first.first.problem c.in_ok-second.second.problem c.in_ok-problem.problem
+    problem_of_hull c.args.decks.now c.in-Some.model c.in-Some.is
+    (digits_of c.args.tables.now.first) c.args.at c.args.old.now c.in_ok-first.first.problem c.in_ok-second.second.problem c.in_ok-problem.problem
     c.in_ok-first.ensures.problem.problem c.in_ok-second.ensures.problem.problem c.in_ok-problem.ensures.hull c.recall_conditions.ensures.fits
 
 pub returns-clause-encloses : goal.returns-clause-encloses

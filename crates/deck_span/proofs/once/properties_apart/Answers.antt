@@ -7,4 +7,6 @@ returns c =
     let a = c.args.a.now in
     let b = c.args.b.now in
     properties_rest a b c.place_apart.result c.if-not-are_options_same.ensures
-    (layers_found (layer_size b.grid) (cell_count b.grid) c.layer_size.result c.cell_count.result (properties a) (properties b) c.property_place.result c.place_apart.result c.layer_size.ensures.size c.cell_count.ensures.count c.place_apart.ensures c.property_place.ensures)
+    (layers_found (layer_size b.grid) (cell_count b.grid) c.layer_size.result c.cell_count.result (properties a)
+    (properties b) c.property_place.result c.place_apart.result c.layer_size.ensures.size c.cell_count.ensures.count c.place_apart.ensures
+    c.property_place.ensures)

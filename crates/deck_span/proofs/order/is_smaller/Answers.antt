@@ -10,4 +10,5 @@ returns-then-shift-ge0 c =
 pub returns-else-shift-ge0 : goal.returns-else-shift-ge0
 returns-else-shift-ge0 c =
     let p = c.unsigned_abs-places.result in
-    order_within c.args.a c.args.b p _ (omega (arith, ints)) (at_most_stands c.shifted_digits-else-shift-ge0.result (c.args.b.digits * 10 ^ p) c.args.a.digits (omega arith) c.shifted_digits-else-shift-ge0.ensures)
+    order_within c.args.a c.args.b p _ (omega (arith, ints)) (at_most_stands c.shifted_digits-else-shift-ge0.result (c.args.b.digits * 10 ^ p) c.args.a.digits
+    (omega arith) c.shifted_digits-else-shift-ge0.ensures)

@@ -5,7 +5,8 @@ pub returns-in_err-more-clause-bottoms : goal.returns-in_err-more-clause-bottoms
 unfolding bottoms_of
 returns-in_err-more-clause-bottoms g c = λ files agree.
     let p = err_from_is_err_and c.from_residual.result c.from_residual.ensures.1 in
-    rw (p.1, p.2) (steps_stop _ c.in_err-more.field-0.0 c.args.count c.loop-k.k _ _ c.loop-k-test.true (c.in_err-more.ensures.bottoms files agree) (c.loop-k.invariant.0 files (c.in_err-more.ensures.folder.since files agree)))
+    rw (p.1, p.2) (steps_stop _ c.in_err-more.field-0.0 c.args.count c.loop-k.k _ _ c.loop-k-test.true (c.in_err-more.ensures.bottoms files agree)
+    (c.loop-k.invariant.0 files (c.in_err-more.ensures.folder.since files agree)))
 
 pub loop-k-preserved : goal.loop-k-preserved
 loop-k-preserved g c = (

@@ -6,7 +6,11 @@ pub returns-in_err-period : goal.returns-in_err-period
 unfolding periods_of
 returns-in_err-period c =
     let p = err_from_is_err_and c.from_residual.result c.from_residual.ensures.1 in
-    record { periods = rw (p.1, p.2) (ends_all c.in_err-period.field-0.0 _ _ (ends_text _ c.in_err-period.field-0.0 c.loop.periods.items c.args.count c.loop.counter _ _ c.loop-test.true c.in_err-period.ensures.period c.loop.invariant.0)) }
+    record {
+      periods = rw (p.1, p.2) (ends_all c.in_err-period.field-0.0 _ _
+          (ends_text _ c.in_err-period.field-0.0 c.loop.periods.items c.args.count c.loop.counter _ _ c.loop-test.true c.in_err-period.ensures.period
+          c.loop.invariant.0));
+    }
 
 pub loop-preserved : goal.loop-preserved
 loop-preserved c = (

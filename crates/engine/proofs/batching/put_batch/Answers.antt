@@ -10,4 +10,5 @@ returns-in-Ok-clause-answers g c =
 
 pub returns-in-Err-clause-answers : goal.returns-in-Err-clause-answers
 returns-in-Err-clause-answers g c =
-    puts_more g.K.Sink.leads c.end_reading.ensures (λ more m files agree. ends_unread (jobs_read files (batch_of c.args.asked)) Jobs (λ (v : Vec Job Global). v.items) (λ x. tt) c.in-Err.fault (c.in-Err.ensures.reads files agree) c.in-Err.ensures.folder.counts m)
+    puts_more g.K.Sink.leads c.end_reading.ensures (λ more m files agree. ends_unread (jobs_read files (batch_of c.args.asked)) Jobs (λ (v : Vec Job Global).
+    v.items) (λ x. tt) c.in-Err.fault (c.in-Err.ensures.reads files agree) c.in-Err.ensures.folder.counts m)

@@ -7,7 +7,8 @@ use Rattle.engine.proofs.checking.check.Goals as goal
 pub returns-in-Ok-clause-answers : goal.returns-in-Ok-clause-answers
 returns-in-Ok-clause-answers g c =
     puts_more g.K.Sink.leads c.check_decks-status.ensures.answers (λ more m files agree.
-    let A : ℕ → Type 0 = λ n. Answers (case_of (Some (Check (check_of c.args.asked) (text_if c.args.asked.to))) files) n (g.F.Folder.faults c.check_decks-status.new.folder) c.check_decks-status.result more in
+    let A : ℕ → Type 0 = λ n. Answers (case_of (Some (Check (check_of c.args.asked) (text_if c.args.asked.to))) files) n
+    (g.F.Folder.faults c.check_decks-status.new.folder) c.check_decks-status.result more in
     subst A c.in-Ok.ensures.folder.counts (m files agree (c.in-Ok.ensures.reads files (c.check_decks-status.ensures.since files agree))))
 
 pub returns-in-Err-clause-answers : goal.returns-in-Err-clause-answers
@@ -15,7 +16,8 @@ returns-in-Err-clause-answers g c =
     let asked = check_of c.args.asked in
     let to = text_if c.args.asked.to in
     puts_more g.K.Sink.leads c.end_reading.ensures (λ more m files agree. ends_undecked asked.limits asked.name to files (to_check files asked to)
-    (λ d. read_reads (Checking asked.limits d asked.digits) (λ l. tt) (listing_read (is_some to) files asked d.first)) c.in-Err.fault (c.in-Err.ensures.reads files agree) c.in-Err.ensures.folder.counts m)
+    (λ d. read_reads (Checking asked.limits d asked.digits) (λ l. tt) (listing_read (is_some to) files asked d.first)) c.in-Err.fault
+    (c.in-Err.ensures.reads files agree) c.in-Err.ensures.folder.counts m)
 
 pub check_decks-status-requires-clause-zones : goal.check_decks-status-requires-clause-zones
 check_decks-status-requires-clause-zones g c = file_still _ _ (check_of c.args.asked).zones c.in-Ok.ensures.folder.still c.requires.may.2

@@ -16,7 +16,8 @@ returns-in-Ok-clause-answers g c =
     puts_more g.K.Sink.leads c.put_check.ensures (λ more m files agree read.
     let L : Bool → Type 0 = λ b. listing_read b files asked d.first ≡ Ok c.in-Ok.listing in
     ends_decked asked.limits asked.name to files (to_check files asked to) d read
-    (ends_read (listing_read (is_some to) files asked d.first) (Checking asked.limits d asked.digits) c.in-Ok.listing (subst L (c.is_some.ensures ∙ is_second c.args.asked.to) (c.in-Ok.ensures.reads files agree))
+    (ends_read (listing_read (is_some to) files asked d.first) (Checking asked.limits d asked.digits) c.in-Ok.listing
+    (subst L (c.is_some.ensures ∙ is_second c.args.asked.to) (c.in-Ok.ensures.reads files agree))
     (ends_defined m (c.requires.decks, c.in-Ok.ensures.listed))))
 
 pub returns-in-Err-clause-answers : goal.returns-in-Err-clause-answers

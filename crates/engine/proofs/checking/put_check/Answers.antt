@@ -4,10 +4,13 @@ use Rattle.engine.proofs.Common.{HaveOneHistory}
 use Rattle.engine.proofs.Ends.{puts_more}
 use Rattle.engine.proofs.checking.put_check.Goals as goal
 
-puts_verdict : (limits : Limits) (d : Decks) (s : ℕ) (listing : ZonedListing) (v : ListingVerdict) (end : Status) (puts : List Put) → IsVerdict limits d s listing.zones listing.steps v → (v ≡ Certified → ListingEncloses d s listing.zones listing.steps) → (v ≡ Certified → HaveOneHistory d) →
+puts_verdict : (limits : Limits) (d : Decks) (s : ℕ) (listing : ZonedListing) (v : ListingVerdict) (end : Status) (puts : List Put) →
+    IsVerdict limits d s listing.zones listing.steps v → (v ≡ Certified → ListingEncloses d s listing.zones listing.steps) →
+    (v ≡ Certified → HaveOneHistory d) →
     IsEnd (verdict_line d.first.grid v) (verdict_status v) end puts → IsRun (IsCheck limits d s listing) NeverCut end puts
 puts_verdict limits d s listing v end puts is encloses history h =
-    lone (IsCheck limits d s listing) NeverCut (verdict_line d.first.grid v) (verdict_status v) end puts (record { verdict = v; is = is; encloses = encloses; history = history; status = refl; are = refl }) h
+    lone (IsCheck limits d s listing) NeverCut (verdict_line d.first.grid v) (verdict_status v) end puts
+    (record { verdict = v; is = is; encloses = encloses; history = history; status = refl; are = refl }) h
 
 pub check_listing-requires-clause-listing : goal.check_listing-requires-clause-listing
 check_listing-requires-clause-listing g c =

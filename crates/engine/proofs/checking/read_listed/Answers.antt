@@ -16,7 +16,8 @@ returns-in_err-steps-clause-reads g c = λ files agree.
     let S : Option (List ℕ) → Type 0 = λ z. IsReading {T = List ListedStep} (λ l. l) (steps_read c.args.between files asked m z) (Err c.in_err-steps.field-0.0) in
     passed_reading (λ (l : ZonedListing). l) (listing_read c.args.between files (check_of c.args.asked) c.args.model.now) c.from_residual-in_err-steps.result _ c.from_residual-in_err-steps.ensures.1
     (read_then (λ (l : ZonedListing). l) (zones_read files asked.zones m) _ zones (Err c.in_err-steps.field-0.0) (c.in_ok-zones.ensures.zones files (c.read_steps.ensures.folder.since files agree))
-    (unread_then (λ (l : ZonedListing). l) (steps_read c.args.between files asked m zones) _ (λ l. l) c.in_err-steps.field-0.0 (subst S c.zone_slice.ensures (c.in_err-steps.ensures.reads files agree))))
+    (unread_then (λ (l : ZonedListing). l) (steps_read c.args.between files asked m zones) _ (λ l. l) c.in_err-steps.field-0.0
+    (subst S c.zone_slice.ensures (c.in_err-steps.ensures.reads files agree))))
 
 pub returns-clause-reads : goal.returns-clause-reads
 returns-clause-reads g c = λ files agree.

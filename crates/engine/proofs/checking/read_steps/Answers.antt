@@ -5,17 +5,25 @@ use Rattle.engine.proofs.checking.read_steps.Goals as goal
 
 pub returns-in_err-bytes-clause-reads : goal.returns-in_err-bytes-clause-reads
 returns-in_err-bytes-clause-reads g c = λ files agree.
-    passed_reading (λ (l : List ListedStep). l) (steps_read c.args.between files (check_of c.args.asked) c.args.model.now (option_map (λ z. z.now) c.args.zones)) c.from_residual.result _ c.from_residual.ensures.1
-    (unread_then (λ (l : List ListedStep). l) (read_by_name c.args.asked.listing.now (file_at files)) _ (λ (v : Vec ℕ Global). v.items) c.in_err-bytes.field-0.0 (c.in_err-bytes.ensures.reads files agree))
+    passed_reading (λ (l : List ListedStep). l)
+    (steps_read c.args.between files (check_of c.args.asked) c.args.model.now (option_map (λ z. z.now) c.args.zones)) c.from_residual.result _
+    c.from_residual.ensures.1
+    (unread_then (λ (l : List ListedStep). l) (read_by_name c.args.asked.listing.now (file_at files)) _ (λ (v : Vec ℕ Global). v.items) c.in_err-bytes.field-0.0
+    (c.in_err-bytes.ensures.reads files agree))
 
 pub returns-in_err-listing-clause-reads : goal.returns-in_err-listing-clause-reads
 returns-in_err-listing-clause-reads g c = λ files agree.
     let m = c.args.model.now in
     let f : List ℕ → Result (List ListedStep) Refusal = listing_in c.args.between m (check_of c.args.asked).digits (pairs_in m (option_map (λ z. z.now) c.args.zones)) c.args.asked.listing.now in
     let P : List ℕ → Type 0 = λ b. StopsText c.in_err-listing.field-0.0 (f b) in
-    passed_reading (λ (l : List ListedStep). l) (steps_read c.args.between files (check_of c.args.asked) c.args.model.now (option_map (λ z. z.now) c.args.zones)) c.from_residual-in_err-listing.result _ c.from_residual-in_err-listing.ensures.1
-    (read_then (λ (l : List ListedStep). l) (read_by_name c.args.asked.listing.now (file_at files)) f c.in_ok-bytes.bytes.items (Err (input_fault c.in_err-listing.field-0.0)) (c.in_ok-bytes.ensures.reads files agree) (text_read (λ (l : List ListedStep). l) _ c.in_err-listing.field-0.0 (subst P c.as_slice.ensures.value c.in_err-listing.ensures.reads)))
+    passed_reading (λ (l : List ListedStep). l)
+    (steps_read c.args.between files (check_of c.args.asked) c.args.model.now (option_map (λ z. z.now) c.args.zones)) c.from_residual-in_err-listing.result
+    _ c.from_residual-in_err-listing.ensures.1
+    (read_then (λ (l : List ListedStep). l) (read_by_name c.args.asked.listing.now (file_at files)) f c.in_ok-bytes.bytes.items
+    (Err (input_fault c.in_err-listing.field-0.0)) (c.in_ok-bytes.ensures.reads files agree)
+    (text_read (λ (l : List ListedStep). l) _ c.in_err-listing.field-0.0 (subst P c.as_slice.ensures.value c.in_err-listing.ensures.reads)))
 
 pub returns-clause-reads : goal.returns-clause-reads
 returns-clause-reads g c = λ files agree.
-    read_then (λ (l : List ListedStep). l) (read_by_name c.args.asked.listing.now (file_at files)) _ c.in_ok-bytes.bytes.items (Ok c.in_ok-listing.listing) (c.in_ok-bytes.ensures.reads files agree) (rw c.as_slice.ensures.value at c.in_ok-listing.ensures.reads)
+    read_then (λ (l : List ListedStep). l) (read_by_name c.args.asked.listing.now (file_at files)) _ c.in_ok-bytes.bytes.items (Ok c.in_ok-listing.listing)
+    (c.in_ok-bytes.ensures.reads files agree) (rw c.as_slice.ensures.value at c.in_ok-listing.ensures.reads)

@@ -13,7 +13,8 @@ returns-in_default g c = puts_more g.K.Sink.leads c.put_memory.ensures (λ more 
 pub returns-in-Ok-read_named : goal.returns-in-Ok-read_named
 returns-in-Ok-read_named g c =
     let files = c.in-Ok-read_named.ensures.folder.since (files_of c.read_named.new.folder) refl ∙ ap files_of c.in-Ok.ensures in
-    let read = made_reading c.args.asked.seed c.args.asked.size (files_of c.read_named.new.folder) (Ok c.in-Ok-read_named.model) files (c.in-Ok-read_named.ensures.reads (files_of c.read_named.new.folder) refl) in
+    let read = made_reading c.args.asked.seed c.args.asked.size (files_of c.read_named.new.folder) (Ok c.in-Ok-read_named.model) files
+    (c.in-Ok-read_named.ensures.reads (files_of c.read_named.new.folder) refl) in
     puts_more g.K.Sink.leads c.put_summary.ensures (λ more m. m read)
 
 pub returns : goal.returns

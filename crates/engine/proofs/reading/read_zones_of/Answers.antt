@@ -16,7 +16,9 @@ returns-in_err-numbers-clause-zones g c =
     λ files agree. rw (p.1, p.2) tt
 
 pub returns-clause-zones : goal.returns-clause-zones
-returns-clause-zones g c = λ files agree. rw (c.in-Some.is, c.new.ensures) (zones_were_read _ c.in_ok-read.read.items c.in_ok-numbers.numbers.items (c.in_ok-read.ensures.zones files agree) (search rules))
+returns-clause-zones g c = λ files agree.
+    rw (c.in-Some.is, c.new.ensures) (zones_were_read _ c.in_ok-read.read.items c.in_ok-numbers.numbers.items (c.in_ok-read.ensures.zones files agree)
+    (search rules))
 
 pub returns-clause-fit : goal.returns-clause-fit
 returns-clause-fit g c = rw c.new.ensures (zones_fit c.args.model.now c.in_ok-read.read.items c.in_ok-numbers.numbers.items (search rules) c.in_ok-read.ensures.count c.in_ok-numbers.ensures.limits)
@@ -25,7 +27,8 @@ pub read_zones-requires-clause-may : goal.read_zones-requires-clause-may
 read_zones-requires-clause-may g c = rw c.in-Some.is at c.requires.may
 
 pub returns-in_err-read-clause-folder : goal.returns-in_err-read-clause-folder
-returns-in_err-read-clause-folder g c = stops_as g.F.Folder c.args.folder.now c.read_zones.new.folder c.in_err-read.field-0.0 c.from_residual.result c.from_residual.ensures.1 c.in_err-read.ensures.folder
+returns-in_err-read-clause-folder g c = stops_as g.F.Folder c.args.folder.now c.read_zones.new.folder c.in_err-read.field-0.0 c.from_residual.result
+    c.from_residual.ensures.1 c.in_err-read.ensures.folder
 
 pub returns-in_err-numbers-clause-folder : goal.returns-in_err-numbers-clause-folder
 returns-in_err-numbers-clause-folder g c =

@@ -16,4 +16,10 @@ returns-clause-runs g c =
     let read = is_order (order_of_words (map (λ w. w.now) c.args.words.now)) _ c.read_order.ensures.order c.read_order.ensures.usage in
     let r = c.run_order-status.ensures.answers _ read c.args.out.now [] (met.rests c.args.out.now) in
     result_of _ _ _ _ _ _ _ _ _ _ r.0 (met.tells c.args.out.now r.0 c.run_order-status.new.out r.1)
-    (record { one = c.one_listing.ensures.one; bound = c.one_listing.ensures.bound; refusal = c.one_listing.ensures.refusal; verdict = c.one_verdict.ensures; difference = c.one_difference.ensures }) r.1 c.some_agree.ensures r.2
+    (record {
+      one = c.one_listing.ensures.one;
+      bound = c.one_listing.ensures.bound;
+      refusal = c.one_listing.ensures.refusal;
+      verdict = c.one_verdict.ensures;
+      difference = c.one_difference.ensures;
+    }) r.1 c.some_agree.ensures r.2

@@ -7,7 +7,8 @@ use Rattle.engine.proofs.running.run_order.Goals as goal
 pub returns-in-Err-Usage-clause-answers : goal.returns-in-Err-Usage-clause-answers
 returns-in-Err-Usage-clause-answers g c = λ one is.
     puts_more g.K.Sink.leads c.put_last-in-Err-Usage.ensures (λ more m files agree. without_views files one None
-    (((g.met.W.Sink g.world.𝓛 g.world.𝓜 g.world.𝓡 ((λ s x. x), (λ x. x), (λ x. x), λ x. x))).rests c.args.side.now) (is.1 (rw c.in-Err-Usage.is (ap Err (rw c.in-Err-Usage.is at c.in-Err-Usage.field-0-is)))) refl (ends_usage m))
+    (((g.met.W.Sink g.world.𝓛 g.world.𝓜 g.world.𝓡 ((λ s x. x), (λ x. x), (λ x. x), λ x. x))).rests c.args.side.now)
+    (is.1 (rw c.in-Err-Usage.is (ap Err (rw c.in-Err-Usage.is at c.in-Err-Usage.field-0-is)))) refl (ends_usage m))
 
 pub returns-in-Batch-clause-answers : goal.returns-in-Batch-clause-answers
 returns-in-Batch-clause-answers g c = λ one is.
@@ -15,7 +16,10 @@ returns-in-Batch-clause-answers g c = λ one is.
     (((g.met.W.Sink g.world.𝓛 g.world.𝓜 g.world.𝓡 ((λ s x. x), (λ x. x), (λ x. x), λ x. x))).rests c.args.side.now) (order_read one c.args.read _ _ is.0 c.in-Ok.is c.in-Batch.is) refl (ends_usage m))
 
 pub returns-in-Err-Memory-clause-answers : goal.returns-in-Err-Memory-clause-answers
-returns-in-Err-Memory-clause-answers g c = λ one is. puts_more g.K.Sink.leads c.put_memory.ensures (λ more m files agree. not_ok _ _ (((g.met.W.Sink g.world.𝓛 g.world.𝓜 g.world.𝓡 ((λ s x. x), (λ x. x), (λ x. x), λ x. x))).rests c.args.side.now) (ends_without_words m) (wanting_not_ok _ more m))
+returns-in-Err-Memory-clause-answers g c = λ one is.
+    puts_more g.K.Sink.leads c.put_memory.ensures (λ more m files agree.
+    not_ok _ _ (((g.met.W.Sink g.world.𝓛 g.world.𝓜 g.world.𝓡 ((λ s x. x), (λ x. x), (λ x. x), λ x. x))).rests c.args.side.now) (ends_without_words m)
+    (wanting_not_ok _ more m))
 
 pub returns-in-Run-clause-answers : goal.returns-in-Run-clause-answers
 returns-in-Run-clause-answers g c = λ one is.
@@ -24,7 +28,8 @@ returns-in-Run-clause-answers g c = λ one is.
 pub returns-in-Make-clause-answers : goal.returns-in-Make-clause-answers
 returns-in-Make-clause-answers g c = λ one is.
     puts_more g.K.Sink.leads c.put_made.ensures (λ more m files agree. without_views files one _
-    (((g.met.W.Sink g.world.𝓛 g.world.𝓜 g.world.𝓡 ((λ s x. x), (λ x. x), (λ x. x), λ x. x))).rests c.args.side.now) (order_read one c.args.read _ _ is.0 c.in-Ok.is c.in-Make.is) refl (m (g.F.Folder.faults c.args.folder.now)))
+    (((g.met.W.Sink g.world.𝓛 g.world.𝓜 g.world.𝓡 ((λ s x. x), (λ x. x), (λ x. x), λ x. x))).rests c.args.side.now)
+    (order_read one c.args.read _ _ is.0 c.in-Ok.is c.in-Make.is) refl (m (g.F.Folder.faults c.args.folder.now)))
 
 pub returns-in-Check-clause-answers : goal.returns-in-Check-clause-answers
 returns-in-Check-clause-answers g c = λ one is.
@@ -60,12 +65,14 @@ write-requires g c = record { name = may_do (g.F.Folder.may c.args.folder.now) c
 pub returns-in-Words-clause-answers : goal.returns-in-Words-clause-answers
 returns-in-Words-clause-answers g c = λ one is.
     puts_more g.K.Sink.leads c.put_words.ensures (λ more m files agree. without_views files one _
-    (((g.met.W.Sink g.world.𝓛 g.world.𝓜 g.world.𝓡 ((λ s x. x), (λ x. x), (λ x. x), λ x. x))).rests c.args.side.now) (order_read one c.args.read _ _ is.0 c.in-Ok.is c.in-Words.is) refl (ends_defined m tt))
+    (((g.met.W.Sink g.world.𝓛 g.world.𝓜 g.world.𝓡 ((λ s x. x), (λ x. x), (λ x. x), λ x. x))).rests c.args.side.now)
+    (order_read one c.args.read _ _ is.0 c.in-Ok.is c.in-Words.is) refl (ends_defined m tt))
 
 pub returns-in-CheckText-clause-answers : goal.returns-in-CheckText-clause-answers
 returns-in-CheckText-clause-answers g c = λ one is.
     puts_more g.K.Sink.leads c.check_text.ensures.answers (λ more m files agree. without_views files one _
-    (((g.met.W.Sink g.world.𝓛 g.world.𝓜 g.world.𝓡 ((λ s x. x), (λ x. x), (λ x. x), λ x. x))).rests c.args.side.now) (order_read one c.args.read _ _ is.0 c.in-Ok.is c.in-CheckText.is) refl (m files agree))
+    (((g.met.W.Sink g.world.𝓛 g.world.𝓜 g.world.𝓡 ((λ s x. x), (λ x. x), (λ x. x), λ x. x))).rests c.args.side.now)
+    (order_read one c.args.read _ _ is.0 c.in-Ok.is c.in-CheckText.is) refl (m files agree))
 
 pub returns-in-CheckText-clause-unasked : goal.returns-in-CheckText-clause-unasked
 returns-in-CheckText-clause-unasked g c = λ one is nothing. absurd (subst ReadsNothing (order_read one c.args.read _ _ is.0 c.in-Ok.is c.in-CheckText.is) nothing)

@@ -4,5 +4,7 @@ use Rattle.engine.proofs.text_check.check_alike.Goals as goal
 
 pub returns : goal.returns
 returns g c = puts_more g.K.Sink.leads c.check_rest-status.ensures (λ more m n.
-    let R : List ℕ → Type 0 = λ rest. Answers (case_rest (asked_text c.args.asked) (two c.args.first.model c.args.second.model) c.args.first.zones c.args.second.line rest) n n c.check_rest-status.result more in
+    let R : List ℕ → Type 0 = λ rest. Answers
+    (case_rest (asked_text c.args.asked) (two c.args.first.model c.args.second.model) c.args.first.zones c.args.second.line rest) n n
+    c.check_rest-status.result more in
     subst R c.as_slice.ensures (m n))

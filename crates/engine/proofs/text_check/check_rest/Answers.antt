@@ -13,7 +13,8 @@ returns-in-Ok g c =
     let Z : Option (List ℕ) → Type 0 = λ z. steps_after (is_some d.second) d.first asked.digits (pairs_in d.first z) asked.text c.args.line c.args.rest.now ≡ Ok steps in
     let L : Option (List ℕ) → Type 0 = λ z. AreListed d.first (pairs_in d.first z) steps in
     puts_more g.K.Sink.leads c.put_check.ensures (λ more m n.
-    ends_read (steps_after (is_some d.second) d.first asked.digits (pairs_in d.first zones) asked.text c.args.line c.args.rest.now) come steps (subst Z c.zone_slice.ensures (rw c.is_some-between.ensures at c.in-Ok.ensures.reads))
+    ends_read (steps_after (is_some d.second) d.first asked.digits (pairs_in d.first zones) asked.text c.args.line c.args.rest.now) come steps
+    (subst Z c.zone_slice.ensures (rw c.is_some-between.ensures at c.in-Ok.ensures.reads))
     (ends_defined m (c.requires.decks, record { zones = c.requires.zones; steps = subst L c.zone_slice.ensures c.in-Ok.ensures.listed })))
 
 pub returns-in-Err : goal.returns-in-Err

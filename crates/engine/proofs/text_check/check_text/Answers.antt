@@ -19,4 +19,5 @@ returns-in-Err-clause-answers g c =
     let asked = asked_text c.args.asked in
     let come : List ℕ → Case = λ bytes. case_read (parts_in asked.limits asked.text bytes) (λ (p : Parts). case_parts asked p.first p.second) in
     puts_more g.K.Sink.leads c.end_reading.ensures (λ more m files agree. ends_unread (read_by_name asked.text (file_at files)) come (λ (v : Vec ℕ Global). v.items)
-    (λ bytes. read_reads (λ (p : Parts). case_parts asked p.first p.second) (λ p. parts_read asked p.first p.second) (parts_in asked.limits asked.text bytes)) c.in-Err.fault (c.in-Err.ensures.reads files agree) c.in-Err.ensures.folder.counts m)
+    (λ bytes. read_reads (λ (p : Parts). case_parts asked p.first p.second) (λ p. parts_read asked p.first p.second) (parts_in asked.limits asked.text bytes))
+    c.in-Err.fault (c.in-Err.ensures.reads files agree) c.in-Err.ensures.folder.counts m)

@@ -18,5 +18,6 @@ returns-in-Some g c =
     let a = c.args.first in
     let b = c.args.second in
     puts_more g.K.Sink.leads c.end_reading.ensures (λ more m n.
-    ends_unlike a.model (record { model = b.model; unlike = unlike asked.text b }) (case_rest asked (two a.model b.model) a.zones b.line b.rest) c.in-Some.difference c.in-Some.ensures.first c.in-Some.ensures.unlike
+    ends_unlike a.model (record { model = b.model; unlike = unlike asked.text b })
+    (case_rest asked (two a.model b.model) a.zones b.line b.rest) c.in-Some.difference c.in-Some.ensures.first c.in-Some.ensures.unlike
     c.unlike-fault.result c.unlike-fault.ensures c.from.result c.from.ensures m)

@@ -13,21 +13,25 @@ returns-in_err-first-clause-reads g c =
 pub returns-in-Err-clause-reads : goal.returns-in-Err-clause-reads
 returns-in-Err-clause-reads g c = λ files agree.
     let P : Option (Bor Text) → Type 0 = λ o. AreDecksAs c.args.limits c.args.name.now (text_if o) files (Err c.in-Err.fault) in
-    subst P (sym c.in-Some.is) (unread_second c.args.limits c.args.name.now files c.in_ok-first.first (c.in_ok-first.ensures.reads files (c.read_second.ensures.folder.since files agree)) c.in-Some.to.now c.in-Err.fault (c.in-Err.ensures.reads files agree))
+    subst P (sym c.in-Some.is) (unread_second c.args.limits c.args.name.now files c.in_ok-first.first
+    (c.in_ok-first.ensures.reads files (c.read_second.ensures.folder.since files agree)) c.in-Some.to.now c.in-Err.fault
+    (c.in-Err.ensures.reads files agree))
 
 pub returns-in_default-clause-reads : goal.returns-in_default-clause-reads
 returns-in_default-clause-reads g c = λ files agree. rw c.in_default.is (one_read c.args.limits c.args.name.now files c.in_ok-first.first (c.in_ok-first.ensures.reads files agree))
 
 pub returns-in-Ok-clause-reads : goal.returns-in-Ok-clause-reads
 returns-in-Ok-clause-reads g c = λ files agree.
-    rw c.in-Some.is (compared_decks c.args.limits c.args.name.now files c.in_ok-first.first (c.in_ok-first.ensures.reads files (c.read_second.ensures.folder.since files agree)) c.in-Some.to.now c.in-Ok.second (c.in-Ok.ensures.reads files agree)
+    rw c.in-Some.is (compared_decks c.args.limits c.args.name.now files c.in_ok-first.first
+    (c.in_ok-first.ensures.reads files (c.read_second.ensures.folder.since files agree)) c.in-Some.to.now c.in-Ok.second (c.in-Ok.ensures.reads files agree)
     c.decks_of.result c.decks_of.ensures.alike c.decks_of.ensures.unlike)
 
 pub returns-in-Ok-clause-decks : goal.returns-in-Ok-clause-decks
 returns-in-Ok-clause-decks g c = compared_valid c.in_ok-first.first c.in-Ok.second.model c.decks_of.result c.in_ok-first.ensures.model c.in-Ok.ensures.model c.decks_of.ensures.alike
 
 pub returns-in-Err-clause-folder : goal.returns-in-Err-clause-folder
-returns-in-Err-clause-folder g c = stops_after g.F.Folder c.args.folder.now c.read_named.new.folder c.read_second.new.folder c.in_ok-first.first c.in-Err.fault c.in_ok-first.ensures.folder c.in-Err.ensures.folder
+returns-in-Err-clause-folder g c = stops_after g.F.Folder c.args.folder.now c.read_named.new.folder c.read_second.new.folder c.in_ok-first.first c.in-Err.fault
+    c.in_ok-first.ensures.folder c.in-Err.ensures.folder
 
 pub returns-in-Ok-clause-folder : goal.returns-in-Ok-clause-folder
 returns-in-Ok-clause-folder g c =

@@ -7,7 +7,8 @@ returns g c =
     let first = c.new-settler.result in
     let now = c.put_steps.new.settler in
     let keeps : (first.views ≡ c.args.views) × (first.viewer.ghost_name ≡ first.viewer.ghost_name) = (c.new-settler.ensures.numbers.1, refl) in
-    let told = told_of _ _ _ g.V.StepViewer.begins (Shows g.V.Viewer.viewed g.V.Viewer.stopped c.args.views) g.V.StepViewer.stop (λ s. s.viewer.now) (λ s. (s.views ≡ c.args.views) × (s.viewer.ghost_name ≡ first.viewer.ghost_name))
+    let told = told_of _ _ _ g.V.StepViewer.begins (Shows g.V.Viewer.viewed g.V.Viewer.stopped c.args.views) g.V.StepViewer.stop (λ s. s.viewer.now) (λ s.
+    (s.views ≡ c.args.views) × (s.viewer.ghost_name ≡ first.viewer.ghost_name))
     (λ s t period step k b. ((b.0 ∙ k.0, b.1 ∙ k.1), b.2))
     (λ s t p b ended k l. ((l.0 ∙ k.0, l.1 ∙ k.1), (let P : ℕ → Type 0 = λ n. Shows g.V.Viewer.viewed g.V.Viewer.stopped n s.viewer.now p b ended t.viewer.now in subst P k.0 l.2)))
     (λ s. refl) c.args.task.now first now keeps c.put_steps.ensures.reaches in

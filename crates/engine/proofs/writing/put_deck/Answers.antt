@@ -7,4 +7,5 @@ pub returns : goal.returns
 returns g c =
     let text = deck_text c.args.model.now in
     puts_more g.K.Sink.leads c.put_line.ensures (λ more p.
-    lone (IsDeck c.args.model.now) NeverCut text status.Ok c.put_line.result more (refl, refl) (ends_by (λ t. t.items) c.write_deck-text.result text status.Ok c.put_line.result more c.write_deck-text.ensures p))
+    lone (IsDeck c.args.model.now) NeverCut text status.Ok c.put_line.result more (refl, refl)
+    (ends_by (λ t. t.items) c.write_deck-text.result text status.Ok c.put_line.result more c.write_deck-text.ensures p))

@@ -4,10 +4,12 @@ use Rattle.head_table.proofs.WordReads.{at_get, row_next}
 use Rattle.head_table.proofs.ends.read_all.Goals as goal
 
 pub head_from_word-low-requires : goal.head_from_word-low-requires
-head_from_word-low-requires c = let i = c.loop-cell.cell in let e = at_get _ (2 * i + 1) _ 0 c.word.ensures in subst (λ (n : ℕ). IsHead (head_of_word n)) e (c.requires.range Low i c.loop-cell-test.true)
+head_from_word-low-requires c = let i = c.loop-cell.cell in let e = at_get _ (2 * i + 1) _ 0 c.word.ensures in subst (λ (n : ℕ). IsHead (head_of_word n)) e
+    (c.requires.range Low i c.loop-cell-test.true)
 
 pub head_from_word-high-requires : goal.head_from_word-high-requires
-head_from_word-high-requires c = let i = c.loop-cell.cell in let e = at_get _ (2 * i + 2) _ 0 c.word-in-loop-cell.ensures in subst (λ (n : ℕ). IsHead (head_of_word n)) e (c.requires.range High i c.loop-cell-test.true)
+head_from_word-high-requires c = let i = c.loop-cell.cell in let e = at_get _ (2 * i + 2) _ 0 c.word-in-loop-cell.ensures in subst (λ (n : ℕ).
+    IsHead (head_of_word n)) e (c.requires.range High i c.loop-cell-test.true)
 
 pub loop-cell-preserved : goal.loop-cell-preserved
 loop-cell-preserved c = let i = c.loop-cell.cell in let inv = c.loop-cell.invariant in let long : length c.loop-cell.bounds.items ≡ i = omega (arith, inv.len, c.loop-cell.bounds.ok) in

@@ -21,17 +21,20 @@ returns-in_err-expect c =
     let pairs = pairs_in c.args.model.now (zones_of c.args.pairs.now) in
     let same = c.as_slice.ensures.value ∙ c.in_ok-times.ensures.times in
     let p = err_from_is_err_and c.from_residual-in_err-expect.result c.from_residual-in_err-expect.ensures.1 in
-    rw (p.1, p.2) (end_stops c.args.between c.args.model.now c.args.s pairs c.args.lines.now _ c.as_slice.result.now same c.in_ok-read_first.ensures c.in_ok-steps.steps.items _ c.in_ok-steps.ensures c.in_err-expect.field-0.0 c.in_err-expect.ensures)
+    rw (p.1, p.2) (end_stops c.args.between c.args.model.now c.args.s pairs c.args.lines.now _ c.as_slice.result.now same c.in_ok-read_first.ensures
+    c.in_ok-steps.steps.items _ c.in_ok-steps.ensures c.in_err-expect.field-0.0 c.in_err-expect.ensures)
 
 pub returns-in_err-end : goal.returns-in_err-end
 returns-in_err-end c =
     let pairs = pairs_in c.args.model.now (zones_of c.args.pairs.now) in
     let same = c.as_slice.ensures.value ∙ c.in_ok-times.ensures.times in
     let p = err_from_is_err_and c.from_residual-in_err-end.result c.from_residual-in_err-end.ensures.1 in
-    rw (p.1, p.2) (over_stops c.args.between c.args.model.now c.args.s pairs c.args.lines.now _ c.as_slice.result.now same c.in_ok-read_first.ensures c.in_ok-steps.steps.items _ c.in_ok-steps.ensures _ c.in_ok-expect.ensures c.in_err-end.field-0.0 c.in_err-end.ensures)
+    rw (p.1, p.2) (over_stops c.args.between c.args.model.now c.args.s pairs c.args.lines.now _ c.as_slice.result.now same c.in_ok-read_first.ensures
+    c.in_ok-steps.steps.items _ c.in_ok-steps.ensures _ c.in_ok-expect.ensures c.in_err-end.field-0.0 c.in_err-end.ensures)
 
 pub returns : goal.returns
 returns c =
     let pairs = pairs_in c.args.model.now (zones_of c.args.pairs.now) in
     let same = c.as_slice.ensures.value ∙ c.in_ok-times.ensures.times in
-    all_read c.args.between c.args.model.now c.args.s pairs c.args.lines.now _ c.as_slice.result.now same c.in_ok-read_first.ensures c.in_ok-steps.steps.items _ c.in_ok-steps.ensures _ c.in_ok-expect.ensures _ c.in_ok-end.ensures
+    all_read c.args.between c.args.model.now c.args.s pairs c.args.lines.now _ c.as_slice.result.now same c.in_ok-read_first.ensures c.in_ok-steps.steps.items _
+    c.in_ok-steps.ensures _ c.in_ok-expect.ensures _ c.in_ok-end.ensures

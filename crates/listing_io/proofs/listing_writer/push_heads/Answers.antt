@@ -11,8 +11,10 @@ loop-cell-preserved c =
     let i = c.loop-cell.cell in
     let lt : i < n = omega arith in
     let rows = λ (cs : List ℕ) (hs : List Bound). each_lines (cell_lines c.args.model.now) cs hs in
-    let next : rows (range_with_len i (n - i)) (drop i bs) ≡ cell_lines c.args.model.now i (get_or bs i no_bound) ++ rows (range_with_len (i + 1) (n - (i + 1))) (drop (i + 1) bs) = rw (cells_next n i lt, next_of bs i no_bound lt) refl in
-    rw (c.in_ok-push_row_if.ensures, c.is_active.ensures, c.head_pair-pair.ensures) (lines_written c.loop-cell.text.items _ (rows (range_with_len i (n - i)) (drop i bs)) c.loop-cell.invariant _ _ next)
+    let next : rows (range_with_len i (n - i)) (drop i bs) ≡ cell_lines c.args.model.now i (get_or bs i no_bound) ++ rows (range_with_len (i + 1) (n - (i + 1)))
+    (drop (i + 1) bs) = rw (cells_next n i lt, next_of bs i no_bound lt) refl in
+    rw (c.in_ok-push_row_if.ensures, c.is_active.ensures, c.head_pair-pair.ensures)
+    (lines_written c.loop-cell.text.items _ (rows (range_with_len i (n - i)) (drop i bs)) c.loop-cell.invariant _ _ next)
 
 pub returns : goal.returns
 unfolding head_lines

@@ -4,4 +4,5 @@ use Rattle.listing_io.proofs.listing_writer.push_heads.Given as goal
 
 abbrev pub invariant-loop-cell : goal.invariant-loop-cell
 invariant-loop-cell l =
-    l.text.items ++ text_of (each_lines (cell_lines l.model) (range_with_len l.cell (length l.heads - l.cell)) (drop l.cell l.heads)) ≡ l.fn.text.items ++ text_of (each_lines (cell_lines l.model) (range_with_len 0 (length l.heads)) l.heads)
+    l.text.items ++ text_of (each_lines (cell_lines l.model) (range_with_len l.cell (length l.heads - l.cell)) (drop l.cell l.heads)) ≡
+    l.fn.text.items ++ text_of (each_lines (cell_lines l.model) (range_with_len 0 (length l.heads)) l.heads)

@@ -12,7 +12,8 @@ loop-cell-preserved c =
     let lt : i < length bs = omega arith in
     let within : i < length p = omega (arith, c.requires.whole) in
     let rows = λ (es : List Entries) (hs : List Bound). each_lines (λ e b. head_line c.args.grid.now e.id b ∷ []) es hs in
-    let next : rows (drop i p) (drop i bs) ≡ head_line c.args.grid.now (entries_at p i).id (get_or bs i no_bound) ∷ rows (drop (i + 1) p) (drop (i + 1) bs) = rw (next_of p i no_entries within, next_of bs i no_bound lt) refl in
+    let next : rows (drop i p) (drop i bs) ≡ head_line c.args.grid.now (entries_at p i).id (get_or bs i no_bound) ∷ rows (drop (i + 1) p) (drop (i + 1) bs) =
+    rw (next_of p i no_entries within, next_of bs i no_bound lt) refl in
     rw (c.in_ok-push_row.ensures, c.id_at.ensures, c.head_pair.ensures) (line_written c.loop-cell.text.items _ (rows (drop i p) (drop i bs)) c.loop-cell.invariant _ _ next)
 
 pub returns : goal.returns

@@ -35,7 +35,9 @@ loop-summary-preserved-in-Ok g c =
       steps = omega (arith, c.loop-summary.invariant.steps, c.count_step.ensures.steps, next.done);
       heads = omega (arith, c.loop-summary.invariant.heads, c.count_step.ensures.few, whole, c.requires.task.decks.first.grid.size.cells, next.done);
       fits = c.count_step.ensures.fits;
-      counted = one_more_counted c.args.task.now g.S.Settler.leads c.loop-summary.steps c.next.new.self c.loop-summary.settler c.next.new.settler (with_heads c.in-Ok.field-0 c.next.new.self.heads) c.loop-summary.summary c.count_step.new.self next (subst S c.heads.ensures c.count_step.ensures.is) c.loop-summary.invariant.counted;
+      counted = one_more_counted c.args.task.now g.S.Settler.leads c.loop-summary.steps c.next.new.self c.loop-summary.settler c.next.new.settler
+          (with_heads c.in-Ok.field-0 c.next.new.self.heads) c.loop-summary.summary c.count_step.new.self next
+          (subst S c.heads.ensures c.count_step.ensures.is) c.loop-summary.invariant.counted;
     }
 
 pub returns-in-Err-End : goal.returns-in-Err-End

@@ -47,4 +47,6 @@ pub with_stresses-read-requires-clause-size : goal.with_stresses-read-requires-c
 with_stresses-read-requires-clause-size g c = c.in_ok-flow.ensures.grid.size
 
 pub with_stresses-read-requires-clause-names : goal.with_stresses-read-requires-clause-names
-with_stresses-read-requires-clause-names g c = names_still _ _ _ (λ name h. c.in_ok-flow.ensures.folder.still name (c.in_ok-basic.ensures.folder.still name (c.in_ok-begun.ensures.folder.still name h))) c.requires.names
+with_stresses-read-requires-clause-names g c =
+    names_still _ _ _ (λ name h. c.in_ok-flow.ensures.folder.still name (c.in_ok-basic.ensures.folder.still name (c.in_ok-begun.ensures.folder.still name h)))
+    c.requires.names

@@ -26,4 +26,6 @@ returns-in_err-next-clause-folder g c =
     rw (p.1, p.2) (both_read c.loop-asked.invariant.0 c.in_err-next.ensures.folder)
 
 pub returns-clause-model : goal.returns-clause-model
-returns-clause-model g c = λ files agree. stresses_done c.args.limits files c.args.names.now stresses c.loop-asked.asked-index c.loop-asked.model _ c.loop-asked-test.false (c.loop-asked.invariant.1 files agree)
+returns-clause-model g c = λ files agree.
+    stresses_done c.args.limits files c.args.names.now stresses c.loop-asked.asked-index c.loop-asked.model _ c.loop-asked-test.false
+    (c.loop-asked.invariant.1 files agree)

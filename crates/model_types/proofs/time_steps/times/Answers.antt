@@ -5,7 +5,8 @@ use Rattle.model_types.proofs.time_steps.times.Goals as goal
 
 pub loop-p-preserved : goal.loop-p-preserved
 loop-p-preserved c =
-    c.in_ok-push_steps.ensures ∙ steps_more c.args.model.now c.loop-p.p _ _ c.as_slice-periods.result.now _ _ c.loop-p-test.true c.as_slice-periods.ensures c.index-periods-p.is refl refl c.loop-p.invariant
+    c.in_ok-push_steps.ensures ∙ steps_more c.args.model.now c.loop-p.p _ _ c.as_slice-periods.result.now _ _ c.loop-p-test.true c.as_slice-periods.ensures
+    c.index-periods-p.is refl refl c.loop-p.invariant
 
 pub returns-clause-times : goal.returns-clause-times
 unfolding times

@@ -6,7 +6,9 @@ pub returns-in_err-test_layer : goal.returns-in_err-test_layer
 unfolding layers_tested
 returns-in_err-test_layer c =
     let p = err_from_is_err_and c.from_residual.result c.from_residual.ensures.1 in
-    rw (p.1, p.2, sym c.layer_size-places.ensures.size) (steps_end _ c.in_err-test_layer.field-0.0 c.layer_size-places.result c.loop-place.place _ _ c.loop-place-test.true c.in_err-test_layer.ensures c.loop-place.invariant)
+    rw (p.1, p.2, sym c.layer_size-places.ensures.size)
+    (steps_end _ c.in_err-test_layer.field-0.0 c.layer_size-places.result c.loop-place.place _ _ c.loop-place-test.true c.in_err-test_layer.ensures
+    c.loop-place.invariant)
 
 pub loop-place-preserved : goal.loop-place-preserved
 loop-place-preserved c = step_goes_on _ c.layer_size-places.result c.loop-place.place _ _ _ c.loop-place-test.true c.in_ok-test_layer.ensures c.loop-place.invariant

@@ -5,11 +5,13 @@ use Rattle.period_arrays.proofs.periods.read_periods.Goals as goal
 pub returns-in-Err-clause-periods : goal.returns-in-Err-clause-periods
 unfolding periods_of
 returns-in-Err-clause-periods g c = λ files agree.
-    stops_all c.in-Err.fault _ _ (put_stops _ c.loop-period.periods c.loop-period.period-index _ _ (c.loop-period.invariant.0 files (c.in-Err.ensures.folder.since files agree)) _ (omega arith) c.in-Err.fault (c.in-Err.ensures.period files agree))
+    stops_all c.in-Err.fault _ _ (put_stops _ c.loop-period.periods c.loop-period.period-index _ _
+    (c.loop-period.invariant.0 files (c.in-Err.ensures.folder.since files agree)) _ (omega arith) c.in-Err.fault (c.in-Err.ensures.period files agree))
 
 pub loop-period-preserved : goal.loop-period-preserved
 loop-period-preserved g c = (
-  (λ files agree. one_more_put _ c.loop-period.periods c.loop-period.period-index _ _ (c.loop-period.invariant.0 files (c.in-Ok.ensures.folder.since files agree)) _ (omega arith) _ _ (c.in-Ok.ensures.period files agree)),
+  (λ files agree. one_more_put _ c.loop-period.periods c.loop-period.period-index _ _
+      (c.loop-period.invariant.0 files (c.in-Ok.ensures.folder.since files agree)) _ (omega arith) _ _ (c.in-Ok.ensures.period files agree)),
   (λ files agree. c.loop-period.invariant.1 files (c.in-Ok.ensures.folder.since files agree)),
   c.in-Ok.ensures.folder.counts ∙ c.loop-period.invariant.2,
   c.in-Ok.ensures.before,

@@ -13,5 +13,7 @@ returns-in-Some c =
     let h = subst (HasPair i) c.in-Some.is c.requires.face in
     let v = sym c.is_constant.ensures ∙ c.if-is_constant.true in
     let pair = c.face_pair-pair.ensures ∙ h.2 (constant_active i.model i.at.period f.end v) in
-    let head = c.given_head-head.ensures ∙ item_is (known_bound i.model i.at) no_bound (cell_count i.model.grid) i.step.heads c.requires.input.step.heads f.end h.1 ∙ ap (λ b. cond b (constant_bound i.model i.at f.end) no_bound) v in
-    made_through (whole_constant i.model i.tables.digits i.at i.old) (is_constant i.model i.at.period) c.args.face f _ c.in-Some.is v (c.known_head.ensures ∙ (λ t. known_head Constant f.end (pair t) (head t)))
+    let head = c.given_head-head.ensures ∙ item_is (known_bound i.model i.at) no_bound
+    (cell_count i.model.grid) i.step.heads c.requires.input.step.heads f.end h.1 ∙ ap (λ b. cond b (constant_bound i.model i.at f.end) no_bound) v in
+    made_through (whole_constant i.model i.tables.digits i.at i.old) (is_constant i.model i.at.period) c.args.face f _ c.in-Some.is v
+    (c.known_head.ensures ∙ (λ t. known_head Constant f.end (pair t) (head t)))

@@ -6,16 +6,21 @@ use Rattle.problem_builder.proofs.branches.links.Goals as goal
 pub link_through-requires-clause-face : goal.link_through-requires-clause-face
 link_through-requires-clause-face c =
     let len : length c.faces-faces.result ≡ 6 = ap length c.faces-faces.ensures.faces in
-    face_paired c.args.input.now c.args.cell _ c.loop-face.face-index _ c.requires.input c.requires.cell (c.faces-faces.ensures.faces ∙ ap (λ (z : Inputs). faces z.model.grid c.args.cell) c.input.view_is) (omega (arith, len, c.loop-face-test.true))
+    face_paired c.args.input.now c.args.cell _ c.loop-face.face-index _ c.requires.input c.requires.cell
+    (c.faces-faces.ensures.faces ∙ ap (λ (z : Inputs). faces z.model.grid c.args.cell) c.input.view_is) (omega (arith, len, c.loop-face-test.true))
 
 pub loop-face-preserved : goal.loop-face-preserved
 loop-face-preserved c =
     let i = c.args.input.now in
     let len : length c.faces-faces.result ≡ 6 = ap length c.faces-faces.ensures.faces in
-    push_next (λ o. option_map (whole_link i.model i.tables.digits i.at i.old) (through (is_variable i.model i.at.period) o)) c.faces-faces.result c.loop-face.face-index _ _ _ c.link_through.result (omega (arith, len, c.loop-face-test.true)) c.in_ok-push_some.ensures c.link_through.ensures c.loop-face.invariant
+    push_next (λ o. option_map (whole_link i.model i.tables.digits i.at i.old) (through (is_variable i.model i.at.period) o)) c.faces-faces.result
+    c.loop-face.face-index _ _ _ c.link_through.result
+    (omega (arith, len, c.loop-face-test.true)) c.in_ok-push_some.ensures c.link_through.ensures c.loop-face.invariant
 
 pub returns : goal.returns
 returns c =
     let i = c.args.input.now in
     let len : length c.faces-faces.result ≡ 6 = ap length c.faces-faces.ensures.faces in
-    made_all (whole_link i.model i.tables.digits i.at i.old) (through (is_variable i.model i.at.period)) c.faces-faces.result _ c.loop-face.face-index _ (omega (arith, len, c.loop-face-test.false)) (c.faces-faces.ensures.faces ∙ ap (λ (z : Inputs). faces z.model.grid c.args.cell) c.input.view_is) c.loop-face.invariant
+    made_all (whole_link i.model i.tables.digits i.at i.old) (through (is_variable i.model i.at.period)) c.faces-faces.result _ c.loop-face.face-index _
+    (omega (arith, len, c.loop-face-test.false))
+    (c.faces-faces.ensures.faces ∙ ap (λ (z : Inputs). faces z.model.grid c.args.cell) c.input.view_is) c.loop-face.invariant

@@ -10,4 +10,6 @@ fault-requires-clause-rivers c =
 pub fault-requires-clause-evaps : goal.fault-requires-clause-evaps
 fault-requires-clause-evaps c =
     let i = c.args.input.now in
-    subst (λ (e : Entries). All EvapFits e.evaps) (sym c.in_ok-made.ensures) (evaps_fit i.model i.tables.digits i.at.period c.args.number c.requires.input.model c.requires.input.time.valid c.requires.cell.within c.requires.cell.variable)
+    subst (λ (e : Entries). All EvapFits e.evaps) (sym c.in_ok-made.ensures)
+    (evaps_fit i.model i.tables.digits i.at.period c.args.number c.requires.input.model c.requires.input.time.valid c.requires.cell.within
+    c.requires.cell.variable)

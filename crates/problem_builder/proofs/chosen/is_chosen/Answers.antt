@@ -8,5 +8,6 @@ returns c =
     let first = simp to_z-of_z at c.is_in_first-first.ensures in
     let named = simp to_z-of_z at c.is_named-second.ensures in
     let top = simp to_z-of_z at c.is_top-third.ensures in
-    let second = named ∙ ap (λ k. is_int c.args.option 2 && is_int (int_at c.args.layers.now (place_in_layer m.grid c.args.cell)) k) (let e : layer_of m.grid c.args.cell + 1 ≡ suc (layer_of m.grid c.args.cell) = omega arith in e) in
+    let second = named ∙ ap (λ k. is_int c.args.option 2 && is_int (int_at c.args.layers.now (place_in_layer m.grid c.args.cell)) k)
+    (let e : layer_of m.grid c.args.cell + 1 ≡ suc (layer_of m.grid c.args.cell) = omega arith in e) in
     c.any.ensures ∙ (λ t. first t || second t || top t)

@@ -37,7 +37,18 @@ returns c =
     let b : FitsSigned w64 c.head_pair-surface.result.high = search rules in
     let d : FitsSigned w64 c.depth_pair-depth.result.low = search rules in
     let e : FitsSigned w64 c.depth_pair-depth.result.high = search rules in
-    let lowest : FitsSigned w64 (c.head_pair-surface.result.low -ℤ c.depth_pair-depth.result.high) = omega (arith, ints, low.above, low.below, ap (λ (b : Bound). b.low) surface, ap (λ (b : Bound). b.high) depth) in
-    let highest : FitsSigned w64 (c.head_pair-surface.result.high -ℤ c.depth_pair-depth.result.low) = omega (arith, ints, high.above, high.below, ap (λ (b : Bound). b.high) surface, ap (λ (b : Bound). b.low) depth) in
-    let pair = c.capped_pair-pair.ensures ∙ ap kept_pair (c.evap_branch.ensures.rounded ∙ (λ t. small_pair (evap_formula (size c.args.rate) (size (c.delr_at.ensures t)) (size (c.delc_at.ensures t)) (size c.args.depth)) c.args.s)) in
-    simp to_z-of_z (λ t. record { lo = (pair t).lo; hi = (pair t).hi; ext_lo = (surface t).low -ℤ (depth t).high; ext_hi = (surface t).high -ℤ (depth t).low; surf_lo = (surface t).low; surf_hi = (surface t).high })
+    let lowest : FitsSigned w64 (c.head_pair-surface.result.low -ℤ c.depth_pair-depth.result.high) =
+    omega (arith, ints, low.above, low.below, ap (λ (b : Bound). b.low) surface, ap (λ (b : Bound). b.high) depth) in
+    let highest : FitsSigned w64 (c.head_pair-surface.result.high -ℤ c.depth_pair-depth.result.low) =
+    omega (arith, ints, high.above, high.below, ap (λ (b : Bound). b.high) surface, ap (λ (b : Bound). b.low) depth) in
+    let pair = c.capped_pair-pair.ensures ∙ ap kept_pair
+    (c.evap_branch.ensures.rounded ∙ (λ t. small_pair (evap_formula (size c.args.rate) (size (c.delr_at.ensures t)) (size (c.delc_at.ensures t))
+    (size c.args.depth)) c.args.s)) in
+    simp to_z-of_z (λ t. record {
+      lo = (pair t).lo;
+      hi = (pair t).hi;
+      ext_lo = (surface t).low -ℤ (depth t).high;
+      ext_hi = (surface t).high -ℤ (depth t).low;
+      surf_lo = (surface t).low;
+      surf_hi = (surface t).high;
+    })

@@ -15,4 +15,10 @@ returns-clause-fits c =
     let valid = c.requires.model.cells c.args.cell c.requires.cell c.requires.active in
     let k = c.requires.thick.each c.args.cell c.requires.cell c.requires.active in
     let P : ColHalf → Type 0 = λ h. IsColHalf h in
-    subst P (sym (returns-clause-is c)) (record { along = delc_positive c.args.model.now c.args.cell c.requires.model; hk = valid.hk; hani = valid.hani; thick = subst (λ (q : Span). AreThick q.lo q.hi) k.span k.thick })
+    subst P (sym (returns-clause-is c)) (record {
+      along = delc_positive c.args.model.now c.args.cell c.requires.model;
+      hk = valid.hk;
+      hani = valid.hani;
+      thick =
+          subst (λ (q : Span). AreThick q.lo q.hi) k.span k.thick;
+    })

@@ -10,7 +10,8 @@ returns c =
     let x = c.col_half-a.ensures.is in
     let y = c.col_half-b.ensures.is in
     let w = c.delr_at.ensures in
-    c.capped_pair.ensures ∙ ap kept_pair (c.col_branch.ensures.rounded (thickness m a) (thickness m (a + stride m.grid Column)) ∙ (λ t. small_pair (column_of (x t) (y t) (w t) (thickness m a) (thickness m (a + stride m.grid Column))) c.args.s))
+    c.capped_pair.ensures ∙ ap kept_pair (c.col_branch.ensures.rounded (thickness m a) (thickness m (a + stride m.grid Column)) ∙ (λ t.
+    small_pair (column_of (x t) (y t) (w t) (thickness m a) (thickness m (a + stride m.grid Column))) c.args.s))
 
 pub col_branch-requires-clause-width : goal.col_branch-requires-clause-width
 col_branch-requires-clause-width c = subst IsPositive (sym c.delr_at.ensures) (delr_positive c.args.model.now c.args.first c.requires.model)

@@ -6,4 +6,5 @@ pub loop-cell-init : goal.loop-cell-init
 loop-cell-init c = none_filled (HasConductance c.args.model.now c.args.s c.args.axis) no_pair _ c.new-pairs.ensures.items
 
 pub loop-cell-preserved : goal.loop-cell-preserved
-loop-cell-preserved c = next_filled (HasConductance c.args.model.now c.args.s c.args.axis) no_pair c.loop-cell.cell c.loop-cell.pairs.items _ _ c.in_ok-push.ensures.items c.pair_after.ensures c.loop-cell.invariant
+loop-cell-preserved c = next_filled (HasConductance c.args.model.now c.args.s c.args.axis) no_pair c.loop-cell.cell c.loop-cell.pairs.items _ _
+    c.in_ok-push.ensures.items c.pair_after.ensures c.loop-cell.invariant

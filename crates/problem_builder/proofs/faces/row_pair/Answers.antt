@@ -10,7 +10,8 @@ returns c =
     let x = c.row_half-a.ensures.is in
     let y = c.row_half-b.ensures.is in
     let w = c.delc_at.ensures in
-    c.capped_pair.ensures ∙ ap kept_pair (c.row_branch.ensures.rounded (thickness m a) (thickness m (a + stride m.grid Row)) ∙ (λ t. small_pair (row_of (x t) (y t) (w t) (thickness m a) (thickness m (a + stride m.grid Row))) c.args.s))
+    c.capped_pair.ensures ∙ ap kept_pair (c.row_branch.ensures.rounded (thickness m a) (thickness m (a + stride m.grid Row)) ∙ (λ t.
+    small_pair (row_of (x t) (y t) (w t) (thickness m a) (thickness m (a + stride m.grid Row))) c.args.s))
 
 pub row_branch-requires-clause-width : goal.row_branch-requires-clause-width
 row_branch-requires-clause-width c = subst IsPositive (sym c.delc_at.ensures) (delc_positive c.args.model.now c.args.first c.requires.model)

@@ -35,9 +35,11 @@ vert_branch-requires-clause-bed c =
     let span = c.span_at-span.ensures in
     let vkcb = c.dec_at-vkcb.ensures ∙ ap (λ xs. dec_at xs a) c.as_slice.ensures in
     let made : Bed = record { thick_lo = c.span_at-span.result.lo; thick_hi = c.span_at-span.result.hi; vkcb = c.dec_at-vkcb.result } in
-    let bed : made ≡ record { thick_lo = (span_in c.args.beds.now a).lo; thick_hi = (span_in c.args.beds.now a).hi; vkcb = vkcb_at m a } = λ t. record { thick_lo = (span t).lo; thick_hi = (span t).hi; vkcb = vkcb t } in
+    let bed : made ≡ record { thick_lo = (span_in c.args.beds.now a).lo; thick_hi = (span_in c.args.beds.now a).hi; vkcb = vkcb_at m a } = λ t.
+    record { thick_lo = (span t).lo; thick_hi = (span t).hi; vkcb = vkcb t } in
     let P : Bed → Type 0 = λ z. IsBed z in
-    subst P (sym bed) (bed_fits m a (span_in c.args.beds.now a) (c.requires.beds.each a (omega (arith, c.requires.branch.within)) c.requires.branch.within c.requires.branch.first c.requires.branch.second))
+    subst P (sym bed) (bed_fits m a (span_in c.args.beds.now a)
+    (c.requires.beds.each a (omega (arith, c.requires.branch.within)) c.requires.branch.within c.requires.branch.first c.requires.branch.second))
 
 pub vert_branch-requires-clause-delr : goal.vert_branch-requires-clause-delr
 vert_branch-requires-clause-delr c = subst IsPositive (sym c.delr_at.ensures) (delr_positive c.args.model.now c.args.first c.requires.model)

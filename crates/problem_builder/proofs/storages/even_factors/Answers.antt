@@ -13,7 +13,8 @@ returns-then-is_one c =
       transient = sym (ap (λ (x : Period). x.steady) period) ∙ c.if-period.false;
       even = sym (ap (λ (x : Period). x.tsmult) period) ∙ c.if-is_one.ensures.means.0 refl;
     } in
-    even_factors c.args.model.now c.args.number c.step_factors.result steps (c.step_factors.ensures.grown ∙ (λ t. step_factors (size (period t).tsmult) (period t).nstp 1)) c.step_factors.ensures.usable
+    even_factors c.args.model.now c.args.number c.step_factors.result steps
+    (c.step_factors.ensures.grown ∙ (λ t. step_factors (size (period t).tsmult) (period t).nstp 1)) c.step_factors.ensures.usable
 
 pub returns-else-is_one : goal.returns-else-is_one
 returns-else-is_one c steps = absurd (false≢true (c.if-is_one.ensures.means.1 (ap (λ (x : Period). x.tsmult) c.stress_period-period.ensures ∙ steps.even)))

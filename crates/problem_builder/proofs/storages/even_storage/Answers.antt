@@ -4,7 +4,8 @@ use Rattle.problem_builder.proofs.KindsOf.{variable_kind, constant_no_variable, 
 use Rattle.problem_builder.proofs.storages.even_storage.Goals as goal
 
 pub storage_at-requires-clause-active : goal.storage_at-requires-clause-active
-storage_at-requires-clause-active c = variable_active c.args.model.now c.args.number c.args.cell (variable_kind c.args.model.now c.args.number c.args.cell (sym (c.requires.kinds.each c.args.cell c.requires.cell) ∙ c.in-Variable.is))
+storage_at-requires-clause-active c = variable_active c.args.model.now c.args.number c.args.cell
+    (variable_kind c.args.model.now c.args.number c.args.cell (sym (c.requires.kinds.each c.args.cell c.requires.cell) ∙ c.in-Variable.is))
 
 pub storage_at-requires-clause-transient : goal.storage_at-requires-clause-transient
 storage_at-requires-clause-transient c = (c.requires.factors 0).transient

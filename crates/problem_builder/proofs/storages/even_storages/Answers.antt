@@ -6,7 +6,9 @@ pub loop-cell-init : goal.loop-cell-init
 loop-cell-init c = none_filled (HasEvenStorage c.args.model.now c.args.tables.now.digits c.args.number) no_pair _ c.new-pairs.ensures.items
 
 pub loop-cell-preserved : goal.loop-cell-preserved
-loop-cell-preserved c = next_filled (HasEvenStorage c.args.model.now c.args.tables.now.digits c.args.number) no_pair c.loop-cell.cell c.loop-cell.pairs.items _ _ c.in_ok-push.ensures.items c.even_storage.ensures c.loop-cell.invariant
+loop-cell-preserved c = next_filled (HasEvenStorage c.args.model.now c.args.tables.now.digits c.args.number) no_pair c.loop-cell.cell c.loop-cell.pairs.items _
+    _ c.in_ok-push.ensures.items c.even_storage.ensures c.loop-cell.invariant
 
 pub returns : goal.returns
-returns c = rw c.new.ensures (filled_to (HasEvenStorage c.args.model.now c.args.tables.now.digits c.args.number) no_pair _ (cell_count c.args.model.now.grid) _ (omega (arith, c.cell_count-count.ensures.count)) c.loop-cell.invariant)
+returns c = rw c.new.ensures (filled_to (HasEvenStorage c.args.model.now c.args.tables.now.digits c.args.number) no_pair _ (cell_count c.args.model.now.grid) _
+    (omega (arith, c.cell_count-count.ensures.count)) c.loop-cell.invariant)

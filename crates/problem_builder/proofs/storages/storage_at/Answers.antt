@@ -18,7 +18,8 @@ storage_branch-requires-clause-thick c =
     let m = c.args.model.now in
     let t = c.args.tables.now in
     let span = c.span_at.ensures ∙ ap (λ xs. span_in xs c.args.cell) c.as_slice-2.ensures in
-    let thick : c.thickness_in-thickness.result ≡ cond m.coefficient None (Some ((span_in t.thick c.args.cell).lo, (span_in t.thick c.args.cell).hi)) = c.thickness_in-thickness.ensures ∙ (λ q. cond m.coefficient None (Some ((span q).lo, (span q).hi))) in
+    let thick : c.thickness_in-thickness.result ≡ cond m.coefficient None (Some ((span_in t.thick c.args.cell).lo, (span_in t.thick c.args.cell).hi)) =
+    c.thickness_in-thickness.ensures ∙ (λ q. cond m.coefficient None (Some ((span q).lo, (span q).hi))) in
     let P : Option (Sd × Sd) → Type 0 = λ o. IsThickness o in
     subst P (sym thick) (usable_case m.coefficient (span_in t.thick c.args.cell) (c.requires.tables.thick.each c.args.cell c.requires.cell c.requires.active).thick)
 
@@ -42,10 +43,13 @@ returns c n grown =
     let per = c.stress_period-period.ensures in
     let ss = c.dec_at-ss.ensures ∙ ap (λ xs. dec_at xs d) c.as_slice.ensures in
     let span = c.span_at.ensures ∙ ap (λ xs. span_in xs d) c.as_slice-2.ensures ∙ (c.requires.tables.thick.each d c.requires.cell c.requires.active).span in
-    let thick : c.thickness_in-thickness.result ≡ cond m.coefficient None (Some ((thick_span m d).lo, (thick_span m d).hi)) = c.thickness_in-thickness.ensures ∙ (λ q. cond m.coefficient None (Some ((span q).lo, (span q).hi))) in
+    let thick : c.thickness_in-thickness.result ≡ cond m.coefficient None (Some ((thick_span m d).lo, (thick_span m d).hi)) =
+    c.thickness_in-thickness.ensures ∙ (λ q. cond m.coefficient None (Some ((span q).lo, (span q).hi))) in
     let delr = c.delr_at-delr.ensures in
     let delc = c.delc_at-delc.ensures in
-    let same : storage_of c.dec_at-ss.result c.thickness_in-thickness.result c.delr_at-delr.result c.delc_at-delc.result (size w.tsmult) w.nstp n c.stress_period-period.result.now.perlen (thickness m d) ≡ storage_term m w n d =
+    let same : storage_of c.dec_at-ss.result c.thickness_in-thickness.result c.delr_at-delr.result c.delc_at-delc.result
+    (size w.tsmult) w.nstp n c.stress_period-period.result.now.perlen (thickness m d) ≡ storage_term m w n d =
     (λ q. storage_of (ss q) (thick q) (delr q) (delc q) (size w.tsmult) w.nstp n (per q).perlen (thickness m d))
-    ∙ ap (λ o. storage_formula (storativity_term (size (dec_at m.ss d)) o) (area_term m d) (sum_term (size w.tsmult) (w.nstp - 1)) (size w.perlen) (power_term (size w.tsmult) (n - 1))) (thick_case m.coefficient (thick_span m d) (thickness m d)) in
+    ∙ ap (λ o. storage_formula (storativity_term (size (dec_at m.ss d)) o) (area_term m d) (sum_term (size w.tsmult) (w.nstp - 1)) (size w.perlen)
+    (power_term (size w.tsmult) (n - 1))) (thick_case m.coefficient (thick_span m d) (thickness m d)) in
     c.capped_pair.ensures ∙ ap kept_pair (c.storage_branch.ensures.rounded (size w.tsmult) w.nstp n (thickness m d) grown ∙ ap (λ z. small_pair z c.args.tables.now.digits) same)

@@ -10,7 +10,8 @@ loop-i-preserved c =
     let i = c.loop-i.i in
     let lt : i < length p = omega arith in
     let below : i < length q = omega arith in
-    rw c.in_ok-push.ensures.items (hull_more cell_shape cell_hull p q c.loop-i.cells.items i (entries_at p i) (entries_at q i) c.in_ok-cell.cell lt below (get_or_default p i _ _ lt) (get_or_default q i _ _ below)
+    rw c.in_ok-push.ensures.items (hull_more cell_shape cell_hull p q c.loop-i.cells.items i (entries_at p i) (entries_at q i) c.in_ok-cell.cell lt below
+    (get_or_default p i _ _ lt) (get_or_default q i _ _ below)
     c.loop-i.invariant (rw (c.cell.ensures, c.cell-in-loop-i.ensures) at c.in_ok-cell.ensures.hull))
 
 pub returns-in_err-cell-clause-fault : goal.returns-in_err-cell-clause-fault

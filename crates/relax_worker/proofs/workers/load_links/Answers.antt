@@ -21,6 +21,7 @@ loop-i-preserved c =
       whole = length-set _ _ _ ∙ inv.whole;
       values = load_more c.loop-i.values links (seen_on c.args.side before) (seen_on c.args.side after) i c.load.result room here c.requires.apart load.others inv.values (sym load.seen);
       others = λ d apart. load.others d (λ e. apart i no_link here (sym e)) ∙ inv.others d apart;
-      no_looser = no_looser_trans p (seen_of c.args.seat.now) (seen_of before) (seen_of after) inv.no_looser (moves_no_looser c.args.side p before after (link_at links i).cell _ load.seen load.later load.others load.opposite);
+      no_looser = no_looser_trans p (seen_of c.args.seat.now) (seen_of before) (seen_of after) inv.no_looser
+          (moves_no_looser c.args.side p before after (link_at links i).cell _ load.seen load.later load.others load.opposite);
       opposite = λ d. load.opposite d ∙ inv.opposite d;
     })

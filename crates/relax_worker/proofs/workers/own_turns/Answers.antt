@@ -27,12 +27,14 @@ loop-cell-preserved c =
       | then-cell-workers w ↦ let turn = w.turn.ensures in let d = w.turn.new.seat in
           subst P (sym w.seat-is) record {
             seat = turn.seat;
-            moved = λ side. own_step (is_side side p ok) (seen_on side a) (seen_on side b) (seen_on side d) own i h (inv.no_looser side) (turn.no_looser side) (λ _. subst (λ (k : ℕ). HasMoved side p (seen_on side b) k (seen_on side d k)) whole (turn.moved side)) (inv.moved side);
+            moved = λ side. own_step (is_side side p ok) (seen_on side a) (seen_on side b) (seen_on side d) own i h (inv.no_looser side) (turn.no_looser side)
+                (λ _. subst (λ (k : ℕ). HasMoved side p (seen_on side b) k (seen_on side d k)) whole (turn.moved side)) (inv.moved side);
             no_looser = no_looser_trans p (seen_of a) (seen_of b) (seen_of d) inv.no_looser turn.no_looser;
           }
       | else-cell-workers w ↦ subst P (sym w.seat-is) record {
         seat = inv.seat;
-        moved = λ side. own_step (is_side side p ok) (seen_on side a) (seen_on side b) (seen_on side b) own i h (inv.no_looser side) (stay side) (λ o. absurd (w.if-cell-workers.false o)) (inv.moved side);
+        moved = λ side. own_step (is_side side p ok) (seen_on side a) (seen_on side b) (seen_on side b) own i h (inv.no_looser side) (stay side) (λ o.
+            absurd (w.if-cell-workers.false o)) (inv.moved side);
         no_looser = inv.no_looser;
       }
     ]

@@ -33,7 +33,8 @@ returns-clause-gain c =
 
 pub returns-clause-no_looser : goal.returns-clause-no_looser
 returns-clause-no_looser c = no_looser_trans c.args.table.now.problem.now (seen_of c.args.seat.now) (seen_of c.load_links.new.seat) (seen_of c.exchange.new.seat) (loads_loosen_nothing c)
-    (let put = c.exchange.ensures in tighter_no_looser c.args.side c.args.table.now.problem.now c.load_links.new.seat c.exchange.new.seat c.args.cell c.exchange.result _ put.before put.seen put.others put.opposite)
+    (let put = c.exchange.ensures in tighter_no_looser c.args.side c.args.table.now.problem.now c.load_links.new.seat c.exchange.new.seat c.args.cell
+    c.exchange.result _ put.before put.seen put.others put.opposite)
 
 pub returns-clause-opposite : goal.returns-clause-opposite
 returns-clause-opposite c = λ d. c.exchange.ensures.opposite d ∙ (c.load_links.ensures.opposite d ∙ c.load-own.ensures.opposite d)

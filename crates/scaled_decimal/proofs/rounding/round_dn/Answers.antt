@@ -8,4 +8,5 @@ returns-then-front-lt-LIMIT-clause-nearest c =
 
 pub returns-else-front-lt-LIMIT-clause-nearest : goal.returns-else-front-lt-LIMIT-clause-nearest
 returns-else-front-lt-LIMIT-clause-nearest c =
-    down_at_19 _ c.args.q c.args.behind.unit c.args.behind.places c.args.e c.requires.power (omega (arith, c.quotient-front.ensures)) c.requires.most (ap (λ (n : ℕ). n / 10) c.quotient-front.ensures) (omega (arith, ints))
+    down_at_19 _ c.args.q c.args.behind.unit c.args.behind.places c.args.e c.requires.power (omega (arith, c.quotient-front.ensures)) c.requires.most
+    (ap (λ (n : ℕ). n / 10) c.quotient-front.ensures) (omega (arith, ints))

@@ -22,4 +22,6 @@ returns-then-gap-ge18-clause-nearest c =
 pub returns-else-gap-ge18-clause-nearest : goal.returns-else-gap-ge18-clause-nearest
 returns-else-gap-ge18-clause-nearest c =
     let power = c.power_of_ten-power.ensures.power in
-    c.round_dn.ensures.nearest _ (exact_from _ _ _ (aligned_at c.args.a.m c.args.b.m c.unsigned_abs-gap.result c.power_of_ten-power.result.unit c.args.a.e c.args.b.e _ power (omega (arith, ints)) (omega (arith, ints))))
+    c.round_dn.ensures.nearest _ (exact_from _ _ _
+    (aligned_at c.args.a.m c.args.b.m c.unsigned_abs-gap.result c.power_of_ten-power.result.unit c.args.a.e c.args.b.e _ power (omega (arith, ints))
+    (omega (arith, ints))))

@@ -21,10 +21,13 @@ pub returns-then-gap-ge19-clause-nearest : goal.returns-then-gap-ge19-clause-nea
 returns-then-gap-ge19-clause-nearest c =
     let b = digits c.args.b c.requires.operands.b_decimal c.requires.b_positive in
     let gap = c.unsigned_abs-gap.result in
-    c.round_up.ensures.nearest _ (far_up_to c.args.a.m c.args.b.m (gap - 1) c.args.a.e c.args.b.e _ (omega (arith, ints)) (omega (arith, ints)) (below_ten c.args.b.m (gap - 1) b.1 (omega arith)) c.requires.b_positive)
+    c.round_up.ensures.nearest _ (far_up_to c.args.a.m c.args.b.m (gap - 1) c.args.a.e c.args.b.e _ (omega (arith, ints)) (omega (arith, ints))
+    (below_ten c.args.b.m (gap - 1) b.1 (omega arith)) c.requires.b_positive)
 
 pub returns-else-gap-ge19-clause-nearest : goal.returns-else-gap-ge19-clause-nearest
 returns-else-gap-ge19-clause-nearest c =
     let power = c.power_of_ten-power.ensures.power in
     let sum = c.args.a.m * c.power_of_ten-power.result.unit + c.args.b.m in
-    c.round_up-else-gap-ge19.ensures.nearest _ (exact_up_to _ _ sum _ (omega arith) (aligned_at c.args.a.m c.args.b.m c.unsigned_abs-gap.result c.power_of_ten-power.result.unit c.args.a.e c.args.b.e _ power (omega (arith, ints)) (omega (arith, ints))))
+    c.round_up-else-gap-ge19.ensures.nearest _
+    (exact_up_to _ _ sum _ (omega arith) (aligned_at c.args.a.m c.args.b.m c.unsigned_abs-gap.result c.power_of_ten-power.result.unit c.args.a.e c.args.b.e
+    _ power (omega (arith, ints)) (omega (arith, ints))))

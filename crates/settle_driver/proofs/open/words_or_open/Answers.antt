@@ -8,4 +8,5 @@ returns-in-None-clause-settles c =
 
 pub returns-in-Some-clause-settles : goal.returns-in-Some-clause-settles
 returns-in-Some-clause-settles c =
-    λ b k way settles. open_unfinished c.args.p.now b c.recall_conditions.ensures.fits c.args.words.items k _ way settles refl (where_some c.args.first (c.in-Some.cell, c.in-Some.side) _ _ c.in-Some.is c.requires)
+    λ b k way settles. open_unfinished c.args.p.now b c.recall_conditions.ensures.fits c.args.words.items k _ way settles refl
+    (where_some c.args.first (c.in-Some.cell, c.in-Some.side) _ _ c.in-Some.is c.requires)

@@ -20,6 +20,7 @@ loop-other-preserved c =
         other ∷ i.done.0,
         i.done.1 ∙ (ap (λ (l : List HeadSeat). l ++ i.done.0) popped ∙ append_assoc left (other ∷ []) i.done.0),
         all_cons (λ s. AreNoLooser p (seen_of s) (seen_of after)) other i.done.0 (tighter_right p before other after joined.tighter)
-            (All-weaker (λ s. AreNoLooser p (seen_of s) (seen_of before)) (λ s. AreNoLooser p (seen_of s) (seen_of after)) (λ s q. no_looser_trans p (seen_of s) (seen_of before) (seen_of after) q (tighter_left p before other after joined.tighter)) i.done.0 i.done.2),
+            (All-weaker (λ s. AreNoLooser p (seen_of s) (seen_of before)) (λ s. AreNoLooser p (seen_of s) (seen_of after)) (λ s q.
+            no_looser_trans p (seen_of s) (seen_of before) (seen_of after) q (tighter_left p before other after joined.tighter)) i.done.0 i.done.2),
       );
     }

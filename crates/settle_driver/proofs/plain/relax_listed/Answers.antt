@@ -12,6 +12,7 @@ loop-cell-preserved c =
       | then-cell-cells w ↦
           let p = c.args.p.now in
           let turn = w.relax_cell.ensures in
-          subst (Listed p c.args.words.now) (sym w.words-is) (listed_more p c.args.words.now c.loop-cell.words w.relax_cell.new.words _ c.len-cells.ensures.fits (omega (arith, w.if-cell-cells.true, c.len-cells.ensures.count)) w.relax_cell.auto.words turn.relaxed turn.others c.loop-cell.invariant)
+          subst (Listed p c.args.words.now) (sym w.words-is) (listed_more p c.args.words.now c.loop-cell.words w.relax_cell.new.words _ c.len-cells.ensures.fits
+          (omega (arith, w.if-cell-cells.true, c.len-cells.ensures.count)) w.relax_cell.auto.words turn.relaxed turn.others c.loop-cell.invariant)
       | else-cell-cells w ↦ subst (Listed c.args.p.now c.args.words.now) (sym w.words-is) c.loop-cell.invariant
     ]

@@ -20,4 +20,7 @@ returns-clause-way c = record { on = λ b way. (c.loop-round.invariant.phased b 
 pub returns-clause-reached : goal.returns-clause-reached
 returns-clause-reached c =
     let all : c.loop-round._round ≡ c.args.rounds = omega (arith, c.loop-round-test.false, c.loop-round.auto._round-end) in
-    record { on = λ b barrier way rounds. phased_settles c.args.p.now b c.recall_conditions.ensures.fits c.loop-round.words c.loop-round._round barrier (c.loop-round.invariant.phased b way) (rw all rounds) }
+    record {
+      on = λ b barrier way rounds. phased_settles c.args.p.now b c.recall_conditions.ensures.fits c.loop-round.words c.loop-round._round barrier
+          (c.loop-round.invariant.phased b way) (rw all rounds);
+    }

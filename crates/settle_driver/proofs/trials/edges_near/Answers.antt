@@ -2,10 +2,12 @@ use Rattle.settle_driver.proofs.Common.{◌≡◌, ℕ, ◌+◌, ◌<◌, List, 
 use Rattle.settle_driver.proofs.Common.{Side, IsHeadFrom, below_more, pos, get_or_at, get_or-append}
 use Rattle.settle_driver.proofs.trials.edges_near.Goals as goal
 
-edge_more : (side : Side) (es old new : List ℤ) (i : ℕ) (z : ℤ) → new ≡ old ++ z ∷ [] → length old ≡ i → IsHeadFrom side (head_at es i) z → ((c : ℕ) → c < i → IsHeadFrom side (head_at es c) (head_at old c))
+edge_more : (side : Side) (es old new : List ℤ) (i : ℕ) (z : ℤ) → new ≡ old ++ z ∷ [] → length old ≡ i → IsHeadFrom side (head_at es i) z →
+    ((c : ℕ) → c < i → IsHeadFrom side (head_at es c) (head_at old c))
     → (c : ℕ) → c < i + 1 → IsHeadFrom side (head_at es c) (head_at new c)
 edge_more side es old new i z is long here before = subst (λ (xs : List ℤ). (c : ℕ) → c < i + 1 → IsHeadFrom side (head_at es c) (head_at xs c)) (sym is)
-    (below_more _ _ (λ c h. subst (IsHeadFrom side (head_at es c)) (sym (get_or-append old (z ∷ []) (pos 0) c (omega (arith, h, long)))) (before c h)) (subst (IsHeadFrom side (head_at es i)) (sym (get_or_at old z [] (pos 0) i long)) here))
+    (below_more _ _ (λ c h. subst (IsHeadFrom side (head_at es c)) (sym (get_or-append old (z ∷ []) (pos 0) c (omega (arith, h, long)))) (before c h))
+    (subst (IsHeadFrom side (head_at es i)) (sym (get_or_at old z [] (pos 0) i long)) here))
 
 pub loop-cell-preserved : goal.loop-cell-preserved
 loop-cell-preserved c =

@@ -5,7 +5,8 @@ use Rattle.stated_text.proofs.cutting.cut_rest.Goals as goal
 
 pub returns-then-eq : goal.returns-then-eq
 returns-then-eq c =
-    sym c.loop-left.invariant ∙ rw (c.cut_line.ensures.line, c.in_ok-push.ensures.items) (at_end c.loop-left.files.items c.loop-left.last c.loop-left.number c.cut_line.result.0.now (lines c.cut_line.result.1.now) (search rules))
+    sym c.loop-left.invariant ∙ rw (c.cut_line.ensures.line, c.in_ok-push.ensures.items)
+    (at_end c.loop-left.files.items c.loop-left.last c.loop-left.number c.cut_line.result.0.now (lines c.cut_line.result.1.now) (search rules))
 
 pub loop-left-preserved : goal.loop-left-preserved
 loop-left-preserved c =
@@ -13,10 +14,13 @@ loop-left-preserved c =
     let no_end : bytes_eq row (codes "END") ≡ false = search rules in
     elim c.match-name_in.branch [
       | in-Some+in_ok-push-2 w ↦
-          then_file c.loop-left.files.items c.match-name_in.files.items c.loop-left.last c.match-name_in.last c.loop-left.number c.next_number-number.result row (lines c.cut_line.result.1.now) c.loop-left.left.now _
-          c.cut_line.ensures.line no_end c.next_number-number.ensures c.loop-left.invariant w.in-Some.name.now w.in-Some.ensures.0 w.in-Some.ensures.1 (rw w.files-is w.in_ok-push-2.ensures.items) (w.last-is ∙ w.new-last.ensures)
+          then_file c.loop-left.files.items c.match-name_in.files.items c.loop-left.last c.match-name_in.last c.loop-left.number c.next_number-number.result row
+          (lines c.cut_line.result.1.now) c.loop-left.left.now _
+          c.cut_line.ensures.line no_end c.next_number-number.ensures c.loop-left.invariant w.in-Some.name.now w.in-Some.ensures.0 w.in-Some.ensures.1
+          (rw w.files-is w.in_ok-push-2.ensures.items) (w.last-is ∙ w.new-last.ensures)
       | in_default+in_ok-add w ↦
-          then_line c.loop-left.files.items c.match-name_in.files.items c.loop-left.last c.match-name_in.last c.loop-left.number c.next_number-number.result row (lines c.cut_line.result.1.now) c.loop-left.left.now _
+          then_line c.loop-left.files.items c.match-name_in.files.items c.loop-left.last c.match-name_in.last c.loop-left.number c.next_number-number.result row
+          (lines c.cut_line.result.1.now) c.loop-left.left.now _
           c.cut_line.ensures.line no_end c.next_number-number.ensures c.loop-left.invariant w.in_default.ensures (rw w.files-is refl) (w.last-is ∙ w.in_ok-add.ensures)
     ]
 

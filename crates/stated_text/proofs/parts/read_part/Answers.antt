@@ -9,7 +9,8 @@ returns-in_err-files-clause-reads c =
 
 pub returns-in-Ok-clause-reads : goal.returns-in-Ok-clause-reads
 returns-in-Ok-clause-reads c =
-    whole_part c.args.limits c.args.text.now c.args.line _ c.args.bytes.now c.in_ok-files.files.items c.in_ok-files.ensures c.in-Ok.read.0 c.in-Ok.read.1 (rw c.as_slice.ensures.value at c.in-Ok.ensures.reads) c.part_of.result c.part_of.ensures.reads
+    whole_part c.args.limits c.args.text.now c.args.line _ c.args.bytes.now c.in_ok-files.files.items c.in_ok-files.ensures c.in-Ok.read.0 c.in-Ok.read.1
+    (rw c.as_slice.ensures.value at c.in-Ok.ensures.reads) c.part_of.result c.part_of.ensures.reads
 
 pub returns-in-Err-clause-reads : goal.returns-in-Err-clause-reads
 returns-in-Err-clause-reads c =

@@ -12,7 +12,9 @@ pub returns-then-not-begins_part-clause-reads : goal.returns-then-not-begins_par
 returns-then-not-begins_part-clause-reads c = one_part c.args.limits c.args.text.now c.args.bytes.now _ c.in_ok-first.ensures.reads (search rules)
 
 pub returns-then-not-begins_part-clause-stands : goal.returns-then-not-begins_part-clause-stands
-returns-then-not-begins_part-clause-stands c = stands c.args.limits c.args.text.now c.args.bytes.now _ (one_part c.args.limits c.args.text.now c.args.bytes.now _ c.in_ok-first.ensures.reads (search rules))
+returns-then-not-begins_part-clause-stands c =
+    stands c.args.limits c.args.text.now c.args.bytes.now _ (one_part c.args.limits c.args.text.now c.args.bytes.now _ c.in_ok-first.ensures.reads
+    (search rules))
 
 pub returns-in-Ok-clause-reads : goal.returns-in-Ok-clause-reads
 returns-in-Ok-clause-reads c =
@@ -22,7 +24,9 @@ returns-in-Ok-clause-reads c =
 pub returns-in-Ok-clause-stands : goal.returns-in-Ok-clause-stands
 returns-in-Ok-clause-stands c =
     let another : begins_part (lines c.in_ok-first.first.rest) ≡ true = search rules in
-    stands c.args.limits c.args.text.now c.args.bytes.now _ (two_parts c.args.limits c.args.text.now c.args.bytes.now c.in_ok-first.first c.in_ok-first.ensures.reads another c.in-Ok.second (rw c.as_slice-rest.ensures at c.in-Ok.ensures.reads))
+    stands c.args.limits c.args.text.now c.args.bytes.now _
+    (two_parts c.args.limits c.args.text.now c.args.bytes.now c.in_ok-first.first c.in_ok-first.ensures.reads another c.in-Ok.second
+    (rw c.as_slice-rest.ensures at c.in-Ok.ensures.reads))
 
 pub returns-in-Err-clause-reads : goal.returns-in-Err-clause-reads
 returns-in-Err-clause-reads c =

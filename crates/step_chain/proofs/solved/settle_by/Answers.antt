@@ -12,4 +12,5 @@ returns-in_ok-settle-in-Plain-clause-certificate g c =
     let B : Limits → Type 0 = λ limits. IsBarrierBy limits c.args.p.now c.args.barrier.now in
     let fits = c.recall_conditions.ensures.fits in
     let bars = edges_fit Plain c.args.p.now c.args.barrier.now (subst B c.in-Plain.is c.requires.barrier) in
-    (either_certifies c.args.p.now c.args.barrier.now fits bars g.S.Settler.pairs _ (given_is c.args.p.now c.args.barrier.now fits bars g.S.Settler.pairs _ c.in_ok-settle-in-Plain.ensures.settles)).certificate
+    (either_certifies c.args.p.now c.args.barrier.now fits bars g.S.Settler.pairs _
+    (given_is c.args.p.now c.args.barrier.now fits bars g.S.Settler.pairs _ c.in_ok-settle-in-Plain.ensures.settles)).certificate

@@ -11,13 +11,16 @@ pub range_refusal-requires-clause-settled : goal.range_refusal-requires-clause-s
 range_refusal-requires-clause-settled g c =
     let G : Edges → Type 0 = λ e. IsGiven c.args.p.now g.S.Settler.pairs e c.in_ok-bounds.bounds.items in
     let C : List Bound → Type 0 = λ v. IsCertificate c.args.p.now (clamped_edges c.args.cut.now) (lower_at v) (upper_at v) in
-    subst C (sym c.as_slice.ensures.value) (certifies_clamped c.args.p.now c.args.cut.now c.in_ok-bounds.bounds.items c.recall_conditions.ensures.fits c.requires.barrier g.S.Settler.pairs (subst G c.in_ok-edges.ensures c.in_ok-bounds.ensures.settles))
+    subst C (sym c.as_slice.ensures.value)
+    (certifies_clamped c.args.p.now c.args.cut.now c.in_ok-bounds.bounds.items c.recall_conditions.ensures.fits c.requires.barrier g.S.Settler.pairs
+    (subst G c.in_ok-edges.ensures c.in_ok-bounds.ensures.settles))
 
 pub returns-in-Some-clause-fault : goal.returns-in-Some-clause-fault
 returns-in-Some-clause-fault g c =
     let G : Edges → Type 0 = λ e. IsGiven c.args.p.now g.S.Settler.pairs e c.in_ok-bounds.bounds.items in
     let R : List Bound → Type 0 = λ v. IsRangeRefusal c.args.p.now c.args.cut.now v c.in-Some.refusal in
-    settled_refused c.args.p.now c.args.cut.now c.in_ok-bounds.bounds.items g.S.Settler.pairs (subst G c.in_ok-edges.ensures c.in_ok-bounds.ensures.settles) c.in-Some.refusal (subst R c.as_slice.ensures.value c.in-Some.ensures.exact)
+    settled_refused c.args.p.now c.args.cut.now c.in_ok-bounds.bounds.items g.S.Settler.pairs
+    (subst G c.in_ok-edges.ensures c.in_ok-bounds.ensures.settles) c.in-Some.refusal (subst R c.as_slice.ensures.value c.in-Some.ensures.exact)
 
 pub returns-clause-pair : goal.returns-clause-pair
 returns-clause-pair g c =

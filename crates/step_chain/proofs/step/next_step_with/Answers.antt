@@ -10,12 +10,16 @@ use Rattle.step_chain.proofs.step.next_step_with.Goals as goal
 pub returns-in_err-settle_by-clause-fault : goal.returns-in_err-settle_by-clause-fault
 returns-in_err-settle_by-clause-fault g c =
     let p = err_from_is_err_and c.from_residual-in_err-settle_by.result c.from_residual-in_err-settle_by.ensures.1 in
-    rw (p.1, p.2) (settle_fails c.args.decks.now (digits_of c.args.tables.now.first) c.args.at c.args.old.now (g.S.Settler.rounds c.args.settler.now) c.in_ok-posed.posed.problem c.in_ok-posed.ensures.problem c.args.limits c.in_ok-barrier.barrier c.in_ok-barrier.ensures.barrier c.in_err-settle_by.field-0.0 c.in_err-settle_by.ensures.fault)
+    rw (p.1, p.2) (settle_fails c.args.decks.now (digits_of c.args.tables.now.first) c.args.at c.args.old.now
+    (g.S.Settler.rounds c.args.settler.now) c.in_ok-posed.posed.problem c.in_ok-posed.ensures.problem c.args.limits c.in_ok-barrier.barrier
+    c.in_ok-barrier.ensures.barrier c.in_err-settle_by.field-0.0 c.in_err-settle_by.ensures.fault)
 
 pub returns-in_err-settle_by-clause-leads : goal.returns-in_err-settle_by-clause-leads
 returns-in_err-settle_by-clause-leads g c =
     let q = err_from_is_err_and c.from_residual-in_err-settle_by.result c.from_residual-in_err-settle_by.ensures.1 in
-    rw q.1 (leads_or_rests c.args.limits c.args.decks.now (digits_of c.args.tables.now.first) c.args.at c.args.old.now c.in_ok-posed.posed.problem c.in_ok-barrier.barrier c.recall_conditions.ensures.fits c.in_ok-barrier.ensures.barrier c.in_ok-posed.ensures.encloses
+    rw q.1 (leads_or_rests c.args.limits c.args.decks.now
+    (digits_of c.args.tables.now.first) c.args.at c.args.old.now c.in_ok-posed.posed.problem c.in_ok-barrier.barrier c.recall_conditions.ensures.fits
+    c.in_ok-barrier.ensures.barrier c.in_ok-posed.ensures.encloses
     c.settled_pair.ensures.exists c.settled_pair_encloses.ensures c.clamped_pair_encloses.ensures g.S.Settler.leads c.in_ok-posed.ensures.problem _ _ c.in_err-settle_by.ensures.leads)
 
 -- the kind of the settler's pairs
@@ -25,7 +29,8 @@ kind g = g.S.Settler.pairs
 abbrev solved : (g : given.Over) (c : goal.After-heads_fit g) → Solved
 solved g c = record { problem = c.in_ok-posed.posed.problem; bounds = c.new-bounds.result; heads = c.fill_in-heads.result }
 
-parts : (g : given.Over) (c : goal.After-heads_fit g) → AreParts c.args.limits c.args.decks.now (digits_of c.args.tables.now.first) c.args.at c.args.old.now (kind g) c.in_ok-barrier.barrier (solved g c)
+parts : (g : given.Over) (c : goal.After-heads_fit g) → AreParts c.args.limits c.args.decks.now (digits_of c.args.tables.now.first) c.args.at c.args.old.now
+    (kind g) c.in_ok-barrier.barrier (solved g c)
 parts g c =
     let S : List Bound → Type 0 = λ v. IsPairOf c.in_ok-posed.posed.problem (kind g) (edges_by c.args.limits c.in_ok-barrier.barrier) v in
     let C : List Bound → Type 0 = λ v. IsCertificate c.in_ok-posed.posed.problem c.in_ok-barrier.barrier (lower_at v) (upper_at v) in
@@ -56,5 +61,6 @@ returns-clause-encloses g c =
 pub returns-clause-leads : goal.returns-clause-leads
 returns-clause-leads g c =
     let made = (goal.at.returns-clause-leads g c).After-heads_fit in
-    led_by c.args.limits c.args.decks.now (digits_of c.args.tables.now.first) c.args.at c.args.old.now c.in_ok-posed.posed.problem c.in_ok-barrier.barrier c.recall_conditions.ensures.fits (parts g made).of_problem c.in_ok-posed.ensures.encloses
+    led_by c.args.limits c.args.decks.now (digits_of c.args.tables.now.first) c.args.at c.args.old.now c.in_ok-posed.posed.problem c.in_ok-barrier.barrier
+    c.recall_conditions.ensures.fits (parts g made).of_problem c.in_ok-posed.ensures.encloses
     c.settled_pair.ensures.exists c.settled_pair_encloses.ensures c.clamped_pair_encloses.ensures g.S.Settler.leads true _ _ c.in_ok-settle_by.ensures.leads

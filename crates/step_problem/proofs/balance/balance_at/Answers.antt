@@ -35,9 +35,22 @@ returns c = λ h e.
     let at_drains : c.deref-5.result.now ≡ c.args.cell.now.drains = cc (c.deref-5.ensures.value, c.cell.view_is) in
     let at_evaps : c.deref-6.result.now ≡ c.args.cell.now.evaps = cc (c.deref-6.ensures.value, c.cell.view_is) in
     let flows : c.sum_branches-flows.result ≡ total (flow_bound c.args.side) c.args.cell.now.flows = c.sum_branches-flows.ensures.value ∙ ap (total (flow_bound c.args.side)) at_flows in
-    let links : c.sum_links-links.result ≡ total (link_flow c.args.side h c.args.own) c.args.cell.now.links = (simp to_z-of_z at c.sum_links-links.ensures.value) h (ap (ends_in h) at_links ∙ e) ∙ ap (total (link_flow c.args.side h c.args.own)) at_links in
-    let fixed : c.sum_branches-fixed.result ≡ total (fixed_flow c.args.side c.args.own) c.args.cell.now.fixed = (simp to_z-of_z at c.sum_branches-fixed.ensures.value) ∙ ap (total (fixed_flow c.args.side c.args.own)) at_fixed in
-    let rivers : c.sum_branches-rivers.result ≡ total (river_flow c.args.side c.args.own) c.args.cell.now.rivers = (simp to_z-of_z at c.sum_branches-rivers.ensures.value) ∙ ap (total (river_flow c.args.side c.args.own)) at_rivers in
-    let drains : c.sum_branches-drains.result ≡ total (drain_flow c.args.side c.args.own) c.args.cell.now.drains = (simp to_z-of_z at c.sum_branches-drains.ensures.value) ∙ ap (total (drain_flow c.args.side c.args.own)) at_drains in
-    let evaps : c.sum_branches-evaps.result ≡ total (evap_flow c.args.side c.args.own) c.args.cell.now.evaps = (simp to_z-of_z at c.sum_branches-evaps.ensures.value) ∙ ap (total (evap_flow c.args.side c.args.own)) at_evaps in
-    simp to_z-of_z (joined c.sum_of-given.result c.sum_of-at_bottoms.result c.sum_branches-flows.result c.sum_links-links.result c.sum_branches-fixed.result c.sum_branches-rivers.result c.sum_branches-drains.result c.sum_branches-evaps.result given at_bottoms ∙ rw (flows, links, fixed, rivers, drains, evaps) refl)
+    let links : c.sum_links-links.result ≡ total (link_flow c.args.side h c.args.own) c.args.cell.now.links =
+    (simp to_z-of_z at c.sum_links-links.ensures.value) h (ap (ends_in h) at_links ∙ e) ∙ ap (total (link_flow c.args.side h c.args.own)) at_links in
+    let fixed : c.sum_branches-fixed.result ≡ total (fixed_flow c.args.side c.args.own) c.args.cell.now.fixed =
+    (simp to_z-of_z at c.sum_branches-fixed.ensures.value) ∙ ap (total (fixed_flow c.args.side c.args.own)) at_fixed in
+    let rivers : c.sum_branches-rivers.result ≡ total (river_flow c.args.side c.args.own) c.args.cell.now.rivers =
+    (simp to_z-of_z at c.sum_branches-rivers.ensures.value) ∙ ap (total (river_flow c.args.side c.args.own)) at_rivers in
+    let drains : c.sum_branches-drains.result ≡ total (drain_flow c.args.side c.args.own) c.args.cell.now.drains =
+    (simp to_z-of_z at c.sum_branches-drains.ensures.value) ∙ ap (total (drain_flow c.args.side c.args.own)) at_drains in
+    let evaps : c.sum_branches-evaps.result ≡ total (evap_flow c.args.side c.args.own) c.args.cell.now.evaps =
+    (simp to_z-of_z at c.sum_branches-evaps.ensures.value) ∙ ap (total (evap_flow c.args.side c.args.own)) at_evaps in
+    simp to_z-of_z (joined c.sum_of-given.result c.sum_of-at_bottoms.result c.sum_branches-flows.result c.sum_links-links.result c.sum_branches-fixed.result
+    c.sum_branches-rivers.result c.sum_branches-drains.result c.sum_branches-evaps.result given at_bottoms ∙ rw (
+      flows,
+      links,
+      fixed,
+      rivers,
+      drains,
+      evaps,
+    ) refl)

@@ -10,4 +10,5 @@ returns-clause-sum c =
     let rest_fits : FitsSigned w128 c.rest-rest.result = search rules in
     let high_fits : FitsSigned w128 c.args.self.high = search rules in
     let more_fits : FitsSigned w128 (c.args.self.high +ℤ c.div_euclid.result) = search rules in
-    simp to_z-of_z (two_words c.args.self c.args.flow c.rest-rest.result c.div_euclid.result c.rem_euclid.result (simp to_z-of_z at c.rest-rest.ensures) (simp to_z-of_z at c.div_euclid.ensures) (simp to_z-of_z at c.rem_euclid.ensures.value))
+    simp to_z-of_z (two_words c.args.self c.args.flow c.rest-rest.result c.div_euclid.result c.rem_euclid.result (simp to_z-of_z at c.rest-rest.ensures)
+    (simp to_z-of_z at c.div_euclid.ensures) (simp to_z-of_z at c.rem_euclid.ensures.value))

@@ -53,7 +53,8 @@ returns-in-Err-clause-stop g c =
     let at = c.in-Some.at in
     let left = drop (c.args.self.now.done + 1) c.args.self.now.times in
     let T : List TimeStep → Type 0 = λ times. StopsAt k c.args.self.now.heads times c.stop_at.result in
-    subst T (sym c.in-Some.ensures.left) (rw c.stop_at.ensures (step_stops k at _ c.requires.walk.tables.first.digits _ _ c.as_slice.ensures _ c.in-Err.fault c.requires.rounds c.in-Err.ensures.fault left))
+    subst T (sym c.in-Some.ensures.left) (rw c.stop_at.ensures
+    (step_stops k at _ c.requires.walk.tables.first.digits _ _ c.as_slice.ensures _ c.in-Err.fault c.requires.rounds c.in-Err.ensures.fault left))
 
 pub returns-in-Err-clause-led : goal.returns-in-Err-clause-led
 returns-in-Err-clause-led g c =

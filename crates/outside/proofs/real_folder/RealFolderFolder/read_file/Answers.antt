@@ -13,5 +13,6 @@ returns-clause-found g c = λ files agree.
     let same : c.ask.new.self.limit ≡ c.self.inside.limit = search rules in
     let A : ℕ → Type 0 = λ n. IsAsFound (bytes_under c.args.name.now files.files) n c.in-Some.reading.now.found in
     let P : ℕ → Type 0 = λ n. IsFound files.files c.args.name.now n c.in_ok-answer-in-Some.field-0 in
-    let found : P c.self.inside.limit = is_found files.files _ _ _ (c.in_ok-answer-in-Some.ensures.found _ (subst A same (by_reading _ _ files.files _ _ agree.1 is))) c.in_ok-answer-in-Some.ensures.within in
+    let found : P c.self.inside.limit = is_found files.files _ _ _
+    (c.in_ok-answer-in-Some.ensures.found _ (subst A same (by_reading _ _ files.files _ _ agree.1 is))) c.in_ok-answer-in-Some.ensures.within in
     subst P (sym (agree.0 ∙ same)) found

@@ -6,7 +6,10 @@ use Rattle.problem_builder.proofs.ValidEntries.{entries_in}
 use Rattle.problem_builder.proofs.index.PeriodTables.new.Goals as goal
 
 pub of_period-requires-clause-entries : goal.of_period-requires-clause-entries
-of_period-requires-clause-entries c = entries_in c.args.model.now c.in_ok-next.next.period c.cell_count-count.result _ c.requires.model (omega (arith, c.in_ok-next.ensures.period), omega (arith, c.in_ok-next.ensures.period, c.requires.period)) c.stress_period-period.ensures c.cell_count-count.ensures.count
+of_period-requires-clause-entries c = entries_in c.args.model.now c.in_ok-next.next.period c.cell_count-count.result _ c.requires.model (
+  omega (arith, c.in_ok-next.ensures.period),
+  omega (arith, c.in_ok-next.ensures.period, c.requires.period),
+) c.stress_period-period.ensures c.cell_count-count.ensures.count
 
 pub even_storages-requires-clause-kinds : goal.even_storages-requires-clause-kinds
 even_storages-requires-clause-kinds c =

@@ -11,4 +11,5 @@ returns-clause-appended c =
     let e = c.args.entry.now in
     let lt : cell < length cells = omega (arith, c.requires.entry.0, ap length c.self.view_is, length-map cells kept_bounds) in
     subst (λ (old : List LocalBounds). AreAppended s old (map kept_bounds (set cells cell c.add_to.new.kept)) (e ∷ [])) c.self.view_is
-    (kept_one s cells cell c.index_mut.result.now c.add_to.new.kept e lt c.cell_of-cell.ensures (get_or_read cells cell c.index_mut.result.now lt c.index_mut.ensures.value None) c.in_ok-add_to.ensures)
+    (kept_one s cells cell c.index_mut.result.now c.add_to.new.kept e lt c.cell_of-cell.ensures
+    (get_or_read cells cell c.index_mut.result.now lt c.index_mut.ensures.value None) c.in_ok-add_to.ensures)

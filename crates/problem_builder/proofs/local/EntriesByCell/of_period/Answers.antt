@@ -20,7 +20,8 @@ with-requires-3-clause-entries c =
 pub with-requires-4-clause-entries : goal.with-requires-4-clause-entries
 with-requires-4-clause-entries c =
     let p = c.args.period.now.stresses in
-    renamed c.args.count _ p.generals _ (c.in_ok-drains.ensures.len ∙ c.in_ok-rivers.ensures.len ∙ c.in_ok-wells.ensures.len ∙ c.in_ok-none.ensures.len) c.as_slice-4.ensures c.requires.entries.generals
+    renamed c.args.count _ p.generals _ (c.in_ok-drains.ensures.len ∙ c.in_ok-rivers.ensures.len ∙ c.in_ok-wells.ensures.len ∙ c.in_ok-none.ensures.len)
+    c.as_slice-4.ensures c.requires.entries.generals
 
 pub returns-clause-are : goal.returns-clause-are
 returns-clause-are c = λ d.

@@ -19,7 +19,8 @@ returns-then-is_none-clause-settles g c =
 pub returns-then-is_none-clause-viewed : goal.returns-then-is_none-clause-viewed
 returns-then-is_none-clause-viewed g c =
     let k = c.loop-round._round in
-    phases_made _ _ _ _ (k + 1) _ true _ _ (omega arith) (some_cell _ _ c.is_empty.ensures c.if-is_empty.false) (one_phase_more _ _ _ _ k _ true _ _ _ c.loop-round.invariant.views c.in-Ok.ensures.viewed)
+    phases_made _ _ _ _ (k + 1) _ true _ _ (omega arith) (some_cell _ _ c.is_empty.ensures c.if-is_empty.false)
+    (one_phase_more _ _ _ _ k _ true _ _ _ c.loop-round.invariant.views c.in-Ok.ensures.viewed)
 
 pub loop-round-init : goal.loop-round-init
 loop-round-init g c = record {
@@ -40,7 +41,8 @@ loop-round-preserved g c =
 pub returns-in-Err-clause-viewed : goal.returns-in-Err-clause-viewed
 returns-in-Err-clause-viewed g c =
     let k = c.loop-round._round in
-    phases_made _ _ _ _ (k + 1) _ false _ _ (omega arith) (some_cell _ _ c.is_empty.ensures c.if-is_empty.false) (one_phase_more _ _ _ _ k _ false _ _ _ c.loop-round.invariant.views c.in-Err.ensures.viewed)
+    phases_made _ _ _ _ (k + 1) _ false _ _ (omega arith) (some_cell _ _ c.is_empty.ensures c.if-is_empty.false)
+    (one_phase_more _ _ _ _ k _ false _ _ _ c.loop-round.invariant.views c.in-Err.ensures.viewed)
 
 pub words_or_open-requires : goal.words_or_open-requires
 words_or_open-requires g c = c.loop-round.invariant.tested (omega (arith, c.loop-round-test.false, c.loop-round.auto._round-end, c.args.self.now.plan_fits.some_round))

@@ -11,5 +11,16 @@ returns-clause-one_more g c = λ e start n h.
     let self = c.args.self.now in
     let by_grid = subst (λ x. IfOk c.write_view-text.result (λ v. v.items ≡ view_text x.now self.at p c.args.heads.now)) h.1 c.write_view-text.ensures in
     let by_time = subst (λ (at : TimeStep). IfOk c.write_view-text.result (λ v. v.items ≡ view_text start.grid.now at p c.args.heads.now)) h.2 by_grid in
-    let put = c.put_text-self.ensures in
-    (h.0, h.1, h.2, one_view_more (view_text start.grid.now start.at p) (EnclosesPair p c.args._b.now) _ _ c.write_view-text.result c.args.heads.now c.requires.heads by_time n start.stop self.stop c.put_text-self.result (sym c.is_some.ensures ∙ c.if-is_some.false) (c.is_none.ensures ∙ ap not e) (put.0, put.1, λ puts k. lead_more g.W.Sink.leads _ _ _ puts put.0 k put.2) h.3)
+    let put = c.put_text-self.ensures in (
+      h.0,
+      h.1,
+      h.2,
+      one_view_more (view_text start.grid.now start.at p)
+          (EnclosesPair p c.args._b.now) _ _ c.write_view-text.result c.args.heads.now c.requires.heads by_time n start.stop self.stop c.put_text-self.result
+          (sym c.is_some.ensures ∙ c.if-is_some.false) (c.is_none.ensures ∙ ap not e) (
+            put.0,
+            put.1,
+            λ puts k.
+                lead_more g.W.Sink.leads _ _ _ puts put.0 k put.2,
+          ) h.3,
+    )
