@@ -43,7 +43,8 @@ outermost side mark (x ∷ xs) = outer_of side (mark x) (outermost side mark xs)
 
 -- the outermost mark of a cell: of its known heads, its rivers and its drains
 abbrev pub cell_mark : Side → Entries → Option ℤ
-cell_mark side c = outer_of side (outermost side (fixed_mark side) c.fixed) (outer_of side (outermost side (river_mark side) c.rivers) (outermost side (drain_mark side) c.drains))
+cell_mark side c = outer_of side (outermost side (fixed_mark side) c.fixed)
+    (outer_of side (outermost side (river_mark side) c.rivers) (outermost side (drain_mark side) c.drains))
 
 -- the base of a side: the outermost mark of the problem, 0 if it has none
 abbrev pub base_on : Side → List Entries → ℤ

@@ -66,4 +66,5 @@ pub record AreNoLower (p : List Entries) (c : ℕ) (h k : ℕ → ℤ) : Type 0 
   pub others : All (λ x. h x.cell ≤ℤ k x.cell) (entries_at p c).links
 
 abbrev pub RelaxedKeepOrder : Type 0
-RelaxedKeepOrder = (side : Side) (p : List Entries) (c : ℕ) (h k : ℕ → ℤ) (r s : ℤ) → AreNoLower p c h k → IsRelaxedOn side p h c r → IsRelaxedOn side p k c s → r ≤ℤ s
+RelaxedKeepOrder = (side : Side) (p : List Entries) (c : ℕ) (h k : ℕ → ℤ) (r s : ℤ) → AreNoLower p c h k → IsRelaxedOn side p h c r →
+    IsRelaxedOn side p k c s → r ≤ℤ s

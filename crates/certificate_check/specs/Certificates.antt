@@ -76,6 +76,7 @@ RangeRefusalIsOne = (p : List Entries) (b : Edges) (words : List Bound) (n m : N
 -- The settled pair over the clamped barrier encloses every solution whose heads are in the range of heads, also where it is refused.
 abbrev pub ClampedPairEncloses : Type 0
 ClampedPairEncloses =
-    (p : List Entries) (b : Edges) (l u : ℕ → ℤ) → IsProblem p → IsBarrier p (clamped_edges b) → IsHeldBelow p → EnclosesUncut p b → IsSettledPair p (clamped_edges b) l u →
+    (p : List Entries) (b : Edges) (l u : ℕ → ℤ) → IsProblem p → IsBarrier p (clamped_edges b) → IsHeldBelow p → EnclosesUncut p b →
+    IsSettledPair p (clamped_edges b) l u →
     (s : ℕ) (e : List ExactCell) (d : ℕ) (X : ℕ → ℤ) → EnclosesStep s p e → 0 < d → SolvesStep e d X →
     LiesBetween (length p) d X (λ c. neg_ℤ (pos head_limit)) (λ c. pos head_limit) → LiesBetween (length p) d X l u

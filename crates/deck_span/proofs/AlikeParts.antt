@@ -1,7 +1,7 @@
 -- Two models are alike exactly where they share each package.
 use Rattle.deck_span.proofs.Common.{◌≡◌, suc, List, [], ◌∷◌, length, refl, ap, All, lit<, AllZip, All-nil, All-cons, Package, Dis, Bas, Lpf, Wel, Riv, Drn, Ghb}
 use Rattle.deck_span.proofs.Common.{Rch, Chd, Evt, FlowModel, Period, Shares, SharesBounds, SharesEvaporation, SharesGrid, SharesIn, SharesProperties}
-use Rattle.deck_span.proofs.Common.{SharesTimes, reading_order, AreAlike, ArePeriodsAlike, frame, no_stresses}
+use Rattle.deck_span.proofs.Common.{SharesTimes, comparing_order, AreAlike, ArePeriodsAlike, frame, no_stresses}
 
 module _ {X : Type 0} where
   each_of : (R S : X → X → Type 0) → ((x y : X) → R x y → S x y) → (xs ys : List X) → AllZip R xs ys → AllZip S xs ys
@@ -86,7 +86,7 @@ module _ (a b : FlowModel) where
     periods = joined a.periods b.periods d.periods w.periods r.periods n.periods g.periods c.periods h.periods e.periods;
   }
 
-  pub shared_alike : All (λ x. Shares x a b) reading_order → AreAlike a b
+  pub shared_alike : All (λ x. Shares x a b) comparing_order → AreAlike a b
   shared_alike h = alike_of (h 0 Dis (lit< tt)) (h 1 Dis (lit< tt)) (h 2 Dis (lit< tt)) (h 3 Dis (lit< tt)) (h 4 Dis (lit< tt)) (h 5 Dis (lit< tt))
       (h 6 Dis (lit< tt)) (h 7 Dis (lit< tt)) (h 8 Dis (lit< tt)) (h 9 Dis (lit< tt))
 

@@ -24,7 +24,7 @@ pub use Rattle.deck_span.specs.{IsFirstDifference, IsFirstOfLayers, IsFixedBetwe
 pub use Rattle.deck_span.specs.{IsHeadCell, IsLayerCell, IsListCell, IsPeriodBetween, IsPeriodCell, IsRateBetween, IsRatioBetween, IsRiverBetween}
 pub use Rattle.deck_span.specs.{IsSizeBetween, IsStepBetween, LiesBetween, Shares, SharesBounds, SharesEvaporation, SharesGrid, SharesIn, SharesOptions}
 pub use Rattle.deck_span.specs.{SharesProperties, SharesSizes, SharesTimes, apart, array_at, bottoms, cell_in_grid, drains, earlier, frame, generals, next}
-pub use Rattle.deck_span.specs.{none, period_frame, properties, reading_order, rivers, wells}
+pub use Rattle.deck_span.specs.{none, period_frame, properties, comparing_order, rivers, wells}
 pub use Rattle.flow_equations.proofs.TurnedFlows.{own_share}
 pub use Rattle.flow_equations.specs.{exact_cell, exact_drain, exact_evap, exact_fixed, exact_flow, exact_link, exact_river, exact_step}
 pub use Rattle.model_types.specs.{DrainSource, EvapSource, FixedSource, FlowSource, FromStorage, IsEvapValid, IsModel, Pumped, Received, RiverSource}

@@ -2,7 +2,7 @@
 use Rattle.deck_span.proofs.Common.{◌≡◌, ℕ, ◌<◌, List, [], ◌∷◌, Option, Some, None, take, subst, sym, ap, ◌∙◌, arith, inl, inr, Dec, Package, Dis, Lpf, Bas}
 use Rattle.deck_span.proofs.Common.{Wel, Riv, Drn, Ghb, Rch, Chd, Evt, FlowModel, Period, cell_count, layer_size, cell_of, AreSame, IsFirst, InOrder}
 use Rattle.deck_span.proofs.Common.{IsFirstOfLayers, IsLayerCell, IsListCell, cell_in_grid, SharesIn, IsCellIn, IsHeadCell, IsPeriodCell, AreGivenAlike}
-use Rattle.deck_span.proofs.Common.{AreEntriesAlike, AreRatesAlike, IsCell, bottoms, properties, array_at, Shares, reading_order, IsFirstDifference}
+use Rattle.deck_span.proofs.Common.{AreEntriesAlike, AreRatesAlike, IsCell, bottoms, properties, array_at, Shares, comparing_order, IsFirstDifference}
 use Rattle.deck_span.proofs.Common.{cases_order, CellId, All-head, All-tail, slice_get}
 use Rattle.std.specs.Prelude.{All, ◌/◌, ◌⊎◌, zero, suc, ◌≤◌}
 use Rattle.deck_span.specs.declared.difference.Difference.{Difference}
@@ -94,12 +94,12 @@ module _ (a b : FlowModel) (d e : Difference) (f : IsFirstDifference a b d) (g :
   place_one : f.place ≡ g.place
   place_one = elim (cases_order f.place g.place) [
     | inl same ↦ same
-    | inr (inl less) ↦ absurd (f.unlike (shared_below (λ x. Shares x a b) reading_order g.place f.place d.package g.before less f.kind))
-    | inr (inr more) ↦ absurd (g.unlike (shared_below (λ x. Shares x a b) reading_order f.place g.place e.package f.before more g.kind))
+    | inr (inl less) ↦ absurd (f.unlike (shared_below (λ x. Shares x a b) comparing_order g.place f.place d.package g.before less f.kind))
+    | inr (inr more) ↦ absurd (g.unlike (shared_below (λ x. Shares x a b) comparing_order f.place g.place e.package f.before more g.kind))
   ]
 
   package_one : d.package ≡ e.package
-  package_one = same_some d.package e.package (sym f.kind ∙ ap (slice_get reading_order) place_one ∙ g.kind)
+  package_one = same_some d.package e.package (sym f.kind ∙ ap (slice_get comparing_order) place_one ∙ g.kind)
 
   pub difference_one : d ≡ e
   difference_one =

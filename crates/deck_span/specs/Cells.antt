@@ -11,7 +11,7 @@ use Rattle.model_types.specs.declared.period.Period.{Period}
 use Rattle.model_types.specs.{cell_count, layer_size, cell_of}
 use Rattle.deck_span.specs.Alike.{AreEntriesAlike, AreGivenAlike, AreRatesAlike, AreAlike}
 use Rattle.deck_span.specs.Order.{AreSame, IsFirst, InOrder, IsArrayCell, IsLayerCell, IsListCell}
-use Rattle.deck_span.specs.Shared.{SharesHead, SharesIn, Shares, reading_order}
+use Rattle.deck_span.specs.Shared.{SharesHead, SharesIn, Shares, comparing_order}
 use Rattle.deck_span.specs.declared.difference.Difference.{Difference}
 
 -- DIS: NLAY, NROW, NCOL, NPER and LENUNI
@@ -108,8 +108,8 @@ IsCell kind a b cell =
 -- first difference.
 pub record IsFirstDifference (a b : FlowModel) (d : Difference) : Type 0 where
   pub place : ℕ
-  pub kind : slice_get reading_order place ≡ Some d.package
-  pub before : All (λ x. Shares x a b) (take place reading_order)
+  pub kind : slice_get comparing_order place ≡ Some d.package
+  pub before : All (λ x. Shares x a b) (take place comparing_order)
   pub unlike : Shares d.package a b → ⊥
   pub cell : IsCell d.package a b d.cell
 
@@ -117,7 +117,7 @@ pub record IsFirstDifference (a b : FlowModel) (d : Difference) : Type 0 where
 -- Two models are alike where they share each package, and only there.
 abbrev pub SharedPackagesAreAlike : Type 0
 SharedPackagesAreAlike =
-    (a b : FlowModel) → (All (λ x. Shares x a b) reading_order → AreAlike a b) × (AreAlike a b → All (λ x. Shares x a b) reading_order)
+    (a b : FlowModel) → (All (λ x. Shares x a b) comparing_order → AreAlike a b) × (AreAlike a b → All (λ x. Shares x a b) comparing_order)
 
 -- Two models have at most one first difference.
 abbrev pub DifferenceIsOne : Type 0

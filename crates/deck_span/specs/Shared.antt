@@ -8,8 +8,8 @@ use Rattle.model_types.specs.declared.period.Period.{Period}
 use Rattle.deck_span.specs.Alike.{AreEntriesAlike, AreGivenAlike, AreRatesAlike}
 
 -- the packages in reading order
-abbrev pub reading_order : List Package
-reading_order = Dis ∷ Bas ∷ Lpf ∷ Wel ∷ Riv ∷ Drn ∷ Ghb ∷ Chd ∷ Rch ∷ Evt ∷ []
+abbrev pub comparing_order : List Package
+comparing_order = Dis ∷ Bas ∷ Lpf ∷ Wel ∷ Riv ∷ Drn ∷ Ghb ∷ Chd ∷ Rch ∷ Evt ∷ []
 
 -- DIS: the grid, LENUNI and NPER
 pub record SharesGrid (a b : FlowModel) : Type 0 where

@@ -142,7 +142,8 @@ case_decks (Err refusal) second come = Refuses refusal
 
 -- the decks that a name means, and a second one if there is one
 abbrev pub case_named : FileSet → Limits → Text → Option Text → (Decks → Case) → Case
-case_named files limits name to come = case_decks (read_by_name name (reads limits files)) (option_map (λ last. read_by_name last (second_in limits files)) to) come
+case_named files limits name to come = case_decks (read_by_name name (reads limits files))
+    (option_map (λ last. read_by_name last (second_in limits files)) to) come
 
 -- the text of decks, each with the zones of its cells if there is a zone file
 abbrev pub second_text : Option FlowModel → Option (List ℕ) → Text

@@ -44,7 +44,8 @@ IsNamedFault input.Memory = Unit {0}
 
 -- A reading gave the deck that a name means, or the two that two names mean.
 abbrev pub AreDecksAs : Limits → Text → Option Text → FileSet → Result Decks InputFault → Type 0
-AreDecksAs limits name to files answer = AreDecksRead (read_by_name name (reads limits files)) (option_map (λ last. read_by_name last (second_in limits files)) to) answer
+AreDecksAs limits name to files answer = AreDecksRead (read_by_name name (reads limits files))
+    (option_map (λ last. read_by_name last (second_in limits files)) to) answer
 
 -- the refusal of a second deck at this difference, or lack of memory for it
 abbrev pub IsUnlikeFault : Second → Difference → InputFault → Type 0

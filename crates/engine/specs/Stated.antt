@@ -59,7 +59,8 @@ pub record SpanStated (old new : Option (List ℕ)) : Type 0 where
   pub zones : Option (List ℕ)
   pub digits : ℕ
   pub values : List Step
-  pub written : Appends old new (zoned_text first zones ++ (zoned_text second zones ++ concat (listing (checked_task (two first second) digits zones) values end_line)))
+  pub written : Appends old new (zoned_text first zones ++
+      (zoned_text second zones ++ concat (listing (checked_task (two first second) digits zones) values end_line)))
   -- The block of each time step stands under its own line STEP, and lists the flow between each two zones that share a face.
   pub at : map (λ v. v.at) values ≡ times first
   pub pairs : All (ListsPairs first zones) values

@@ -42,7 +42,8 @@ abbrev pub OneListingIsCertified : Type 0
 OneListingIsCertified =
     (asked : ListingOrder) (files : FileSet) (bytes : List ℕ) (h : OneListing asked files (Some []) (Some bytes)) →
     (checks : List Text) (others : FileSet) →
-    ChecksWritten checks others (task_of asked h.headline.model h.headline.zones) bytes → Defines (case_of (order_of_words checks) others) status.Ok (certified_line ∷ [])
+    ChecksWritten checks others (task_of asked h.headline.model h.headline.zones) bytes →
+    Defines (case_of (order_of_words checks) others) status.Ok (certified_line ∷ [])
 
 -- And so are those of a run of two decks, by any check against the same two.
 abbrev pub OneSpanIsCertified : Type 0

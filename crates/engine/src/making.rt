@@ -131,7 +131,8 @@ pub(crate) fn put_made<R: Threads + Sync, K: Sink, G: Gate + Sync>(
     out: &mut K,
     gate: &G,
 ) -> Status
-    ensures { PutsMore K.leads out.old out.new (λ more. (n : ℕ) → Answers (Making asked.seed asked.size (made_model asked.seed asked.size)) n n result more) }
+    ensures { PutsMore K.leads out.old out.new (λ more. (n : ℕ) →
+        Answers (Making asked.seed asked.size (made_model asked.seed asked.size)) n n result more) }
 {
     let Ok(mut folder) = make(alloc, asked.seed, asked.size) else {
         return put_memory(out);

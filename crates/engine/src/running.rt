@@ -41,9 +41,10 @@ const USAGE: &[u8] =
 /// compare it with the first, and list or check bounds for all models between the two. With `--deck` a run puts the text of its
 /// decks first, as one piece. `write NAME` reads the model and puts its deck in one spelling. `check --deck TEXT` reads a text of
 /// decks, zones and a listing, and puts whether the listing is certified. `words` puts what each word does. With `--wide` the
-/// limits of the model are wide ones. Workers in threads settle each step, and pass the gate before each turn; a check has none. With `--watch N` one more seat makes N views of the heads in each phase, and
-/// each is put to `side` as one piece, up to the first put that fails; the run then ends, with WriteFault if a write
-/// failed. For a batch, which only `run` does, it puts the usage line.
+/// limits of the model are wide ones. Workers in threads settle each step, and pass the gate before each turn; a check has
+/// none. With `--watch N` one more seat makes N views of the heads in each phase, and each is put to `side` as one piece, up
+/// to the first put that fails; the run then ends, with WriteFault if a write failed. For a batch, which only `run` does, it
+/// puts the usage line.
 pub fn run_one<R: Threads + Sync, F: Folder, K: Sink + Send, W: Sink + Send, G: Gate + Sync>(
     rt: &R,
     alloc: Global,

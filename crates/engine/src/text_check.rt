@@ -68,7 +68,8 @@ fn check_rest<K: Sink>(
 ) -> Status
     requires decks { AreDecks decks.now }
     requires zones { AreZones decks.now.first zones }
-    ensures { PutsMore K.leads out.old out.new (λ more. (n : ℕ) → Answers (case_rest (asked_text asked.entry) decks.now zones line rest.now) n n result more) }
+    ensures { PutsMore K.leads out.old out.new (λ more. (n : ℕ) →
+        Answers (case_rest (asked_text asked.entry) decks.now zones line rest.now) n n result more) }
 {
     let between = decks.second.is_some();
     match read_rest(
@@ -198,7 +199,8 @@ fn check_parts<K: Sink>(alloc: Global, asked: TextOrder, parts: Parts, out: &mut
 // Checks the listing in the bytes of a text.
 fn check_bytes<K: Sink>(alloc: Global, asked: TextOrder, bytes: &[u8], out: &mut K) -> Status
     ensures { PutsMore K.leads out.old out.new (λ more. (n : ℕ) →
-        Answers (case_read (parts_in asked.entry.limits asked.entry.text.now bytes.now) (λ p. case_parts (asked_text asked.entry) p.first p.second)) n n result more) }
+        Answers (case_read (parts_in asked.entry.limits asked.entry.text.now bytes.now)
+        (λ p. case_parts (asked_text asked.entry) p.first p.second)) n n result more) }
 {
     match read_parts(alloc, asked.limits, asked.text, bytes) {
         Ok(parts) => check_parts(alloc, asked, parts, out),

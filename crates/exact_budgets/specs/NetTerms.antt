@@ -84,7 +84,8 @@ SolutionsBalance = (e : List ExactCell) (d : ℕ) (X : ℕ → ℤ) → AreLinke
 -- term lies between its listed bounds, and in minus the sum of the others.
 abbrev pub NetTermsLieInTheOthers : Type 0
 NetTermsLieInTheOthers =
-    (limits : Limits) (m : FlowModel) (s : ℕ) (zones : Option (List ℕ)) (rounds : ℕ) (quick : Bool) (values : List Step) → IsModel m → map (λ v. v.at) values ≡ times m →
+    (limits : Limits) (m : FlowModel) (s : ℕ) (zones : Option (List ℕ)) (rounds : ℕ) (quick : Bool) (values : List Step) → IsModel m →
+    map (λ v. v.at) values ≡ times m →
     EnclosesHistories (one_task limits m s zones rounds quick) values →
     (d : ℕ) (history : List (ℕ → ℤ)) → Solves m d history → AllNetTermsLie m s d (start_head m) values history
 

@@ -39,12 +39,14 @@ pub record HasOneHistory (m : FlowModel) : Type 0 where
 -- Where all time steps of a task of one deck have heads, its model has a history.
 abbrev pub RunsHaveAHistory : Type 0
 RunsHaveAHistory =
-    (limits : Limits) (m : FlowModel) (s : ℕ) (zones : Option (List ℕ)) (rounds : ℕ) (quick : Bool) (values : List Step) → IsModel m → AllSteps (one_task limits m s zones rounds quick) values Whole → HasHistory m
+    (limits : Limits) (m : FlowModel) (s : ℕ) (zones : Option (List ℕ)) (rounds : ℕ) (quick : Bool) (values : List Step) → IsModel m →
+    AllSteps (one_task limits m s zones rounds quick) values Whole → HasHistory m
 
 -- And one alone.
 abbrev pub RunsHaveOneHistory : Type 0
 RunsHaveOneHistory =
-    (limits : Limits) (m : FlowModel) (s : ℕ) (zones : Option (List ℕ)) (rounds : ℕ) (quick : Bool) (values : List Step) → IsModel m → AllSteps (one_task limits m s zones rounds quick) values Whole →
+    (limits : Limits) (m : FlowModel) (s : ℕ) (zones : Option (List ℕ)) (rounds : ℕ) (quick : Bool) (values : List Step) → IsModel m →
+    AllSteps (one_task limits m s zones rounds quick) values Whole →
     (d e : ℕ) (Xs Ys : List (ℕ → ℤ)) → Solves m d Xs → Solves m e Ys → AreSame m d e Xs Ys
 
 -- Histories of chosen models: a model for each time step.

@@ -111,7 +111,8 @@ list_at limits kind file grid period s = do
   if kind.suits period list.0 then Ok (list.0, (Some list.0, list.1)) else Err (refusal OutOfProfile file line.0.number)
 
 -- the period with it
-unfoldable pub period_at : {E : Type 0} → Limits → Kind E → List ℕ → Grid → Period → (Option (List E) × Left) → Result (Period × (Option (List E) × Left)) Refusal
+unfoldable pub period_at : {E : Type 0} → Limits → Kind E → List ℕ → Grid → Period → (Option (List E) × Left) →
+    Result (Period × (Option (List E) × Left)) Refusal
 period_at limits kind file grid period s = do
   list ← list_at limits kind file grid period s
   Ok (with_list kind period list.0, list.1)

@@ -56,7 +56,13 @@ properties_of files file x left = do
   Ok (record { hk = hk.0; hani = hani.0; vka = vka.0; ss = ss.0; vkcb = vkcb.0 }, vkcb.1)
 
 abbrev pub joined_properties : Properties → Properties → Properties
-joined_properties above p = record { hk = above.hk ++ p.hk; hani = above.hani ++ p.hani; vka = above.vka ++ p.vka; ss = above.ss ++ p.ss; vkcb = above.vkcb ++ p.vkcb }
+joined_properties above p = record {
+  hk = above.hk ++ p.hk;
+  hani = above.hani ++ p.hani;
+  vka = above.vka ++ p.vka;
+  ss = above.ss ++ p.ss;
+  vkcb = above.vkcb ++ p.vkcb;
+}
 
 -- what is read for layer k, from 0
 abbrev pub nth_layer : Grid → List Dec → Bool → ℕ → Layer

@@ -77,7 +77,8 @@ EvtReadsAsWritten = (files : FileSet) (file : List ℕ) (m before : FlowModel) �
 -- a file of lists for these periods gives them these lists, by limits that they keep
 abbrev pub ListsReadAsWritten : {E : Type 0} → Kind E → (E → ℕ) → (E → List Dec) → Type 0
 ListsReadAsWritten {E} kind cell numbers =
-    (limits : Limits) (file : List ℕ) (g : Grid) (ps : List Period) (lists : List (List E)) → HasSize g → AllZip (IsListOf limits kind (cell_count g)) ps lists →
+    (limits : Limits) (file : List ℕ) (g : Grid) (ps : List Period) (lists : List (List E)) → HasSize g →
+    AllZip (IsListOf limits kind (cell_count g)) ps lists →
     lists_of limits kind file (text (list_lines g cell numbers lists)) g ps ≡ Ok (with_lists kind ps lists)
 
 -- WEL, RIV, DRN, GHB and CHD
@@ -107,7 +108,8 @@ LpfReadsAsWritten = (files : FileSet) (file : List ℕ) (m basic : FlowModel) �
 
 -- A model that is read is writable by the same limits. Each other integer of a file is a word of at most 18 digits; an IBOUND is a word times a multiplier.
 abbrev pub ModelsReadAreWritable : Type 0
-ModelsReadAreWritable = (limits : Limits) (files : FileSet) (name : List ℕ) (m : FlowModel) → reads limits files name ≡ Ok m → All IsShort m.ibound → IsWritable limits m
+ModelsReadAreWritable = (limits : Limits) (files : FileSet) (name : List ℕ) (m : FlowModel) → reads limits files name ≡ Ok m →
+    All IsShort m.ibound → IsWritable limits m
 
 -- So is read as itself what is written of a model that was read, under names of files that may be, where no file is too long.
 abbrev pub ModelsReadAreReadAsWritten : Type 0
@@ -123,7 +125,8 @@ DecksAreReadAgain = (limits : Limits) (files : FileSet) (name : List ℕ) (m : F
 abbrev pub ZonesReadAsWritten : Type 0
 ZonesReadAsWritten =
     (m : FlowModel) (zones : List ℕ) (most : ℕ) → HasSize m.grid → length zones ≡ cell_count m.grid → All (λ z. z ≤ 999) zones →
-    All (λ f. length f.bytes ≤ most) (zoned_files m (Some zones)) → zones_of (with_limit most (zoned_files m (Some zones))) m.grid zone_name ≡ Ok (map pos zones)
+    All (λ f. length f.bytes ≤ most) (zoned_files m (Some zones)) →
+    zones_of (with_limit most (zoned_files m (Some zones))) m.grid zone_name ≡ Ok (map pos zones)
 
 -- A worked model: three cells in a row, with constant heads at both ends.
 abbrev pub deck : List File

@@ -144,4 +144,5 @@ zoned_text m zones = file_texts (zoned_files m zones) ++ codes "END\n"
 
 -- The files are read as the model by these limits, where each IBOUND has at most 18 digits and no file is too long.
 abbrev pub IsReadAgain : Limits → FlowModel → Type 0
-IsReadAgain limits m = All IsShort m.ibound → All (λ f. length f.bytes ≤ most_bytes limits) (deck_files m) → reads limits (with_limit (most_bytes limits) (deck_files m)) deck_name ≡ Ok m
+IsReadAgain limits m = All IsShort m.ibound → All (λ f. length f.bytes ≤ most_bytes limits) (deck_files m) →
+    reads limits (with_limit (most_bytes limits) (deck_files m)) deck_name ≡ Ok m

@@ -15,7 +15,8 @@ use Rattle.number_limits.specs.declared.passing.Check.TheVariants.{Thickness, St
 module _ (m : FlowModel) (c : ℕ) where
   -- whether the bed below the cell is checked: the cell below it is active, and the bed's two elevations aren't the same number
   abbrev pub is_checked_bed : Bool
-  is_checked_bed = has_bed m c && (nat_lt (c + layer_size m.grid) (cell_count m.grid) && (is_active m (c + layer_size m.grid) && not (is_same_number (bottom_at m c) (lowest m c))))
+  is_checked_bed = has_bed m c && (nat_lt (c + layer_size m.grid) (cell_count m.grid) &&
+      (is_active m (c + layer_size m.grid) && not (is_same_number (bottom_at m c) (lowest m c))))
 
 module _ (m : FlowModel) (c : ℕ) where
   -- the cell and the bed below it are thick enough

@@ -60,7 +60,8 @@ abbrev pub step_of_differences : List ExactCell
 step_of_differences =
     record first_cell { fixed = record { kind = Constant; source = 0; conductance = one; head = whole (pos 0) } ∷ [] }
     ∷ record (second_cell (well (pos 6) ∷ []) (pos 2)) {
-      fixed = record { kind = Storage; source = 2; conductance = one; head = whole (pos 2) } ∷ record { kind = General; source = 2; conductance = half; head = whole (pos 0) } ∷ [];
+      fixed = record { kind = Storage; source = 2; conductance = one; head = whole (pos 2) } ∷
+          record { kind = General; source = 2; conductance = half; head = whole (pos 0) } ∷ [];
       rivers = [];
     }
     ∷ []

@@ -25,7 +25,8 @@ pub record SolvesPairAt (a b : FlowModel) (plan : List (List Entry)) (at : TimeS
   pub planned : SolvesAt (with_plan plan model) at older d Y
 
 -- two vectors for each of these time steps, each from the heads of the vectors before
-abbrev pub SolvesPairsFrom : FlowModel → FlowModel → List (List Entry) → ℕ → (ℕ → Fraction) → (ℕ → Fraction) → List TimeStep → List (ℕ → ℤ) → List (ℕ → ℤ) → Type 0
+abbrev pub SolvesPairsFrom : FlowModel → FlowModel → List (List Entry) → ℕ → (ℕ → Fraction) → (ℕ → Fraction) → List TimeStep →
+    List (ℕ → ℤ) → List (ℕ → ℤ) → Type 0
 SolvesPairsFrom a b plan d old older [] [] [] = Unit {0}
 SolvesPairsFrom a b plan d old older (at ∷ ats) (X ∷ Xs) (Y ∷ Ys) =
     SolvesPairAt a b plan at old older d X Y × SolvesPairsFrom a b plan d (heads_of d X) (heads_of d Y) ats Xs Ys

@@ -63,7 +63,8 @@ pub fn read_steps(
     requires few { length model.now.periods ≤ 1000 }
     requires digits { s ≤ 18 }
     requires zones { IfSome zones (λ z. CanPair model.now z.now) }
-    ensures reads { HasText (λ l. l) result (steps_after between model.now s (pairs_in model.now (option_map (λ z. z.now) zones.entry)) text.now line rest.now) }
+    ensures reads { HasText (λ l. l) result
+        (steps_after between model.now s (pairs_in model.now (option_map (λ z. z.now) zones.entry)) text.now line rest.now) }
     ensures stated { IfOk result (IsStated between model.now s (pairs_in model.now (option_map (λ z. z.now) zones.entry)) rest.now) }
 {
     if !is_current(alloc, between, model, s, rest)? {
