@@ -35,7 +35,7 @@ module _ (cells : List Entries) (edges : Edges) where
     way = r.way;
     each_seat = λ j u e l.
         let old : (i : ℕ) (y : Known) → get_elem? (set s.views id v) i ≡ some y → get_elem? s.views i ≡ some y =
-                λ i y g. subst (λ (vs : List Known). get_elem? vs i ≡ some y) (set_again s.views id v at) g in
+        λ i y g. subst (λ (vs : List Known). get_elem? vs i ≡ some y) (set_again s.views id v at) g in
         ⊎_elim (λ (g : get_elem? (set s.views id v) j ≡ some u). r.each_seat j u (old j u g) l)
         (λ (g : v ≡ u). r.each_seat id u (subst (λ (y : Known). get_elem? s.views id ≡ some y) g at) l)
         (at_snoc (set s.views id v) v u j e);
