@@ -27,8 +27,6 @@ pub use Rattle.barrier_vector.specs.{LinkLeads, ListRoot, Names, Nowhere, Refusa
 pub use Rattle.barrier_vector.specs.{bound_at, capped_flow, ceil_over, cell_mark, clamp, count_unmarked, cut_on, drain_mark, fixed_mark, flow_sum, greatest}
 pub use Rattle.barrier_vector.specs.{greatest_inside, has_label, high_flow, if_some, is_label, lack, longest_at, mark_at, moved_out, need, need_on}
 pub use Rattle.barrier_vector.specs.{no_barrier_on, outer_of, outermost, path_limit, range_on, river_mark, sum_at}
-pub use Rattle.barrier_vector.specs.declared.BarrierFault.{BarrierFault}
-pub use Rattle.barrier_vector.specs.declared.BarrierFault.TheVariants.{Memory}
 pub use Rattle.barrier_vector.specs.declared.gathered.Total.{Total}
 pub use Rattle.cell_balance.proofs.Deep.{Bounds, add_mul, bounds_same, deep_less, le_trans_z, same_z, sub_mul, total-same, total_bounds, total_neg}
 pub use Rattle.cell_balance.proofs.Deep.{total_nonneg}
@@ -51,5 +49,7 @@ pub use Rattle.step_problem.specs.declared.entry.Link.{Link}
 pub use Rattle.step_problem.specs.declared.heads.Side.{Side}
 pub use Rattle.step_problem.specs.declared.heads.Side.TheVariants.{High, Low}
 pub use Rattle.step_problem.specs.declared.place.NoBound.{NoBound}
+pub use Rattle.step_problem.specs.declared.refusal.BoundFault.{BoundFault}
+pub use Rattle.step_problem.specs.declared.refusal.BoundFault.TheVariants.{Memory}
 pub use borrow.Author.Differences.{false_is_lt, le_out, lt_out, true_is_lt}
 pub use lib.Signed.{lt_z}

@@ -2,10 +2,10 @@
 use Rattle.barrier_vector.proofs.Common.{◌≡◌, ℕ, ◌<◌, ◌≤ℤ◌, inl, inr, sym, ◌∙◌, ap, subst, arith, List, length, ℤ, pos, neg_ℤ, ints, clamps, Side, Low, High}
 use Rattle.barrier_vector.proofs.Common.{NoBound, Entries, Edges, head_at, IsProblem, IsHead, head_limit, number_of, IsHeldBelow, IsSolution, IsCellFloor}
 use Rattle.barrier_vector.proofs.Common.{IsCellCeiling, HasNoBound, no_barrier_on, cut_on, AreCutBounds, IsCutBarrierOf, IsCutFaultOn, Refuses, EnclosesUncut}
-use Rattle.barrier_vector.proofs.Common.{IsCutFault, BarrierFault, Memory, CutBarrierIsOne, BarrierIsCut, CutBarrierExcludesRefusal, CutRefusalIsOne}
+use Rattle.barrier_vector.proofs.Common.{IsCutFault, BoundFault, Memory, CutBarrierIsOne, BarrierIsCut, CutBarrierExcludesRefusal, CutRefusalIsOne}
 use Rattle.barrier_vector.proofs.Common.{BarrierIsOne}
 use Rattle.step_problem.specs.declared.refusal.StepRefusal.{StepRefusal}
-use Rattle.barrier_vector.specs.declared.BarrierFault.TheVariants.{NoBound as AFault}
+use Rattle.step_problem.specs.declared.refusal.BoundFault.TheVariants.{NoBound as AFault}
 use Rattle.barrier_vector.proofs.Uniques.{bound_one}
 use Rattle.barrier_vector.proofs.Floors.{floors_enclose, ceilings_enclose, held_cell}
 use Rattle.barrier_vector.proofs.OneAnswer.{same_heads, same_least}
@@ -64,7 +64,7 @@ pub barrier_is_one : BarrierIsOne
 barrier_is_one p b c ok x y = cut_barrier_is_one p b c ok (barrier_is_cut p b x) (barrier_is_cut p c y)
 
 -- a fault of the high side after the low side's cut bounds were found
-pub high_cut_fault : (p : List Entries) → IsProblem p → (vs : List ℤ) → AreCutBounds Low p vs → (e : BarrierFault) → IsCutFaultOn High p e → IsCutFault p e
+pub high_cut_fault : (p : List Entries) → IsProblem p → (vs : List ℤ) → AreCutBounds Low p vs → (e : BoundFault) → IsCutFaultOn High p e → IsCutFault p e
 high_cut_fault p ok vs low (AFault n) refused = inr (cut_nowhere_without Low p ok vs low, refused)
 high_cut_fault p ok vs low Memory refused = tt
 

@@ -3,9 +3,9 @@ use Rattle.barrier_vector.proofs.Common.{base_on, ◌≡◌, ℕ, ◌<◌, ◌�
 use Rattle.barrier_vector.proofs.Common.{get_or-map, length-map, unwrap_or, ap, ints, clamps, by_lt_z, Side, Low, High, NoBound, number_of, Entries, IsProblem}
 use Rattle.barrier_vector.proofs.Common.{IsHead, head_limit, head_at, Bounds, IsUnanchored, IsBoundOn, HasNoBound, IsOutOfRange, LeavesRange, no_barrier_on}
 use Rattle.barrier_vector.proofs.Common.{range_on, Nowhere, Names, IsRefusedOn, IsRefused, cut_on, bound_at, IsBoundOrNone, AreBounds, IsFirst, IsMissing}
-use Rattle.barrier_vector.proofs.Common.{LiesOut, AreHeadsOf, IsCutBoundOn, AreCutBounds, RefusesOn, IsWholeSide, IsFaultOn, IsCutFaultOn, BarrierFault, Memory}
+use Rattle.barrier_vector.proofs.Common.{LiesOut, AreHeadsOf, IsCutBoundOn, AreCutBounds, RefusesOn, IsWholeSide, IsFaultOn, IsCutFaultOn, BoundFault, Memory}
 use Rattle.barrier_vector.proofs.Common.{HasStorage, IsNotForLackOfAnchors}
-use Rattle.barrier_vector.specs.declared.BarrierFault.TheVariants.{NoBound as AFault}
+use Rattle.step_problem.specs.declared.refusal.BoundFault.TheVariants.{NoBound as AFault}
 use Rattle.barrier_vector.proofs.Rooting.{anchors}
 use Rattle.barrier_vector.proofs.Marking.{base_head}
 use Rattle.barrier_vector.proofs.Uniques.{bound_one, has_a_bound}
@@ -113,7 +113,7 @@ module _ (side : Side) (p : List Entries) (ok : IsProblem p) (vs : List ℤ) (b 
           (subst (IsBoundOn side p c) (sym at) is, subst IsHead (sym at) head)
 
 -- a side without its cut is refused for the same reason
-pub unbounded_refuses : (side : Side) (p : List Entries) (e : BarrierFault) → IsCutFaultOn side p e → IsFaultOn side p e
+pub unbounded_refuses : (side : Side) (p : List Entries) (e : BoundFault) → IsCutFaultOn side p e → IsFaultOn side p e
 unbounded_refuses side p (AFault n) (c, named, least) = (c, inl (named, least))
 unbounded_refuses side p Memory f = tt
 
@@ -137,6 +137,6 @@ pub stored_refusal : (p : List Entries) → HasStorage p → (n : NoBound) → I
 stored_refusal p stored n (inl low) = refused_side Low p stored n low
 stored_refusal p stored n (inr (nowhere, in_range, high)) = refused_side High p stored n high
 
-pub stored_fault : (side : Side) (p : List Entries) → HasStorage p → (e : BarrierFault) → IsFaultOn side p e → IsNotForLackOfAnchors e
+pub stored_fault : (side : Side) (p : List Entries) → HasStorage p → (e : BoundFault) → IsFaultOn side p e → IsNotForLackOfAnchors e
 stored_fault side p stored (AFault n) f = refused_side side p stored n f
 stored_fault side p stored Memory f = tt

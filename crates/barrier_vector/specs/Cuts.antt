@@ -9,8 +9,8 @@ use Rattle.step_problem.specs.{number_of, head_limit, Edges, head_at, entries_at
 use Rattle.step_problem.specs.Entries.{Entries}
 use Rattle.cell_balance.specs.{ExactCell, EnclosesStep, SolvesStep, IsCarried}
 use Rattle.barrier_vector.specs.Bounds.{IsBoundOn, IsUnanchored}
-use Rattle.barrier_vector.specs.declared.BarrierFault.{BarrierFault}
-use Rattle.barrier_vector.specs.declared.BarrierFault.TheVariants.{NoBound as IsNoBound, Memory}
+use Rattle.step_problem.specs.declared.refusal.BoundFault.{BoundFault}
+use Rattle.step_problem.specs.declared.refusal.BoundFault.TheVariants.{NoBound as IsNoBound, Memory}
 use Rattle.step_problem.specs.declared.place.Place.TheVariants.{Cell}
 use Rattle.step_problem.specs.declared.refusal.StepRefusal.TheVariants.{NoBarrierLow, NoBarrierHigh, RangeLow, RangeHigh}
 use Rattle.step_problem.specs.declared.entry.Fixed.{Fixed}
@@ -73,7 +73,7 @@ abbrev pub IsRefused : List Entries → NoBound → Type 0
 IsRefused p n = IsRefusedOn Low p n ⊎ (Nowhere p (HasNoBound Low p) × Nowhere p (LeavesRange Low p) × IsRefusedOn High p n)
 
 -- A fault is the problem's refusal, or lack of memory.
-abbrev pub IsFault : List Entries → BarrierFault → Type 0
+abbrev pub IsFault : List Entries → BoundFault → Type 0
 IsFault p (IsNoBound n) = IsRefused p n
 IsFault p Memory = Unit {0}
 
@@ -109,7 +109,7 @@ abbrev pub IsUnbounded : List Entries → NoBound → Type 0
 IsUnbounded p = Refuses no_barrier_on (λ side. HasNoBound side p) p
 
 -- A fault is that refusal, or lack of memory.
-abbrev pub IsCutFault : List Entries → BarrierFault → Type 0
+abbrev pub IsCutFault : List Entries → BoundFault → Type 0
 IsCutFault p (IsNoBound n) = IsUnbounded p n
 IsCutFault p Memory = Unit {0}
 
@@ -138,6 +138,6 @@ abbrev pub HasStorage : List Entries → Type 0
 HasStorage p = (c : ℕ) → c < length p → (x : Fixed) × Contains (entries_at p c).fixed x × (x.kind ≡ Storage) × (0 < x.lo)
 
 -- the fault is neither NoBarrierLow nor NoBarrierHigh
-abbrev pub IsNotForLackOfAnchors : BarrierFault → Type 0
+abbrev pub IsNotForLackOfAnchors : BoundFault → Type 0
 IsNotForLackOfAnchors (IsNoBound n) = (n.code ≡ number_of NoBarrierLow → ⊥) × (n.code ≡ number_of NoBarrierHigh → ⊥)
 IsNotForLackOfAnchors Memory = Unit {0}

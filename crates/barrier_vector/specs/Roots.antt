@@ -11,8 +11,8 @@ use Rattle.barrier_vector.specs.Cuts.{HasNoBound, IsOutOfRange, LeavesRange, no_
 use Rattle.barrier_vector.specs.Searches.{mark_at, path_limit, AreLabels, HasEach, is_label, has_label, sum_at, longest_at, greatest_inside}
 use Rattle.barrier_vector.specs.Marks.{cell_mark, outer_of, outermost, need_on, capped_flow}
 use Rattle.barrier_vector.specs.declared.gathered.Total.{Total}
-use Rattle.barrier_vector.specs.declared.BarrierFault.{BarrierFault}
-use Rattle.barrier_vector.specs.declared.BarrierFault.TheVariants.{NoBound, Memory}
+use Rattle.step_problem.specs.declared.refusal.BoundFault.{BoundFault}
+use Rattle.step_problem.specs.declared.refusal.BoundFault.TheVariants.{NoBound, Memory}
 
 -- the own drop of a root by its greatest anchor; None where that is 0
 abbrev pub anchor_drop : ℕ → ℕ → Option ℕ
@@ -96,11 +96,11 @@ pub record IsWholeSide (side : Side) (p : List Entries) (hs : List ℤ) : Type 0
   pub in_range : Nowhere p (LeavesRange side p)
 
 -- a fault of one side: its refusal, or lack of memory
-abbrev pub IsFaultOn : Side → List Entries → BarrierFault → Type 0
+abbrev pub IsFaultOn : Side → List Entries → BoundFault → Type 0
 IsFaultOn side p (NoBound n) = IsRefusedOn side p n
 IsFaultOn side p Memory = Unit {0}
 
 -- a fault of one side that is cut
-abbrev pub IsCutFaultOn : Side → List Entries → BarrierFault → Type 0
+abbrev pub IsCutFaultOn : Side → List Entries → BoundFault → Type 0
 IsCutFaultOn side p (NoBound n) = RefusesOn no_barrier_on (λ side. HasNoBound side p) side p n
 IsCutFaultOn side p Memory = Unit {0}

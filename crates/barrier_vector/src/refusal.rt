@@ -4,12 +4,11 @@ ghost use Rattle.step_problem.specs.{number_of};
 ghost use Rattle.barrier_vector.specs.{IsOutOfRange, no_barrier_on, range_on, Names, AreCutBounds, IsOutline, IsFirst, IsMissing, LiesOut, AreHeadsOf};
 ghost use Rattle.barrier_vector.specs.{IsWholeSide, IsFaultOn, IsCutFaultOn};
 
-use crate::BarrierFault;
 use crate::bounds::bounds_on;
 use crate::outline::Outline;
 use std::alloc::{AllocError, Global};
 use step_problem::problem::HEAD_LIMIT;
-use step_problem::{NoBound, Place, Problem, Side, StepRefusal};
+use step_problem::{BoundFault, NoBound, Place, Problem, Side, StepRefusal};
 
 // The first cell without a bound.
 fn first_missing(bounds: &[Option<i64>]) -> Option<usize>
@@ -86,19 +85,19 @@ pub(crate) fn cut_side(
     p: &Problem,
     side: Side,
     outline: &Outline,
-) -> Result<Vec<i64>, BarrierFault>
+) -> Result<Vec<i64>, BoundFault>
     requires { IsOutline side p.now (length p.now) outline.now.mark outline.now.need outline.now.anchors.items }
     ensures side { IfOk result (λ bounds. AreCutBounds side p.now bounds.items) }
     ensures fault { IfErr result (IsCutFaultOn side p.now) }
 {
     p.recall_conditions();
     match bounds_on(alloc, p, side, outline) {
-        Err(_) => Err(BarrierFault::Memory),
+        Err(_) => Err(BoundFault::Memory),
         Ok(bounds) => match first_missing(&bounds) {
-            Some(c) => Err(BarrierFault::NoBound(no_barrier(p, c, side))),
+            Some(c) => Err(BoundFault::NoBound(no_barrier(p, c, side))),
             None => match heads_of(alloc, &bounds) {
                 Ok(heads) => Ok(heads),
-                Err(_) => Err(BarrierFault::Memory),
+                Err(_) => Err(BoundFault::Memory),
             },
         },
     }
@@ -110,7 +109,7 @@ pub(crate) fn whole_side(
     p: &Problem,
     side: Side,
     outline: &Outline,
-) -> Result<Vec<i64>, BarrierFault>
+) -> Result<Vec<i64>, BoundFault>
     requires { IsOutline side p.now (length p.now) outline.now.mark outline.now.need outline.now.anchors.items }
     ensures side { IfOk result (λ heads. IsWholeSide side p.now heads.items) }
     ensures fault { IfErr result (IsFaultOn side p.now) }
@@ -119,7 +118,7 @@ pub(crate) fn whole_side(
     match cut_side(alloc, p, side, outline) {
         Err(fault) => Err(fault),
         Ok(bounds) => match first_out_of_range(side, &bounds) {
-            Some(c) => Err(BarrierFault::NoBound(out_of_range(p, c, side))),
+            Some(c) => Err(BoundFault::NoBound(out_of_range(p, c, side))),
             None => Ok(bounds),
         },
     }

@@ -22,7 +22,7 @@ pub use Rattle.certificate_check.specs.{HoldsAt, IsFirstFailing}
 pub use Rattle.check_run.specs.{AreNarrow, ArePosed, AreWide, Checks, ConstantsReach, CoversFlow, FailsAt, FailsBy, HeadsHold, IsConstantCell, IsCovered}
 pub use Rattle.check_run.specs.{IsFirstNarrow, IsFirstShort, IsReadable, IsRefused, IsUncovered, IsUnposed, IsVerdict, IsVerdictAt, ListingEncloses, Passes}
 pub use Rattle.check_run.specs.{ReachesAt, ReachesOn, RunIsCertified, RunIsReadAgain, StopsAt, TermsHold, VerdictIsOne, as_listed, at_constant, at_term}
-pub use Rattle.check_run.specs.{at_variable, at_zones, bounds, checked_task, heads_before, no_budget, no_flows, no_heads, of_barrier, step_of, steps_of}
+pub use Rattle.check_run.specs.{at_variable, at_zones, bounds, checked_task, heads_before, no_budget, no_flows, no_heads, of_bound, step_of, steps_of}
 pub use Rattle.check_run.specs.{variable_bounds}
 pub use Rattle.check_run.specs.declared.listing.CheckFault.{CheckFault}
 pub use Rattle.check_run.specs.declared.verdict.ListingVerdict.{ListingVerdict}

@@ -1,8 +1,7 @@
 pub mod Steps
 pub mod Verdicts
 pub mod Parts
-pub use Rattle.check_run.specs.Parts.{AreNarrow, ArePosed, AreWide, FailsBy, IsChecked, IsCovered, IsUncovered, IsUnposed, IsVerdictAt, heads_before}
-pub use Rattle.check_run.specs.Parts.{of_barrier, of_build, of_flows}
+pub use Rattle.check_run.specs.Parts.{AreNarrow, ArePosed, AreWide, FailsBy, IsChecked, IsCovered, IsUncovered, IsUnposed, IsVerdictAt, heads_before, of_bound}
 pub use Rattle.check_run.specs.Steps.{ConstantsReach, CoversFlow, FailsAt, HeadsHold, IsConstantCell, IsFirstNarrow, IsFirstShort, IsRefused, Passes, ReachesAt}
 pub use Rattle.check_run.specs.Steps.{ReachesOn, TermsHold, at_constant, at_term, at_variable, at_zones, bounds, budget_at, no_budget, no_flows, no_heads}
 pub use Rattle.check_run.specs.Steps.{variable_bounds}

@@ -11,20 +11,16 @@ use Rattle.step_problem.specs.{lower_at, upper_at}
 use Rattle.budget_bounds.specs.declared.pair.Budget.{Budget}
 use Rattle.budget_bounds.specs.{Covers, IsFirstUncovered, EnclosesBudgets, budget_of}
 use Rattle.barrier_vector.specs.{EnclosesUncut}
-use Rattle.barrier_vector.specs.declared.BarrierFault.{BarrierFault}
-use Rattle.barrier_vector.specs.declared.BarrierFault.TheVariants as barrier
+use Rattle.step_problem.specs.declared.refusal.BoundFault.{BoundFault}
+use Rattle.step_problem.specs.declared.refusal.BoundFault.TheVariants as bound
 use Rattle.cell_balance.specs.{IsHeldBelow}
 use Rattle.model_types.specs.declared.limits.Limits.{Limits}
 use Rattle.model_types.specs.declared.time_steps.TimeStep.{TimeStep}
 use Rattle.model_types.specs.{variable_cells}
-use Rattle.problem_builder.specs.declared.fault.BuildFault.{BuildFault}
-use Rattle.problem_builder.specs.declared.fault.BuildFault.TheVariants as build
 use Rattle.problem_builder.specs.{IsActive, IsCellNamed}
 use Rattle.deck_problems.specs.declared.decks.Decks.{Decks}
 use Rattle.deck_problems.specs.{AreConstantHeadsFor, EachMember, EnclosesSteps}
 use Rattle.step_chain.specs.{IsPosed, HasNoPose}
-use Rattle.zone_flows.specs.declared.fault.ZoneFault.{ZoneFault}
-use Rattle.zone_flows.specs.declared.fault.ZoneFault.TheVariants as flows
 use Rattle.listing_run.specs.{AreFlowsOf, FlowsEnclose, HasLargeFlowOf}
 use Rattle.listing_io.specs.declared.listing.ListedStep.{ListedStep}
 use Rattle.listing_io.specs.{step_in}
@@ -38,18 +34,10 @@ use Rattle.check_run.specs.Steps.{CoversFlow, IsFirstNarrow, FailsAt, IsRefused}
 use Rattle.check_run.specs.Verdicts.{IsVerdict, ListingEncloses}
 use Rattle.exact_histories.specs.{HaveOneHistory}
 
--- a fault of a step by that of its builder, or its barrier
-abbrev pub of_build : BuildFault → CheckFault
-of_build (build.NoBound n) = fault.Refused n
-of_build build.Memory = fault.Memory
-
-abbrev pub of_barrier : BarrierFault → CheckFault
-of_barrier (barrier.NoBound n) = fault.Refused n
-of_barrier barrier.Memory = fault.Memory
-
-abbrev pub of_flows : ZoneFault → CheckFault
-of_flows (flows.NoBound n) = fault.Refused n
-of_flows flows.Memory = fault.Memory
+-- a fault of a step by that of its problem, its barrier or its zone flows
+abbrev pub of_bound : BoundFault → CheckFault
+of_bound (bound.NoBound n) = fault.Refused n
+of_bound bound.Memory = fault.Memory
 
 -- the cause of a step's fault; lack of memory is possible at any time
 abbrev pub FailsBy : Limits → Decks → ℕ → Option (List ℕ) → TimeStep → List Bound → ListedStep → CheckFault → Type 0

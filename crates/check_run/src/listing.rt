@@ -5,21 +5,18 @@ ghost use Rattle.listing_io.specs.{AreListed, step_in};
 ghost use Rattle.exact_histories.specs.{HaveOneHistory};
 ghost use Rattle.deck_problems.specs.{AreDecks, AreDeckTables, digits_of};
 ghost use Rattle.check_run.specs.declared.verdict.ListingVerdict.TheVariants.{Certified};
-ghost use Rattle.check_run.specs.Parts.{heads_before, IsChecked, IsVerdictAt, of_barrier, of_build, of_flows};
+ghost use Rattle.check_run.specs.Parts.{heads_before, IsChecked, IsVerdictAt, of_bound};
 ghost use Rattle.check_run.specs.Verdicts.{IsVerdict, ListingEncloses};
 ghost use Rattle.check_run.specs.declared.listing.CheckFault.TheVariants.{Memory as OutOfMemory};
 
 use crate::laws::one_verdict;
 use crate::step::check_listed;
 use crate::verdict::ListingVerdict;
-use barrier_vector::BarrierFault;
 use deck_problems::{DeckTables, Decks, start_heads_for};
 use listing_io::{ListedStep, Listing};
 use model_types::{Limits, TimeStep, times};
-use problem_builder::BuildFault;
 use std::alloc::{AllocError, Global};
-use step_problem::{Bound, NoBound, Place};
-use zone_flows::ZoneFault;
+use step_problem::{Bound, BoundFault, NoBound, Place};
 
 // The heads before a step: the listing's own of the step before, or those of STRT.
 fn heads_before<'a>(start: &'a [Bound], listing: &'a Listing, index: usize) -> &'a [Bound]
@@ -145,35 +142,13 @@ impl From<AllocError> for CheckFault {
     }
 }
 
-impl From<BuildFault> for CheckFault {
-    ghost from_gives = { λ fault e. e ≡ of_build fault };
+impl From<BoundFault> for CheckFault {
+    ghost from_gives = { λ fault e. e ≡ of_bound fault };
 
-    fn from(fault: BuildFault) -> CheckFault {
+    fn from(fault: BoundFault) -> CheckFault {
         match fault {
-            BuildFault::NoBound(refusal) => CheckFault::Refused(refusal),
-            BuildFault::Memory => CheckFault::Memory,
-        }
-    }
-}
-
-impl From<BarrierFault> for CheckFault {
-    ghost from_gives = { λ fault e. e ≡ of_barrier fault };
-
-    fn from(fault: BarrierFault) -> CheckFault {
-        match fault {
-            BarrierFault::NoBound(refusal) => CheckFault::Refused(refusal),
-            BarrierFault::Memory => CheckFault::Memory,
-        }
-    }
-}
-
-impl From<ZoneFault> for CheckFault {
-    ghost from_gives = { λ fault e. e ≡ of_flows fault };
-
-    fn from(fault: ZoneFault) -> CheckFault {
-        match fault {
-            ZoneFault::NoBound(refusal) => CheckFault::Refused(refusal),
-            ZoneFault::Memory => CheckFault::Memory,
+            BoundFault::NoBound(refusal) => CheckFault::Refused(refusal),
+            BoundFault::Memory => CheckFault::Memory,
         }
     }
 }

@@ -7,13 +7,13 @@ use Rattle.deck_problems.proofs.Common.{AreConstantHeads, entries_at, get_or-map
 use Rattle.deck_problems.proofs.Common.{known_bound, constant_bound, item_is, IsHullBound, Result, Ok, Err, option_to_list, NoBound, problem_of, unless_refused}
 use Rattle.deck_problems.proofs.Common.{cell_hull, first_refusal, hull_or_refusal, problem_by, IsCellNamed}
 use Rattle.step_problem.specs.declared.entry.Fixed.{Fixed}
-use Rattle.problem_builder.specs.declared.fault.BuildFault.{BuildFault}
+use Rattle.step_problem.specs.declared.refusal.BoundFault.{BoundFault}
 use Rattle.std.specs.Prelude.{true}
 use Rattle.problem_hull.proofs.Refusals.{no_refusal}
 use Rattle.std.proofs.lemmas.List.FromFn.{length-map-range_with_len}
 use Rattle.deck_problems.proofs.Enclosing.{second_cells}
 use Rattle.deck_problems.proofs.OneProblem.{constant_same}
-use Rattle.problem_builder.specs.declared.fault.BuildFault.TheVariants as build
+use Rattle.step_problem.specs.declared.refusal.BoundFault.TheVariants as build
 
 -- The hull names the cells of the first problem.
 
@@ -101,10 +101,10 @@ module _ (d : Decks) (b : FlowModel) (is : d.second ≡ Some b) where
     problem_of_hull p q r h k hull fits =
         both (Ok p) (Ok q) (Ok r) h k (ap (λ o. unless_refused (option_to_list o) (zip_with cell_hull p q)) (ap first_refusal (sym hull.is) ∙ no_refusal r fits) ∙ ap Ok (sym hull.is))
 
-    pub second_refused : (p : List Entries) → IsProblemOf d.first s at old p → (fault : BuildFault) → IsBuildFault b s at old fault → IsFaultFor d s at old fault
+    pub second_refused : (p : List Entries) → IsProblemOf d.first s at old p → (fault : BoundFault) → IsBuildFault b s at old fault → IsFaultFor d s at old fault
     second_refused p h (build.NoBound n) x = both (Ok p) (Err n) (Err n) h x refl
     second_refused p h build.Memory x = tt
 
-    pub hull_refused : (p q : List Entries) → IsProblemOf d.first s at old p → IsProblemOf b s at old q → (fault : BuildFault) → IsHullRefusal p q fault → IsFaultFor d s at old fault
+    pub hull_refused : (p q : List Entries) → IsProblemOf d.first s at old p → IsProblemOf b s at old q → (fault : BoundFault) → IsHullRefusal p q fault → IsFaultFor d s at old fault
     hull_refused p q h k (build.NoBound n) x = both (Ok p) (Ok q) (Err n) h k (ap (λ o. unless_refused (option_to_list o) (zip_with cell_hull p q)) x.first)
     hull_refused p q h k build.Memory x = tt

@@ -13,8 +13,8 @@ use Rattle.step_problem.specs.Entries.{Entries}
 use Rattle.cell_balance.specs.{EnclosesStep}
 use Rattle.model_types.specs.declared.time_steps.TimeStep.{TimeStep}
 use Rattle.flow_equations.specs.{exact_step}
-use Rattle.problem_builder.specs.declared.fault.BuildFault.{BuildFault}
-use Rattle.problem_builder.specs.declared.fault.BuildFault.TheVariants.{NoBound as Refused, Memory}
+use Rattle.step_problem.specs.declared.refusal.BoundFault.{BoundFault}
+use Rattle.step_problem.specs.declared.refusal.BoundFault.TheVariants.{NoBound as Refused, Memory}
 use Rattle.problem_hull.specs.{IsTooLarge, IsHullPair}
 use Rattle.deck_problems.specs.declared.problem.DeckProblem.{DeckProblem}
 use Rattle.step_problem.specs.{no_bound}
@@ -59,7 +59,7 @@ pub record IsModelProblem (m : FlowModel) (s : ℕ) (at : TimeStep) (old : List 
   pub encloses : EnclosesSteps s at old x.problem m
 
 -- why two problems that are alike have no hull that is a problem
-abbrev pub IsHullRefusal : List Entries → List Entries → BuildFault → Type 0
+abbrev pub IsHullRefusal : List Entries → List Entries → BoundFault → Type 0
 IsHullRefusal p q (Refused n) = IsTooLarge p q n
 IsHullRefusal p q Memory = Unit {0}
 

@@ -14,8 +14,8 @@ use Rattle.problem_hull.specs.{AreAlike as AreProblemsAlike, cell_hull, zip_with
 use Rattle.deck_span.specs.{AreAlike}
 use Rattle.deck_problems.specs.declared.decks.Decks.{Decks}
 use Rattle.deck_problems.specs.Kept.{AreDecks, EachMember, IsConstantPairFor, AreStartHeadsFor, EnclosesSteps}
-use Rattle.problem_builder.specs.declared.fault.BuildFault.{BuildFault}
-use Rattle.problem_builder.specs.declared.fault.BuildFault.TheVariants.{NoBound as Refused, Memory}
+use Rattle.step_problem.specs.declared.refusal.BoundFault.{BoundFault}
+use Rattle.step_problem.specs.declared.refusal.BoundFault.TheVariants.{NoBound as Refused, Memory}
 
 -- The results of two models that are alike, as one: the refusal of the first one, or of the second; or the hull of their problems, or
 -- the refusal of its first cell that has a sum too large.
@@ -44,7 +44,7 @@ module _ (d : Decks) (s : ℕ) (at : TimeStep) (old : List Bound) where
   HasNoProblemFor n = problem_by d.first d.second s at old ≡ Err n
 
   -- lack of memory is possible at any time
-  abbrev pub IsFaultFor : BuildFault → Type 0
+  abbrev pub IsFaultFor : BoundFault → Type 0
   IsFaultFor (Refused n) = HasNoProblemFor n
   IsFaultFor Memory = Unit {0}
 

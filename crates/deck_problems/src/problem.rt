@@ -12,10 +12,10 @@ use crate::kept::RunTables;
 use crate::laws::problems_are_alike;
 use crate::start::hull_bounds;
 use model_types::{FlowModel, Listed, TimeStep};
-use problem_builder::{BuildFault, StepTables, build_with};
+use problem_builder::{StepTables, build_with};
 use problem_hull::{HullFault, hull};
 use std::alloc::{AllocError, Global};
-use step_problem::{Bound, Problem};
+use step_problem::{Bound, BoundFault, Problem};
 
 /// A step's problem, and for each cell of the grid the bounds of its head if that is constant, in units of 10^-9, and
 /// zeros in any other cell.
@@ -26,7 +26,7 @@ pub struct DeckProblem {
 }
 
 // The hull of two problems that are alike.
-fn hull_problem(alloc: Global, p: &Problem, q: &Problem) -> Result<Problem, BuildFault>
+fn hull_problem(alloc: Global, p: &Problem, q: &Problem) -> Result<Problem, BoundFault>
     requires alike { AreProblemsAlike p.now q.now }
     ensures hull { IfOk result (λ r. IsHull p.now q.now r) }
     ensures fault { IfErr result (IsHullRefusal p.now q.now) }
@@ -34,8 +34,8 @@ fn hull_problem(alloc: Global, p: &Problem, q: &Problem) -> Result<Problem, Buil
     match hull(alloc, p, q) {
         Ok(problem) => Ok(problem),
         Err(HullFault::NotAlike) => unreachable!(),
-        Err(HullFault::NoBound(refusal)) => Err(BuildFault::NoBound(refusal)),
-        Err(HullFault::Memory) => Err(BuildFault::Memory),
+        Err(HullFault::NoBound(refusal)) => Err(BoundFault::NoBound(refusal)),
+        Err(HullFault::Memory) => Err(BoundFault::Memory),
     }
 }
 
@@ -49,7 +49,7 @@ pub fn problem_for(
     tables: &mut DeckTables,
     at: TimeStep,
     old: &[Bound],
-) -> Result<DeckProblem, BuildFault>
+) -> Result<DeckProblem, BoundFault>
     requires decks { AreDecks decks.now }
     requires time { Contains (times decks.now.first) at }
     requires old { AreGridHeads decks.now.first old.now }
@@ -88,7 +88,7 @@ pub(crate) fn model_problem(
     tables: &mut RunTables,
     at: TimeStep,
     old: &[Bound],
-) -> Result<DeckProblem, BuildFault>
+) -> Result<DeckProblem, BoundFault>
     requires model { IsModel model.now }
     requires time { Contains (times model.now) at }
     requires old { AreGridHeads model.now old.now }
@@ -117,7 +117,7 @@ pub(crate) fn second_problem(
     at: TimeStep,
     old: &[Bound],
     s: u32,
-) -> Result<DeckProblem, BuildFault>
+) -> Result<DeckProblem, BoundFault>
     requires model { IsModel model.now }
     requires time { Contains (times model.now) at }
     requires old { AreGridHeads model.now old.now }

@@ -23,8 +23,8 @@ pub use Rattle.deck_span.specs.{IsBetween, IsCell, IsCellBetween, IsCellIn, IsDe
 pub use Rattle.deck_span.specs.{IsFirstDifference, IsFirstOfLayers, IsFixedBetween, IsFlowBetween, IsFound, IsFractionBetween, IsGivenAtMost, IsGivenBetween}
 pub use Rattle.deck_span.specs.{IsHeadCell, IsLayerCell, IsListCell, IsPeriodBetween, IsPeriodCell, IsRateBetween, IsRatioBetween, IsRiverBetween}
 pub use Rattle.deck_span.specs.{IsSizeBetween, IsStepBetween, LiesBetween, Shares, SharesBounds, SharesEvaporation, SharesGrid, SharesIn, SharesOptions}
-pub use Rattle.deck_span.specs.{SharesProperties, SharesSizes, SharesTimes, apart, array_at, bottoms, cell_in_grid, drains, earlier, frame, generals, next}
-pub use Rattle.deck_span.specs.{none, period_frame, properties, comparing_order, rivers, wells}
+pub use Rattle.deck_span.specs.{SharesProperties, SharesSizes, SharesTimes, apart, array_at, bottoms, cell_in_grid, comparing_order, drains, earlier, frame}
+pub use Rattle.deck_span.specs.{generals, next, none, period_frame, properties, rivers, wells}
 pub use Rattle.flow_equations.proofs.TurnedFlows.{own_share}
 pub use Rattle.flow_equations.specs.{exact_cell, exact_drain, exact_evap, exact_fixed, exact_flow, exact_link, exact_river, exact_step}
 pub use Rattle.model_types.specs.{DrainSource, EvapSource, FixedSource, FlowSource, FromStorage, IsEvapValid, IsModel, Pumped, Received, RiverSource}

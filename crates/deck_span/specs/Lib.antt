@@ -14,4 +14,5 @@ pub use Rattle.deck_span.specs.Models.AllThree.{next, none}
 pub use Rattle.deck_span.specs.Models.IsEntryBetween.{drains, generals, rivers, wells}
 pub use Rattle.deck_span.specs.Order.{AreArraysSame, AreSame, Finds, InOrder, IsArrayCell, IsFirst, IsFirstOfLayers, IsFound, IsLayerCell, IsListCell, apart}
 pub use Rattle.deck_span.specs.Order.{array_at, cell_in_grid, earlier}
-pub use Rattle.deck_span.specs.Shared.{Shares, SharesBounds, SharesEvaporation, SharesGrid, SharesHead, SharesIn, SharesProperties, SharesTimes, comparing_order}
+pub use Rattle.deck_span.specs.Shared.{Shares, SharesBounds, SharesEvaporation, SharesGrid, SharesHead, SharesIn, SharesProperties, SharesTimes}
+pub use Rattle.deck_span.specs.Shared.{comparing_order}

@@ -10,7 +10,7 @@ use Rattle.step_problem.specs.declared.place.Term.{Term}
 use Rattle.step_problem.specs.declared.heads.Side.{Side}
 use Rattle.step_problem.specs.declared.heads.Side.TheVariants.{Low, High}
 use Rattle.barrier_vector.specs.{IsUnbounded, RefusesOn, HasStorage, HasNoBound, no_barrier_on}
-use Rattle.barrier_vector.specs.declared.BarrierFault.TheVariants.{NoBound as AFault}
+use Rattle.step_problem.specs.declared.refusal.BoundFault.TheVariants.{NoBound as AFault}
 use Rattle.barrier_vector.proofs.Sides.{stored_fault, stored_refusal, unbounded_refuses}
 use Rattle.budget_bounds.specs.{◌>>=◌, all_terms, budget_of, is_small, term_of, term_pair, terms_of, too_large}
 use Rattle.problem_builder.specs.{fault_of}

@@ -11,9 +11,9 @@ use Rattle.step_problem.specs.declared.place.NoBound.{NoBound}
 use Rattle.step_problem.specs.declared.place.ZoneFlow.{ZoneFlow}
 use Rattle.step_problem.specs.Entries.{Entries}
 use Rattle.step_chain.specs.declared.solved.Solved.{Solved}
-use Rattle.zone_flows.specs.declared.fault.ZoneFault.{ZoneFault}
+use Rattle.step_problem.specs.declared.refusal.BoundFault.{BoundFault}
 use Rattle.zone_flows.specs.{Face, faces, zone_flows, EncloseEveryStep}
-use Rattle.zone_flows.specs.declared.fault.ZoneFault.TheVariants as fault
+use Rattle.step_problem.specs.declared.refusal.BoundFault.TheVariants as fault
 
 -- a step has the settled pair; with --quick any pair that is a certificate
 abbrev pub pairs_of : Task → PairKind
@@ -50,7 +50,7 @@ module _ (p : List Entries) (heads : List Bound) where
   FlowsEnclose zones flows = IfSome zones (λ zs. EncloseEveryStep p zs (lower_at heads) (upper_at heads) flows)
 
   -- why there are no flows between zones
-  abbrev pub NoFlowsBy : Option (List ℕ) → ZoneFault → Type 0
+  abbrev pub NoFlowsBy : Option (List ℕ) → BoundFault → Type 0
   NoFlowsBy zones (fault.NoBound n) = HasLargeFlowOf zones n
   NoFlowsBy zones fault.Memory = Unit {0}
 

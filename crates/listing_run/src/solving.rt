@@ -20,8 +20,8 @@ use budget_bounds::{Budget, budget};
 use model_types::{FlowModel, Listed, TimeStep};
 use std::alloc::{AllocError, Global};
 use step_chain::{Solved, StepFault};
-use step_problem::{Bound, Problem, ZoneFlow};
-use zone_flows::{ZoneFault, zone_flows};
+use step_problem::{Bound, BoundFault, Problem, ZoneFlow};
+use zone_flows::zone_flows;
 
 /// A step: its time, the heads of all cells of the grid by cell number, in units of 10^-9, its budget, and the flows
 /// between zones, in units of 10^-(s+9).
@@ -89,7 +89,7 @@ pub fn flows_of(
     zones: Option<&[u32]>,
     problem: &Problem,
     heads: &[Bound],
-) -> Result<Vec<ZoneFlow>, ZoneFault>
+) -> Result<Vec<ZoneFlow>, BoundFault>
     requires zones { AreZones model.now (option_map (λ z. z.now) zones) }
     requires heads { AreGridHeads model.now heads.now }
     requires named { (c : ℕ) → IsCellNamed problem.now c → IsActive model.now c }
@@ -141,8 +141,8 @@ pub(crate) fn step_flows(
             budget,
             zones: Listed::new(flows),
         }),
-        Err(ZoneFault::NoBound(refusal)) => Err(Stop::End(ListingEnd::NoBound(at, refusal))),
-        Err(ZoneFault::Memory) => Err(Stop::Memory),
+        Err(BoundFault::NoBound(refusal)) => Err(Stop::End(ListingEnd::NoBound(at, refusal))),
+        Err(BoundFault::Memory) => Err(Stop::Memory),
     }
 }
 

@@ -24,9 +24,8 @@ pub use Rattle.array_text.proofs.LineTexts.{counted_take, last_takes, line_takes
 pub use Rattle.array_text.proofs.LineTexts.{then_takes}
 pub use Rattle.array_text.proofs.NumberTexts.{integer_reads, number_reads, one, short_exponent}
 pub use Rattle.array_text.proofs.WordTexts.{all_pass, count_is_word, integer_is_word, line_by_test, number_is_word, word_by_test}
-pub use Rattle.array_text.specs.{IsLine, IsShort, IsWord, IsWordByte, Line, Takes}
-unfoldable pub use Rattle.array_text.specs.{integer_array, integer_word, left_of_lines, line_text, number_after, number_word, numbered_lines, real_array}
-unfoldable pub use Rattle.array_text.specs.{row_line, row_lines, text}
+pub use Rattle.array_text.specs.{IsLine, IsShort, IsWord, IsWordByte, Line, Takes, integer_array, number_word, row_lines}
+unfoldable pub use Rattle.array_text.specs.{integer_word, left_of_lines, line_text, number_after, numbered_lines, real_array, row_line, text}
 pub use Rattle.bas_package.specs.{with_basics}
 unfoldable pub use Rattle.bas_package.specs.{bas_of, basics_of, head_item}
 pub use Rattle.decimal_input.specs.{IsDec, Ratio, is_digit}

@@ -4,8 +4,8 @@ use Rattle.problem_builder.proofs.Common.{cons_option, filter_map, filter_map-ap
 use Rattle.problem_builder.proofs.Common.{problem_of, refusal_of, unless_refused, whole_cell, whole_step, ◌≡◌, ℕ, suc, ◌+◌, ◌<◌, Bool, true, false, None, List}
 use Rattle.problem_builder.proofs.Common.{[], ◌∷◌, ◌++◌, sym, ap, ◌∙◌, arith, Bound, Entries, FlowModel, TimeStep, cell_count, is_variable, variable_below}
 use Rattle.problem_builder.proofs.Common.{passes_next, fails_next, below_is, AreCells, IsCellFault, map-append, NoBound}
-use Rattle.problem_builder.specs.declared.fault.BuildFault.{BuildFault}
-use Rattle.problem_builder.specs.declared.fault.BuildFault.TheVariants.{NoBound as Refused, Memory}
+use Rattle.step_problem.specs.declared.refusal.BoundFault.{BoundFault}
+use Rattle.step_problem.specs.declared.refusal.BoundFault.TheVariants.{NoBound as Refused, Memory}
 
 module _ (m : FlowModel) (s : ℕ) (at : TimeStep) (old : List Bound) where
   abbrev cell : ℕ → Entries
@@ -68,7 +68,7 @@ module _ (m : FlowModel) (s : ℕ) (at : TimeStep) (old : List Bound) where
       further k ns e true v = (ns ++ cons_option (refusal_of (cell k)) [], added k v ∙ ap (λ xs. xs ++ cons_option (refusal_of (cell k)) []) e)
       further k ns e false v = (ns, ap (λ xs. filter_map refusal_of (map cell xs)) (below_same k v) ∙ e)
 
-  pub first_fault : (c : ℕ) (es : List Entries) (fault : BuildFault) → c < cell_count m.grid → test c ≡ true → IsCellFault (cell c) fault → Are c es → IsBuildFault m s at old fault
+  pub first_fault : (c : ℕ) (es : List Entries) (fault : BoundFault) → c < cell_count m.grid → test c ≡ true → IsCellFault (cell c) fault → Are c es → IsBuildFault m s at old fault
   unfolding problem_of
   first_fault c es Memory lt v k are = tt
   first_fault c es (Refused fault) lt v k are =

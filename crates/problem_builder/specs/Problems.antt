@@ -14,8 +14,8 @@ use Rattle.model_types.specs.{cell_count, is_variable, variable_cells, period_at
 use Rattle.decimal_input.specs.{Fraction}
 use Rattle.cell_balance.specs.{EnclosesStep}
 use Rattle.flow_equations.specs.{exact_step}
-use Rattle.problem_builder.specs.declared.fault.BuildFault.{BuildFault}
-use Rattle.problem_builder.specs.declared.fault.BuildFault.TheVariants.{NoBound as Refused, Memory}
+use Rattle.step_problem.specs.declared.refusal.BoundFault.{BoundFault}
+use Rattle.step_problem.specs.declared.refusal.BoundFault.TheVariants.{NoBound as Refused, Memory}
 use Rattle.problem_builder.specs.Widths.{face_pair}
 use Rattle.problem_builder.specs.Cells.{whole_cell, whole_below, whole_step}
 use Rattle.problem_builder.specs.GridHeads.{HeadsEnclose, IsActive, IsCellNamed, HasOldHeads}
@@ -75,7 +75,7 @@ module _ (m : FlowModel) (s : ℕ) (at : TimeStep) (old : List Bound) where
     pub stored : (period_at m at.period).steady ≡ false → HasOldHeads p
 
   -- lack of memory is possible at any time
-  abbrev pub IsBuildFault : BuildFault → Type 0
+  abbrev pub IsBuildFault : BoundFault → Type 0
   IsBuildFault (Refused fault) = HasNoProblem fault
   IsBuildFault Memory = Unit {0}
 
@@ -101,6 +101,6 @@ pub record IsCheckedCell (i : Inputs) (c : ℕ) (e : Entries) : Type 0 where
   pub is : e ≡ whole_cell i.model i.tables.digits i.at i.old c
   pub sound : refusal_of e ≡ None
 
-abbrev pub IsCellFault : Entries → BuildFault → Type 0
+abbrev pub IsCellFault : Entries → BoundFault → Type 0
 IsCellFault e Memory = Unit {0}
 IsCellFault e (Refused fault) = refusal_of e ≡ Some fault

@@ -5,17 +5,17 @@ ghost use Rattle.problem_builder.specs.{AreGridHeads, AreCells, IsBuilt, IsBuild
 ghost use Rattle.problem_builder.specs.{AreTables, ArePeriodTables, AreStepTables, AreEvenStorages};
 
 use crate::cell::cell;
-use crate::fault::{BuildFault, fault};
+use crate::fault::fault;
 use crate::index::PeriodTables;
 use crate::input::StepInput;
 use crate::step::StepTables;
 use crate::tables::Tables;
 use model_types::{FlowModel, TimeStep};
 use std::alloc::Global;
-use step_problem::{Bound, Cell, NoBound, Place, Problem, Side};
+use step_problem::{Bound, BoundFault, Cell, NoBound, Place, Problem, Side};
 
 // A variable cell, or its first refusal.
-fn checked_cell(alloc: Global, input: &StepInput, number: u32) -> Result<Cell, BuildFault>
+fn checked_cell(alloc: Global, input: &StepInput, number: u32) -> Result<Cell, BoundFault>
     requires input { AreInputs input.now }
     requires cell { IsVariableCell input.now number }
     ensures cell { IfOk result (IsCheckedCell input.now number) }
@@ -24,7 +24,7 @@ fn checked_cell(alloc: Global, input: &StepInput, number: u32) -> Result<Cell, B
     let made = cell(alloc, input, number)?;
     match fault(&made) {
         None => Ok(made),
-        Some(code) => Err(BuildFault::NoBound(NoBound {
+        Some(code) => Err(BoundFault::NoBound(NoBound {
             code,
             place: Place::Cell(number, Side::Low),
         })),
@@ -32,7 +32,7 @@ fn checked_cell(alloc: Global, input: &StepInput, number: u32) -> Result<Cell, B
 }
 
 // All variable cells, or the first refusal.
-pub(crate) fn cells(alloc: Global, input: &StepInput) -> Result<Vec<Cell>, BuildFault>
+pub(crate) fn cells(alloc: Global, input: &StepInput) -> Result<Vec<Cell>, BoundFault>
     requires { AreInputs input.now }
     ensures cells { IfOk result (λ v. AreCells input.now.model input.now.tables.digits input.now.at input.now.old (cell_count input.now.model.grid) v.items) }
     ensures fault { IfErr result (IsBuildFault input.now.model input.now.tables.digits input.now.at input.now.old) }
@@ -49,7 +49,7 @@ pub(crate) fn cells(alloc: Global, input: &StepInput) -> Result<Vec<Cell>, Build
 }
 
 // The problem of these inputs.
-fn problem_of(alloc: Global, input: &StepInput) -> Result<Problem, BuildFault>
+fn problem_of(alloc: Global, input: &StepInput) -> Result<Problem, BoundFault>
     requires { AreInputs input.now }
     ensures built { IfOk result (IsBuilt input.now.model input.now.tables.digits input.now.at input.now.old) }
     ensures refusal { IfErr result (IsBuildFault input.now.model input.now.tables.digits input.now.at input.now.old) }
@@ -68,7 +68,7 @@ pub fn build_with(
     step: &StepTables,
     at: TimeStep,
     old: &[Bound],
-) -> Result<Problem, BuildFault>
+) -> Result<Problem, BoundFault>
     requires model { IsModel model.now }
     requires time { Contains (times model.now) at }
     requires old { AreGridHeads model.now old.now }
@@ -99,7 +99,7 @@ pub fn build(
     at: TimeStep,
     old: &[Bound],
     s: u32,
-) -> Result<Problem, BuildFault>
+) -> Result<Problem, BoundFault>
     requires model { IsModel model.now }
     requires time { Contains (times model.now) at }
     requires old { AreGridHeads model.now old.now }

@@ -1,38 +1,10 @@
-// Why a step has no problem, and the refusals of a cell.
+// The refusals of a cell.
 ghost use Rattle.std.specs.Prelude.{◌≡◌, ◌==◌, ◌&&◌, All};
 ghost use Rattle.std.specs.List.{list_any};
 ghost use Rattle.step_problem.specs.{RiverFits, EvapFits};
-ghost use Rattle.problem_builder.specs.Problems.{fault_of, is_branch};
-ghost use Rattle.problem_builder.specs.declared.fault.BuildFault.TheVariants.{Memory};
+ghost use Rattle.problem_builder.specs.{fault_of, is_branch};
 
-use std::alloc::{AllocError, AllocFailed};
-use step_problem::{
-    Cell, Fixed, FixedKind, Link, NoBound, StepRefusal, conductances_fit, flows_fit,
-};
-
-/// Why a step has no problem: the refusal of the least cell that has one, by its number (that of
-/// ConductanceTooSmall, ConductanceTooLarge or FlowTooLarge), or out of memory.
-#[derive(Clone, Copy)]
-pub enum BuildFault {
-    NoBound(NoBound),
-    Memory,
-}
-
-impl From<AllocError> for BuildFault {
-    ghost from_gives = { λ _ e. e ≡ Memory };
-
-    fn from(_e: AllocError) -> BuildFault {
-        BuildFault::Memory
-    }
-}
-
-impl<T: Drop> From<AllocFailed<T>> for BuildFault {
-    ghost from_gives = { λ _ e. e ≡ Memory };
-
-    fn from(_e: AllocFailed<T>) -> BuildFault {
-        BuildFault::Memory
-    }
-}
+use step_problem::{Cell, Fixed, FixedKind, Link, StepRefusal, conductances_fit, flows_fit};
 
 fn has_small_link(links: &[Link]) -> bool
     ensures { result ≡ list_any (λ x. x.lo == 0) links.now }

@@ -24,7 +24,6 @@ pub mod stored;
 pub mod tables;
 
 pub use builder::{build, build_with};
-pub use fault::BuildFault;
 pub use index::PeriodTables;
 pub use start::start_heads;
 pub use step::StepTables;

@@ -7,7 +7,6 @@ pub use Rattle.std.specs.Prelude.{Err, IfOk, Ok, Result, not, ◌&&◌}
 pub use Rattle.barrier_vector.proofs.Outlining.{clamped_at, clamped_fits}
 pub use Rattle.barrier_vector.specs.{BarrierExcludesRefusal, CutBarrierExcludesRefusal, CutBarrierIsOne, CutRefusalIsOne, EnclosesUncut, IsCellCeiling}
 pub use Rattle.barrier_vector.specs.{IsCellFloor, IsCutBarrierOf, clamped_edges}
-pub use Rattle.barrier_vector.specs.declared.BarrierFault.{BarrierFault}
 pub use Rattle.cell_balance.specs.{CellEncloses, EnclosesSolutions, EnclosesStep, ExactCell, IsHeldBelow, LiesBetween, SolvesStep, cell_at, no_cell}
 pub use Rattle.cell_relax.specs.{AreWords}
 pub use Rattle.certificate_check.specs.{CertificateEncloses, CertificateExcludesRefusal, ClampedPairEncloses, IsRangeRefusal, RangeRefusalIsOne}
@@ -31,7 +30,7 @@ pub use Rattle.problem_builder.specs.{AreGridHeads, HeadsEnclose, IsActive, boun
 pub use Rattle.step_chain.specs.{AreHeadsOf, AreSteps, EnclosesMove, EnclosesMoves, FailsBy, HasNoBarrier, HasNoHeads, HasNoPose, HeadsFit, HistoriesLieWithin}
 pub use Rattle.step_chain.specs.{IsBarrierBy, IsBarrierFault, IsMove, IsNoCertificate, IsPosed, IsStepBy, LeadsBy, LeadsOrRests, LeadsWithout, LeavesRange}
 pub use Rattle.step_chain.specs.{LieBetween, LieWithin, LiesBetweenBy, LiesWithin, RefusalIsOne, SettlesNot, StepEncloses, StepExcludesRefusal, StepIsOne}
-pub use Rattle.step_chain.specs.{WideKeepsSteps, edges_by, of_barrier, two}
+pub use Rattle.step_chain.specs.{WideKeepsSteps, edges_by, of_bound, two}
 pub use Rattle.step_chain.specs.declared.solved.Solved.{Solved}
 pub use Rattle.step_problem.proofs.Pairs.{either_certifies, given_is}
 pub use Rattle.step_problem.specs.{AreInside, AreSettled, Edges, IsBarrier, IsCertificate, IsGiven, IsHead, IsPairOf, IsProblem, IsSettledPair, PairKind}
@@ -39,3 +38,4 @@ pub use Rattle.step_problem.specs.{SettledPairExists, SettledPairIsOne, certifie
 pub use Rattle.step_problem.specs.Entries.{Entries}
 pub use Rattle.step_problem.specs.declared.heads.Bound.{Bound}
 pub use Rattle.step_problem.specs.declared.place.NoBound.{NoBound}
+pub use Rattle.step_problem.specs.declared.refusal.BoundFault.{BoundFault}

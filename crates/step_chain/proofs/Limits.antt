@@ -1,6 +1,6 @@
 -- Barriers by limits: each is a cut one, from which settling begins at a barrier of heads.
 use Rattle.step_chain.proofs.Common.{ℕ, ◌<◌, List, length, ℤ, Edges, head_at, IsProblem, Entries, IsBarrierBy, edges_by, Limits, Plain, Wide, IsCutBarrierOf}
-use Rattle.step_chain.proofs.Common.{EnclosesUncut, ClampedPairEncloses, SettledPairEncloses, LiesBetweenBy, Result, Ok, Err, IfOk, BarrierFault, IsBarrier}
+use Rattle.step_chain.proofs.Common.{EnclosesUncut, ClampedPairEncloses, SettledPairEncloses, LiesBetweenBy, Result, Ok, Err, IfOk, BoundFault, IsBarrier}
 use Rattle.step_chain.proofs.Common.{IsSettledPair, ExactCell, EnclosesStep, SolvesStep, clamped_fits, inl, inr, arith, Bound, PairKind, IsPairOf}
 use Rattle.step_chain.proofs.Common.{IsCertificate, lower_at, upper_at, no_bound, ints, clamps, NoBound, AreInside, IsGiven, settled, certified}
 use Rattle.step_chain.proofs.Common.{either_certifies, given_is, clamped_edges, clamped_at, IsRangeRefusal, IsNoCertificate, Bool, SettledPairExists, TimeStep}
@@ -39,13 +39,13 @@ module _ (p : List Entries) (fits : IsProblem p) where
       ((c : ℕ) → c < length p → IsCellCeiling p c (head_at b.ceiling c)) → IsBarrierBy Plain p b
   plain_barrier b fit floors ceilings = record { fits = fit; floors = floors; ceilings = ceilings }
 
-  pub plain_found : (r : Result Edges BarrierFault) → IfOk r (IsBarrier p) → IfOk r (λ b. (c : ℕ) → c < length p → IsCellFloor p c (head_at b.floor c)) →
+  pub plain_found : (r : Result Edges BoundFault) → IfOk r (IsBarrier p) → IfOk r (λ b. (c : ℕ) → c < length p → IsCellFloor p c (head_at b.floor c)) →
       IfOk r (λ b. (c : ℕ) → c < length p → IsCellCeiling p c (head_at b.ceiling c)) →
       IfOk r (IsBarrierBy Plain p)
   plain_found (Ok b) fit floors ceilings = plain_barrier b fit floors ceilings
   plain_found (Err e) fit floors ceilings = tt
 
-  pub plain_uncut : (r : Result Edges BarrierFault) → IfOk r (IsBarrierBy Plain p) → IfOk r (EnclosesUncut p)
+  pub plain_uncut : (r : Result Edges BoundFault) → IfOk r (IsBarrierBy Plain p) → IfOk r (EnclosesUncut p)
   plain_uncut (Ok b) h = uncut_by Plain p b fits h
   plain_uncut (Err e) h = tt
 

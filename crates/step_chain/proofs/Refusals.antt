@@ -2,14 +2,14 @@
 use Rattle.step_chain.proofs.Common.{◌≡◌, ℕ, inl, inr, subst, List, Bound, Entries, Edges, IsProblem, AreSettled, IsPairOf, PairKind, SettledPairIsOne, Solved}
 use Rattle.step_chain.proofs.Common.{Decks, TimeStep, IsBefore, ProblemFits, CutBarrierExcludesRefusal, CutBarrierIsOne, IsBarrierBy, edges_by, Limits, Plain}
 use Rattle.step_chain.proofs.Common.{Wide, StepExcludesRefusal, RefusalIsOne, NoBound, settled, CutRefusalIsOne, IsRangeRefusal, CertificateExcludesRefusal}
-use Rattle.step_chain.proofs.Common.{RangeRefusalIsOne, HasNoBarrier, HasNoPose, IsPosed, IsStepBy, LeavesRange, IsBarrierFault, IsProblemFor, BarrierFault}
-use Rattle.step_chain.proofs.Common.{FailsBy, IsNoCertificate, SettlesNot, of_barrier, HasNoHeads, BarrierExcludesRefusal, not_refused, same_problem}
+use Rattle.step_chain.proofs.Common.{RangeRefusalIsOne, HasNoBarrier, HasNoPose, IsPosed, IsStepBy, LeavesRange, IsBarrierFault, IsProblemFor, BoundFault}
+use Rattle.step_chain.proofs.Common.{FailsBy, IsNoCertificate, SettlesNot, of_bound, HasNoHeads, BarrierExcludesRefusal, not_refused, same_problem}
 use Rattle.step_chain.proofs.Common.{same_refusal}
 use Rattle.barrier_vector.specs.{RefusalIsOne as BarrierRefusalIsOne}
 use Rattle.step_chain.proofs.OneStep.{settled_one}
 use Rattle.step_chain.specs.declared.solved.StepFault.{StepFault}
 use Rattle.step_chain.specs.declared.solved.StepFault.TheVariants as step
-use Rattle.barrier_vector.specs.declared.BarrierFault.TheVariants as barrier
+use Rattle.step_problem.specs.declared.refusal.BoundFault.TheVariants as bound
 
 -- a problem with a barrier by limits has no refusal by them
 barrier_excludes : BarrierExcludesRefusal → CutBarrierExcludesRefusal → (limits : Limits) (p : List Entries) (b : Edges) (n : NoBound) → IsProblem p →
@@ -88,9 +88,9 @@ unposed Plain d s at old n h = h
 unposed Wide d s at old n h = inl h
 
 module _ (d : Decks) (s : ℕ) (at : TimeStep) (old : List Bound) (rounds : ℕ) (p : List Entries) (is : IsProblemFor d s at old p) where
-  pub barrier_fails : (limits : Limits) (fault : BarrierFault) → IsBarrierFault limits p fault → FailsBy limits d s at old rounds (of_barrier fault)
-  barrier_fails limits (barrier.NoBound n) h = unposed limits d s at old n (inr (p, is, h))
-  barrier_fails limits barrier.Memory h = tt
+  pub barrier_fails : (limits : Limits) (fault : BoundFault) → IsBarrierFault limits p fault → FailsBy limits d s at old rounds (of_bound fault)
+  barrier_fails limits (bound.NoBound n) h = unposed limits d s at old n (inr (p, is, h))
+  barrier_fails limits bound.Memory h = tt
 
   -- a settled pair that is no certificate over its barrier
   out_of_range : (limits : Limits) (b : Edges) → IsBarrierBy limits p b → (n : NoBound) → IsNoCertificate limits p b n → HasNoHeads limits d s at old n

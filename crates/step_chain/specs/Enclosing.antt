@@ -14,8 +14,8 @@ use Rattle.problem_builder.specs.{IsActive, HeadsEnclose}
 use Rattle.step_chain.specs.declared.solved.Solved.{Solved}
 use Rattle.step_problem.specs.declared.place.NoBound.{NoBound}
 use Rattle.barrier_vector.specs.{IsBarrierOf, IsRefused, IsCutBarrierOf, IsUnbounded, clamped_edges}
-use Rattle.barrier_vector.specs.declared.BarrierFault.{BarrierFault}
-use Rattle.barrier_vector.specs.declared.BarrierFault.TheVariants.{NoBound as IsNoBound, Memory}
+use Rattle.step_problem.specs.declared.refusal.BoundFault.{BoundFault}
+use Rattle.step_problem.specs.declared.refusal.BoundFault.TheVariants.{NoBound as IsNoBound, Memory}
 use Rattle.deck_problems.specs.declared.decks.Decks.{Decks}
 use Rattle.deck_problems.specs.{EachMember, IsProblemFor}
 
@@ -73,7 +73,7 @@ edges_by Plain b = b
 edges_by Wide b = clamped_edges b
 
 -- a fault is that refusal, or lack of memory
-abbrev pub IsBarrierFault : Limits → List Entries → BarrierFault → Type 0
+abbrev pub IsBarrierFault : Limits → List Entries → BoundFault → Type 0
 IsBarrierFault limits p (IsNoBound n) = HasNoBarrier limits p n
 IsBarrierFault limits p Memory = Unit {0}
 

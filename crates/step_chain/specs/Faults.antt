@@ -7,15 +7,13 @@ use Rattle.step_problem.specs.declared.place.NoBound.{NoBound}
 use Rattle.step_problem.specs.Entries.{Entries}
 use Rattle.step_problem.specs.{Edges, OpenHeads, AreSettled, IsUnfinished}
 use Rattle.barrier_vector.specs.{clamped_edges}
-use Rattle.barrier_vector.specs.declared.BarrierFault.{BarrierFault}
-use Rattle.barrier_vector.specs.declared.BarrierFault.TheVariants as barrier
+use Rattle.step_problem.specs.declared.refusal.BoundFault.{BoundFault}
+use Rattle.step_problem.specs.declared.refusal.BoundFault.TheVariants as bound
 use Rattle.certificate_check.specs.{IsRangeRefusal}
 use Rattle.deck_problems.specs.declared.decks.Decks.{Decks}
 use Rattle.model_types.specs.declared.limits.Limits.{Limits}
 use Rattle.model_types.specs.declared.limits.Limits.TheVariants.{Plain, Wide}
 use Rattle.model_types.specs.declared.time_steps.TimeStep.{TimeStep}
-use Rattle.problem_builder.specs.declared.fault.BuildFault.{BuildFault}
-use Rattle.problem_builder.specs.declared.fault.BuildFault.TheVariants as build
 use Rattle.step_chain.specs.declared.solved.StepFault.{StepFault}
 use Rattle.step_chain.specs.declared.solved.StepFault.TheVariants as fault
 use Rattle.step_chain.specs.Enclosing.{edges_by}
@@ -45,14 +43,10 @@ FailsBy limits d s at old rounds (fault.NoBound n) = HasNoHeads limits d s at ol
 FailsBy limits d s at old rounds (fault.Unfinished o) = IsOpenStep limits d s at old rounds o
 FailsBy limits d s at old rounds fault.Memory = Unit {0}
 
--- the fault of a step by that of its builder, its barrier, its settler
-abbrev pub of_build : BuildFault → StepFault
-of_build (build.NoBound n) = fault.NoBound n
-of_build build.Memory = fault.Memory
-
-abbrev pub of_barrier : BarrierFault → StepFault
-of_barrier (barrier.NoBound n) = fault.NoBound n
-of_barrier barrier.Memory = fault.Memory
+-- the fault of a step by that of its problem or barrier, or its settler
+abbrev pub of_bound : BoundFault → StepFault
+of_bound (bound.NoBound n) = fault.NoBound n
+of_bound bound.Memory = fault.Memory
 
 abbrev pub of_settle : SettleFault → StepFault
 of_settle (settle.Unfinished o) = fault.Unfinished o

@@ -1,6 +1,6 @@
 // The result of a step.
 ghost use Rattle.std.specs.Prelude.{◌≡◌, IfOk, IfErr, MatchResult, true};
-ghost use Rattle.step_chain.specs.Faults.{of_build, of_barrier, of_settle, SettlesNot};
+ghost use Rattle.step_chain.specs.Faults.{of_bound, of_settle, SettlesNot};
 ghost use Rattle.step_chain.specs.declared.solved.StepFault.TheVariants.{Memory as OutOfMemory};
 ghost use Rattle.step_problem.specs.{lower_at, upper_at, IsCertificate, IsPairOf};
 ghost use Rattle.cell_relax.specs.{AreWords};
@@ -9,12 +9,11 @@ ghost use Rattle.barrier_vector.specs.{EnclosesUncut, IsCutBarrierOf};
 ghost use Rattle.model_types.specs.declared.limits.Limits.TheVariants.{Wide};
 ghost use Rattle.step_chain.specs.Enclosing.{IsBarrierBy, IsBarrierFault, edges_by, LeadsWithout};
 
-use barrier_vector::{BarrierFault, barrier, clamp_barrier, cut_barrier};
+use barrier_vector::{barrier, clamp_barrier, cut_barrier};
 use certificate_check::range_refusal;
 use model_types::{Limits, Listed};
-use problem_builder::BuildFault;
 use std::alloc::{AllocError, Global};
-use step_problem::{Barrier, Bound, NoBound, Open, Problem, SettleFault, Settler};
+use step_problem::{Barrier, Bound, BoundFault, NoBound, Open, Problem, SettleFault, Settler};
 
 /// A step's problem, the settled pair of its variable cells by their index, and the heads of all cells of the grid
 /// by cell number, in units of 10^-9.
@@ -41,24 +40,13 @@ impl From<AllocError> for StepFault {
     }
 }
 
-impl From<BuildFault> for StepFault {
-    ghost from_gives = { λ fault e. e ≡ of_build fault };
+impl From<BoundFault> for StepFault {
+    ghost from_gives = { λ fault e. e ≡ of_bound fault };
 
-    fn from(fault: BuildFault) -> StepFault {
+    fn from(fault: BoundFault) -> StepFault {
         match fault {
-            BuildFault::NoBound(refusal) => StepFault::NoBound(refusal),
-            BuildFault::Memory => StepFault::Memory,
-        }
-    }
-}
-
-impl From<BarrierFault> for StepFault {
-    ghost from_gives = { λ fault e. e ≡ of_barrier fault };
-
-    fn from(fault: BarrierFault) -> StepFault {
-        match fault {
-            BarrierFault::NoBound(refusal) => StepFault::NoBound(refusal),
-            BarrierFault::Memory => StepFault::Memory,
+            BoundFault::NoBound(refusal) => StepFault::NoBound(refusal),
+            BoundFault::Memory => StepFault::Memory,
         }
     }
 }
@@ -79,7 +67,7 @@ impl From<SettleFault> for StepFault {
 /// The barrier of a problem by limits, or its refusal of 24 to 27; with wide limits floors and ceilings out of the range of
 /// heads are cut, and the refusal is 24 or 25.
 #[tactic(auto, using(crate::proofs::Limits::plain_found, crate::proofs::Limits::plain_uncut))]
-pub fn barrier_by(alloc: Global, limits: Limits, p: &Problem) -> Result<Barrier, BarrierFault>
+pub fn barrier_by(alloc: Global, limits: Limits, p: &Problem) -> Result<Barrier, BoundFault>
     ensures barrier { IfOk result (IsBarrierBy limits p.now) }
     ensures fault { IfErr result (IsBarrierFault limits p.now) }
     ensures held { IfOk result (λ b. IsHeldBelow p.now) }

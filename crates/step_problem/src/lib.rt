@@ -20,5 +20,5 @@ pub use flow::branch_flow;
 pub use heads::{Barrier, Bound, Open, SettleFault, Side};
 pub use place::{Dir, NoBound, Place, Term, ZoneFlow};
 pub use problem::{Problem, are_heads, is_head};
-pub use refusal::StepRefusal;
+pub use refusal::{BoundFault, StepRefusal};
 pub use settler::Settler;

@@ -1,5 +1,9 @@
 ghost use Rattle.std.specs.Prelude.{◌≡◌};
-ghost use Rattle.step_problem.specs.{number_of, refusal_of, word_of};
+ghost use Rattle.step_problem.specs.StepRefusals.{number_of, refusal_of, word_of};
+ghost use Rattle.step_problem.specs.declared.refusal.BoundFault.TheVariants.{Memory};
+
+use crate::place::NoBound;
+use std::alloc::{AllocError, AllocFailed};
 
 /// Why a step has no bounds, in the order of the numbers.
 #[derive(Clone, Copy)]
@@ -65,5 +69,28 @@ impl StepRefusal {
             StepRefusal::RangeLow => "RangeLow",
             StepRefusal::RangeHigh => "RangeHigh",
         }
+    }
+}
+
+/// Why a part of a step has no result: a refusal of the step, or out of memory.
+#[derive(Clone, Copy)]
+pub enum BoundFault {
+    NoBound(NoBound),
+    Memory,
+}
+
+impl From<AllocError> for BoundFault {
+    ghost from_gives = { λ _ e. e ≡ Memory };
+
+    fn from(_e: AllocError) -> BoundFault {
+        BoundFault::Memory
+    }
+}
+
+impl<T: Drop> From<AllocFailed<T>> for BoundFault {
+    ghost from_gives = { λ _ e. e ≡ Memory };
+
+    fn from(_e: AllocFailed<T>) -> BoundFault {
+        BoundFault::Memory
     }
 }

@@ -7,7 +7,7 @@ use Rattle.zone_flows.proofs.Common.{flow_or_large, pair_flow, Returns, if◌the
 use Rattle.zone_pairs.specs.declared.pair.ZonePair.{ZonePair}
 use Rattle.std.specs.declared.vec.Vec.{Vec}
 use Rattle.std.specs.declared.alloc.Global.{Global}
-use Rattle.zone_flows.specs.declared.fault.ZoneFault.{ZoneFault}
+use Rattle.step_problem.specs.declared.refusal.BoundFault.{BoundFault}
 use Rattle.zone_flows.proofs.Enclosed.{sums_enclose}
 
 abbrev value_or : {X E : Type 0} → X → Result X E → X
@@ -85,7 +85,7 @@ module _ (p : List Entries) (zones : List ℕ) (l u : ℕ → ℤ) (ok : IsProbl
       IsZoneFlow (faces zones l u p) v → EnclosesSigned v.lo v.hi (s + 9) (exact_flow v.from v.to (exact_faces zones h e))
   flow_encloses s e h encloses named v f = rw (f.lo, f.hi) (sums_enclose p zones l u ok s e h encloses named v.from v.to)
 
-  pub ok_encloses : (r : Result (Vec ZoneFlow Global) ZoneFault) → Returns (zone_flows (faces zones l u p)) r → IfOk r (λ flows. EncloseEveryStep p zones l u flows.items)
+  pub ok_encloses : (r : Result (Vec ZoneFlow Global) BoundFault) → Returns (zone_flows (faces zones l u p)) r → IfOk r (λ flows. EncloseEveryStep p zones l u flows.items)
   ok_encloses (Ok flows) is = λ s e h encloses named. All-weaker (IsZoneFlow (faces zones l u p)) _ (flow_encloses s e h encloses named) flows.items
       (flows_of_pairs (faces zones l u p) flows.items is).0
   ok_encloses (Err fault) is = tt

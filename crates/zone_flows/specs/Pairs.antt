@@ -12,9 +12,9 @@ use Rattle.zone_pairs.specs.{pairs_below}
 use Rattle.zone_flows.specs.Faces.{Face, is_between, flows_between}
 use Rattle.std.specs.declared.vec.Vec.{Vec}
 use Rattle.std.specs.declared.alloc.Global.{Global}
-use Rattle.zone_flows.specs.declared.fault.ZoneFault.{ZoneFault}
+use Rattle.step_problem.specs.declared.refusal.BoundFault.{BoundFault}
 use Rattle.step_problem.specs.declared.place.Place.TheVariants as places
-use Rattle.zone_flows.specs.declared.fault.ZoneFault.TheVariants as faults
+use Rattle.step_problem.specs.declared.refusal.BoundFault.TheVariants as faults
 
 -- what f gives of each item in turn, or its first refusal
 unfoldable pub each_or_first : {X Y E : Type 0} → (X → Result Y E) → List X → Result (List Y) E
@@ -51,7 +51,7 @@ module _ (fs : List Face) where
   zone_flows = each_or_first flow_or_large (filter share (pairs_below 1000))
 
 -- What a call for the flows between zones returns: these flows, or this refusal; out of memory may come at any place.
-abbrev pub Returns : Result (List ZoneFlow) NoBound → Result (Vec ZoneFlow Global) ZoneFault → Type 0
+abbrev pub Returns : Result (List ZoneFlow) NoBound → Result (Vec ZoneFlow Global) BoundFault → Type 0
 Returns listed (Ok flows) = listed ≡ Ok flows.items
 Returns listed (Err (faults.NoBound refusal)) = listed ≡ Err refusal
 Returns listed (Err faults.Memory) = Unit {0}

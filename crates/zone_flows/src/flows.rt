@@ -5,12 +5,11 @@ ghost use Rattle.budget_bounds.specs.{AreHeads};
 ghost use Rattle.zone_flows.specs.{Returns, EncloseEveryStep, faces, zone_flows};
 
 use crate::faces::add_faces;
-use crate::fault::ZoneFault;
 use crate::table::{Table, flows_in_order};
 use crate::walk::{Walk, zones_by_index};
 use std::alloc::Global;
 use std::collections::BTreeMap;
-use step_problem::{Bound, Problem, ZoneFlow};
+use step_problem::{Bound, BoundFault, Problem, ZoneFlow};
 
 /// The bounds of the flows between zones in one time step, in units of 10^-(s+9) of the model's flow, where the conductances
 /// of `p` are in units of 10^-s: one for each pair of zones that share a face with a variable cell, in order of the pairs.
@@ -22,7 +21,7 @@ pub fn zone_flows(
     p: &Problem,
     zones: &[u32],
     heads: &[Bound],
-) -> Result<Vec<ZoneFlow>, ZoneFault>
+) -> Result<Vec<ZoneFlow>, BoundFault>
     requires zones { All (λ z. z ≤ 999) zones.now }
     requires heads { All AreHeads heads.now }
     requires same { length heads.now ≡ length zones.now }

@@ -2,11 +2,9 @@
 #![tactic(auto)]
 
 mod faces;
-pub mod fault;
 pub mod flows;
 mod sum;
 mod table;
 mod walk;
 
-pub use fault::ZoneFault;
 pub use flows::zone_flows;

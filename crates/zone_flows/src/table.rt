@@ -7,12 +7,11 @@ ghost use Rattle.budget_bounds.specs.{IsFlow, term_limit};
 ghost use Rattle.zone_flows.specs.Tables.{AreSums, Gains, IsZoneSum, flow_or_refusal, add_flow};
 ghost use Rattle.zone_flows.specs.Pairs.{Returns, each_or_first};
 
-use crate::fault::ZoneFault;
 use crate::sum::ZoneSum;
 use budget_bounds::{TERM_LIMIT, TermPair, add_part};
 use std::alloc::{AllocError, Global};
 use std::collections::BTreeMap;
-use step_problem::{Dir, NoBound, Place, StepRefusal, ZoneFlow};
+use step_problem::{BoundFault, Dir, NoBound, Place, StepRefusal, ZoneFlow};
 
 /// The sums of each pair of zones that has any.
 #[derive(Drop)]
@@ -93,7 +92,7 @@ fn flow_or_refusal(key: u32, sum: ZoneSum) -> Result<ZoneFlow, NoBound>
 }
 
 /// The flow of each pair in order, or the first refusal.
-pub(crate) fn flows_in_order(alloc: Global, table: &Table) -> Result<Vec<ZoneFlow>, ZoneFault>
+pub(crate) fn flows_in_order(alloc: Global, table: &Table) -> Result<Vec<ZoneFlow>, BoundFault>
     ensures flows { Returns (each_or_first (λ e. flow_or_refusal e.0 e.1) table.now.map.entries) result }
     ensures ordered { IsOrdered nat_cmp table.now.map }
 {
@@ -101,7 +100,7 @@ pub(crate) fn flows_in_order(alloc: Global, table: &Table) -> Result<Vec<ZoneFlo
     for (key, sum) in table.map.iter() {
         match flow_or_refusal(*key, *sum) {
             Ok(flow) => flows.push(flow)?,
-            Err(refusal) => return Err(ZoneFault::NoBound(refusal)),
+            Err(refusal) => return Err(BoundFault::NoBound(refusal)),
         }
     }
     Ok(flows)

@@ -1,13 +1,13 @@
-use Rattle.check_run.proofs.Common.{err_from_is_err_and, digits_of, Limits, ℕ, List, inr, Bound, Entries, TimeStep, IsUnposed, of_barrier, Decks, IsProblemFor}
+use Rattle.check_run.proofs.Common.{err_from_is_err_and, digits_of, Limits, ℕ, List, inr, Bound, Entries, TimeStep, IsUnposed, of_bound, Decks, IsProblemFor}
 use Rattle.check_run.proofs.Common.{IsBarrierFault}
-use Rattle.barrier_vector.specs.declared.BarrierFault.{BarrierFault}
-use Rattle.barrier_vector.specs.declared.BarrierFault.TheVariants as barrier
+use Rattle.step_problem.specs.declared.refusal.BoundFault.{BoundFault}
+use Rattle.step_problem.specs.declared.refusal.BoundFault.TheVariants as bound
 use Rattle.check_run.proofs.posed.pose.Goals as goal
 
 barrier_unposed : (limits : Limits) (ds : Decks) (s : ℕ) (at : TimeStep) (old : List Bound) (p : List Entries) → IsProblemFor ds s at old p →
-    (f : BarrierFault) → IsBarrierFault limits p f → IsUnposed limits ds s at old (of_barrier f)
-barrier_unposed limits ds s at old p is (barrier.NoBound n) h = inr (p, is, h)
-barrier_unposed limits ds s at old p is barrier.Memory h = tt
+    (f : BoundFault) → IsBarrierFault limits p f → IsUnposed limits ds s at old (of_bound f)
+barrier_unposed limits ds s at old p is (bound.NoBound n) h = inr (p, is, h)
+barrier_unposed limits ds s at old p is bound.Memory h = tt
 
 pub returns-in_err-barrier-clause-fault : goal.returns-in_err-barrier-clause-fault
 returns-in_err-barrier-clause-fault c =
