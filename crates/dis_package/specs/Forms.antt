@@ -12,13 +12,14 @@ use Rattle.dis_package.specs.Frames.{model_of_grid}
 use Rattle.dis_package.specs.declared.frame.Frame.{Frame}
 use Rattle.dis_package.specs.declared.frame.Size.{Size}
 use Rattle.dis_package.specs.declared.periods.Time.{Time}
+use Rattle.model_types.specs.declared.limits.Limits.TheVariants.{Wide}
 
 -- the size of a grid in the wide limits
 pub record IsSize (s : Size) : Type 0 where
   pub layers : (1 ≤ s.layers) × (s.layers ≤ 1024)
   pub rows : (1 ≤ s.rows) × (s.rows ≤ 4096)
   pub cols : (1 ≤ s.cols) × (s.cols ≤ 4096)
-  pub cells : s.layers * (s.rows * s.cols) ≤ 4194304
+  pub cells : s.layers * (s.rows * s.cols) ≤ most_cells Wide
 
 pub record IsFrame (f : Frame) : Type 0 where
   pub size : IsSize f.size

@@ -1,6 +1,6 @@
 // Heads as words, and the word of each.
 ghost use Rattle.std.specs.Prelude.{◌≡◌, ◌<◌, ◌≤◌};
-ghost use Rattle.step_problem.specs.{IsHead};
+ghost use Rattle.step_problem.specs.{IsHead, cell_limit};
 ghost use Rattle.head_table.specs.{head_of_word, word_of};
 
 use step_problem::Side;
@@ -9,7 +9,7 @@ use step_problem::problem::HEAD_LIMIT;
 // The number of the word that has a cell's head on a side.
 #[inline(always)]
 pub(crate) fn word_of(side: Side, cell: usize) -> usize
-    requires { cell < 4194304 }
+    requires { cell < cell_limit }
     ensures { result ≡ word_of side cell }
 {
     match side {

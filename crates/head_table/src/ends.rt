@@ -1,7 +1,7 @@
 // Making a table from words, and getting them back.
 ghost use Rattle.std.specs.Prelude.{◌≡◌, ℕ, ◌+◌, ◌*◌, ◌<◌, ◌≤◌, length, IfOk, vec_len};
 ghost use Rattle.std.specs.Mem.Slots.{slots_items, slots_len, IsFull};
-ghost use Rattle.step_problem.specs.{IsHead, AreOnTheWay};
+ghost use Rattle.step_problem.specs.{IsHead, AreOnTheWay, cell_limit};
 ghost use Rattle.step_problem.specs.declared.heads.Side.{Side};
 ghost use Rattle.cell_relax.specs.{AreNoLooser, heads_on};
 ghost use Rattle.head_table.specs.{words_on, IsSeatOf, barrier_of, seen_of};
@@ -69,7 +69,7 @@ fn read_all(
     closed: &Closed<(), Global>,
     cells: usize,
 ) -> Result<Vec<Bound>, AllocError>
-    requires words { IsFull closed.now.words × (slots_len closed.now.words ≡ 2 * cells + 1) × (cells ≤ 4194304) }
+    requires words { IsFull closed.now.words × (slots_len closed.now.words ≡ 2 * cells + 1) × (cells ≤ cell_limit) }
     requires range { (side : Side) (c : ℕ) → c < cells → IsHead (words_on side (slots_items closed.now.words) c) }
     ensures len { IfOk result (λ v. vec_len v ≡ cells) }
     ensures heads { IfOk result (λ v. (side : Side) (c : ℕ) → c < cells → heads_on side v.items c ≡ words_on side (slots_items closed.now.words) c) }

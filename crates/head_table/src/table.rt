@@ -1,6 +1,7 @@
 // The table and its seats.
 ghost use Rattle.std.specs.Prelude.{◌≡◌, ◌+◌, ◌*◌, ◌≤◌, [], length, true};
 ghost use Rattle.head_table.specs.Rule.{IsSound};
+ghost use Rattle.step_problem.specs.{cell_limit};
 
 use crate::known::{Facts, Heads, Known};
 use atomic_table::{Seat, Table};
@@ -14,7 +15,7 @@ pub struct HeadTable<'a> {
     pub(crate) table: Table<(), Known, Facts, Heads, Global>,
     pub(crate) alloc: Global,
     pub ghost same: { table.shared.key.problem.value ≡ problem.now },
-    pub ghost small: { length problem.now ≤ 4194304 },
+    pub ghost small: { length problem.now ≤ cell_limit },
     pub ghost words: { table.shared.table_id.words ≡ 2 * length problem.now + 1 },
     pub ghost slots: { table.shared.table_id.slots ≡ 0 },
 }

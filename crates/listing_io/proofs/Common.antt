@@ -30,7 +30,7 @@ unfoldable pub use Rattle.listing_io.specs.{pair_in, step_lines, step_text, step
 pub use Rattle.listing_io.specs.declared.fault.Fault.{Fault}
 pub use Rattle.listing_io.specs.declared.fault.Fault.TheVariants.{BadLine, Memory}
 pub use Rattle.listing_io.specs.declared.listing.ListedStep.{ListedStep}
-pub use Rattle.model_types.specs.{cell_count, is_active, period_at, place, steps_of}
+pub use Rattle.model_types.specs.{cell_count, is_active, most_cells, period_at, place, steps_of}
 unfoldable pub use Rattle.model_types.specs.{times}
 pub use Rattle.model_types.specs.declared.model.FlowModel.{FlowModel}
 pub use Rattle.model_types.specs.declared.time_steps.TimeStep.{TimeStep}

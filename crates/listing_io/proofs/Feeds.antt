@@ -6,12 +6,13 @@ use Rattle.listing_io.proofs.Common.{zones_of_flow, ListedStep, Form, pair_line,
 use Rattle.listing_io.proofs.Common.{head_front, head_line, head_lines, head_pair, dir_front, term_form, term_lines, has_evt, flow_form, zone_front, zone_line}
 use Rattle.listing_io.proofs.Common.{zone_pair, step_lines, all_step_lines, end_line, listing, range_with_len, cell_count, IsForm, IsCellBound, AreFlows}
 use Rattle.listing_io.proofs.Common.{AreTerms, IsListedStep, AreListed, AreZonePairs, IsTime, IsWritable, ListingsAreReadAgain, inl, IsListedAt, IsPairIf}
-use Rattle.listing_io.proofs.Common.{model_line, all_terms, is_printed, each_lines}
+use Rattle.listing_io.proofs.Common.{model_line, all_terms, is_printed, each_lines, most_cells}
 use Rattle.model_types.specs.declared.grid.Grid.{Grid}
 use Rattle.listing_io.proofs.Exactly.{IsApart, Without, Without-append, by_test, fixed_without, fits_wide, model_without, numbers_without}
 use Rattle.listing_io.proofs.Terms.{left_of, line_if, term_rows, IsTermPair, lines_in, lines_out, cell_lines}
 use Rattle.listing_io.proofs.Readers.{IsFlowOf, IsInLimit, flow_is_form, flow_rows, head_is_form, head_small, in_limit, term_is_form}
 use Rattle.listing_io.proofs.Steps.{IsSmall, bounds_of, flow_lines, flows_of, rows_again}
+use Rattle.model_types.specs.declared.limits.Limits.TheVariants.{Wide}
 
 abbrev pub NoFeed : List ℕ → Type 0
 NoFeed = Without 10
@@ -46,10 +47,10 @@ part_below : (n p top : ℕ) → n < top → n % p < top
 part_below n zero top h = omega (arith, h)
 part_below n (suc p) top h = omega (arith, h)
 
-place_small : (g : Grid) (c : ℕ) → c < 4194304 → AllByRecursion (λ n. n < 10 ^ 64) (place g c)
+place_small : (g : Grid) (c : ℕ) → c < most_cells Wide → AllByRecursion (λ n. n < 10 ^ 64) (place g c)
 place_small g c h = grind (arith, below, part_below)
 
-front_without : (g : Grid) (c : ℕ) → c < 4194304 → NoFeed (head_front g c)
+front_without : (g : Grid) (c : ℕ) → c < most_cells Wide → NoFeed (head_front g c)
 front_without g c h =
     Without-append 10 (codes "HEAD" ++ numbers_text (place g c)) (codes " ")
     (Without-append 10 (codes "HEAD") (numbers_text (place g c)) (by_test 10 (codes "HEAD") refl) (numbers_without 10 low refl (place g c) (place_small g c h)))
@@ -67,20 +68,20 @@ each_without P R row one [] (x ∷ xs) p h = absurd h
 each_without P R row one (t ∷ ts) [] p h = absurd h
 each_without P R row one (t ∷ ts) (x ∷ xs) p h = all_appended NoFeed (row t x) (each_lines row ts xs) (one t x p.0 h.0) (each_without P R row one ts xs p.1 h.1)
 
-cell_without : (m : FlowModel) (c : ℕ) (b : Bound) → c < 4194304 → IsCellBound m c b → AllByRecursion NoFeed (cell_lines m c b)
+cell_without : (m : FlowModel) (c : ℕ) (b : Bound) → c < most_cells Wide → IsCellBound m c b → AllByRecursion NoFeed (cell_lines m c b)
 cell_without m c b lt h = of_flag (is_active m c)
   where
     of_flag : (flag : Bool) → AllByRecursion NoFeed (cond flag (head_line m.grid c b ∷ []) [])
     of_flag true = (pair_without (head_front m.grid c) head_form (head_pair b) head_is_form (head_small b.low h.low, head_small b.high h.high) (front_without m.grid c lt) tt, tt)
     of_flag false = tt
 
-cells_below : (a n : ℕ) → a + n ≤ 4194304 → AllByRecursion (λ c. c < 4194304) (range_with_len a n)
+cells_below : (a n : ℕ) → a + n ≤ most_cells Wide → AllByRecursion (λ c. c < most_cells Wide) (range_with_len a n)
 cells_below a zero few = tt
 cells_below a (suc n) few = (omega (arith, few), cells_below (a + 1) n (omega (arith, few)))
 
-heads_without : (m : FlowModel) (bs : List Bound) → cell_count m.grid ≤ 4194304 → AllZip (IsCellBound m) (range_with_len 0 (cell_count m.grid)) bs → AllByRecursion NoFeed (head_lines m bs)
+heads_without : (m : FlowModel) (bs : List Bound) → cell_count m.grid ≤ most_cells Wide → AllZip (IsCellBound m) (range_with_len 0 (cell_count m.grid)) bs → AllByRecursion NoFeed (head_lines m bs)
 unfolding head_lines
-heads_without m bs few h = each_without (λ c. c < 4194304) (IsCellBound m) (cell_lines m) (cell_without m) (range_with_len 0 (cell_count m.grid)) bs
+heads_without m bs few h = each_without (λ c. c < most_cells Wide) (IsCellBound m) (cell_lines m) (cell_without m) (range_with_len 0 (cell_count m.grid)) bs
     (cells_below 0 (cell_count m.grid) (omega (arith, few))) h
 
 dir_without : (dir : Dir) → NoFeed (dir_front dir)

@@ -3,9 +3,9 @@ pub use Rattle.std.proofs.Common.{All, Bool, List, [], ap, arith, cond, drop, ge
 pub use Rattle.std.proofs.Common.{◌∙◌, ◌∷◌, ◌≡◌, ◌≤◌}
 pub use Rattle.std.specs.List.{fold}
 pub use Rattle.listing_run.specs.{EndsAt, IsAtFirst, IsNext, IsWalk, times_left, with_heads}
-pub use Rattle.listing_summary.specs.{Fits, IsSummarized, nothing, printed_heads, summary_of, width, with_head_line, with_step}
+pub use Rattle.listing_summary.specs.{Fits, IsSummarized, most_heads, nothing, printed_heads, summary_of, width, with_head_line, with_step}
 unfoldable pub use Rattle.listing_summary.specs.{printed_bounds}
 pub use Rattle.listing_summary.specs.declared.summary.Summary.{Summary}
 pub use Rattle.model_types.specs.{cell_count, is_active}
-pub use Rattle.step_problem.specs.{Edges, IsHead, IsMagnitudeAtMost, no_bound}
+pub use Rattle.step_problem.specs.{Edges, IsHead, IsMagnitudeAtMost, cell_limit, no_bound}
 pub use Rattle.step_problem.specs.declared.heads.Bound.{Bound}

@@ -1,7 +1,7 @@
 -- What is counted, one line HEAD after another.
 use Rattle.listing_summary.proofs.Common.{◌≡◌, ℕ, ◌+◌, ◌<◌, ◌≤◌, ◌^◌, List, [], ◌∷◌, ◌++◌, length, drop, get_or, cond, refl, sym, ap, ◌∙◌, arith, ℤ, ◌+ℤ◌, fold}
 use Rattle.listing_summary.proofs.Common.{Bound, IsHead, IsMagnitudeAtMost, Summary, with_head_line, with_step, nothing, Fits, printed_bounds, printed_heads}
-use Rattle.listing_summary.proofs.Common.{summary_of, width, Bool, Edges, EndsAt, IsAtFirst, IsNext, IsWalk, times_left, IsSummarized, is_active}
+use Rattle.listing_summary.proofs.Common.{summary_of, width, Bool, Edges, EndsAt, IsAtFirst, IsNext, IsWalk, times_left, IsSummarized, is_active, most_heads}
 use Rattle.listing_run.specs.declared.solving.Step.{Step}
 use Rattle.std.proofs.lemmas.Int.{ints, clamps}
 use Rattle.std.proofs.lemmas.List.{drop_more, drop_all, length-append}
@@ -33,10 +33,10 @@ no_cell m bs c s whole past so_far =
     sym none ∙ so_far
 
 -- a sum that fits has room for one head more
-pub low_room : (s : Summary) → Fits s → s.heads < 419430400000 → IsMagnitudeAtMost s.low_sum (2 ^ 101)
+pub low_room : (s : Summary) → Fits s → s.heads < most_heads → IsMagnitudeAtMost s.low_sum (2 ^ 101)
 low_room s fits room = record { above = omega (arith, ints, fits.low.above); below = omega (arith, ints, fits.low.below) }
 
-pub high_room : (s : Summary) → Fits s → s.heads < 419430400000 → IsMagnitudeAtMost s.high_sum (2 ^ 101)
+pub high_room : (s : Summary) → Fits s → s.heads < most_heads → IsMagnitudeAtMost s.high_sum (2 ^ 101)
 high_room s fits room = record { above = omega (arith, ints, fits.high.above); below = omega (arith, ints, fits.high.below) }
 
 -- the sums fit, counted or not

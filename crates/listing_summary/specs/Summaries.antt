@@ -7,7 +7,7 @@ use Rattle.model_types.specs.declared.model.FlowModel.{FlowModel}
 use Rattle.model_types.specs.{is_active}
 use Rattle.listing_run.specs.declared.solving.Step.{Step}
 use Rattle.listing_summary.specs.declared.summary.Summary.{Summary}
-use Rattle.step_problem.specs.{IsMagnitudeAtMost, head_limit}
+use Rattle.step_problem.specs.{IsMagnitudeAtMost, cell_limit, head_limit}
 use Rattle.listing_run.specs.declared.text.ListingEnd.{ListingEnd}
 use Rattle.listing_run.specs.declared.text.ListingEnd.TheVariants.{Whole}
 use Rattle.listing_run.specs.declared.steps.Task.{Task}
@@ -23,6 +23,10 @@ printed_bounds m c (b ∷ bs) = cond (is_active m c) (b ∷ []) [] ++ printed_bo
 -- the bounds of all lines HEAD of a listing
 abbrev pub printed_heads : FlowModel → List Step → List Bound
 printed_heads m values = flat_map (λ v. printed_bounds m 0 v.heads) values
+
+-- the most heads of a listing: 100000 time steps
+abbrev pub most_heads : ℕ
+most_heads = 100000 * cell_limit
 
 -- the upper head less the lower one
 abbrev pub width : Bound → ℤ

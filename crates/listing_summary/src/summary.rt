@@ -2,9 +2,9 @@
 ghost use Rattle.std.specs.Prelude.{◌≡◌, ◌+◌, ◌^◌, ◌+ℤ◌, ◌<◌, ◌≤◌, [], ◌∷◌, cond, length, All};
 ghost use Rattle.std.specs.Int.{int_max};
 ghost use Rattle.std.specs.List.{fold};
-ghost use Rattle.step_problem.specs.{IsHead, IsMagnitudeAtMost};
+ghost use Rattle.step_problem.specs.{IsHead, IsMagnitudeAtMost, cell_limit};
 ghost use Rattle.model_types.specs.{is_active};
-ghost use Rattle.listing_summary.specs.{with_head_line, with_step, nothing, Fits, printed_bounds, width};
+ghost use Rattle.listing_summary.specs.{with_head_line, with_step, nothing, Fits, printed_bounds, width, most_heads};
 
 use model_types::FlowModel;
 use step_problem::Bound;
@@ -58,7 +58,7 @@ impl Summary {
 
     #[tactic(auto, using(crate::proofs::Counts::low_room, crate::proofs::Counts::high_room))]
     fn add(&mut self, bound: Bound)
-        requires room { self.old.heads < 419430400000 }
+        requires room { self.old.heads < most_heads }
         requires fits { Fits self.old }
         requires low { IsHead bound.low }
         requires high { IsHead bound.high }
@@ -71,7 +71,7 @@ impl Summary {
     }
 
     fn count(&mut self, bound: Bound)
-        requires room { self.old.heads < 419430400000 }
+        requires room { self.old.heads < most_heads }
         requires fits { Fits self.old }
         requires low { IsHead bound.low }
         requires high { IsHead bound.high }
@@ -83,7 +83,7 @@ impl Summary {
 
     // Counts a cell, if it has a line.
     fn count_cell(&mut self, model: &FlowModel, cell: u32, bound: Bound)
-        requires room { self.old.heads < 419430400000 }
+        requires room { self.old.heads < most_heads }
         requires fits { Fits self.old }
         requires low { IsHead bound.low }
         requires high { IsHead bound.high }
@@ -97,8 +97,8 @@ impl Summary {
     }
 
     fn count_heads(&mut self, model: &FlowModel, heads: &[Bound])
-        requires few { length heads.now ≤ 4194304 }
-        requires room { self.old.heads + length heads.now ≤ 419430400000 }
+        requires few { length heads.now ≤ cell_limit }
+        requires room { self.old.heads + length heads.now ≤ most_heads }
         requires fits { Fits self.old }
         requires range { All (λ b. IsHead b.low × IsHead b.high) heads.now }
         ensures is { self.new ≡ fold with_head_line self.old (printed_bounds model.now 0 heads.now) }
@@ -113,8 +113,8 @@ impl Summary {
     /// Counts a step with these heads of all cells.
     pub(crate) fn count_step(&mut self, model: &FlowModel, heads: &[Bound])
         requires steps { self.old.steps < 100000 }
-        requires few { length heads.now ≤ 4194304 }
-        requires room { self.old.heads + length heads.now ≤ 419430400000 }
+        requires few { length heads.now ≤ cell_limit }
+        requires room { self.old.heads + length heads.now ≤ most_heads }
         requires fits { Fits self.old }
         requires range { All (λ b. IsHead b.low × IsHead b.high) heads.now }
         ensures is { self.new ≡ with_step model.now self.old heads.now }

@@ -11,10 +11,10 @@ pub in_row_few : (l : Limits) → most_in_row l ≤ 4096
 in_row_few Plain = omega arith
 in_row_few Wide = omega arith
 
-pub cells_few : (l : Limits) → most_cells l ≤ 4194304
+pub cells_few : (l : Limits) → most_cells l ≤ most_cells Wide
 cells_few Plain = omega arith
 cells_few Wide = omega arith
 
-pub entries_few : (l : Limits) → most_entries l ≤ 4194304
+pub entries_few : (l : Limits) → most_entries l ≤ most_entries Wide
 entries_few Plain = omega arith
 entries_few Wide = omega arith

@@ -13,6 +13,8 @@ use Rattle.model_types.specs.Times.{period_at, power, geometric}
 use Rattle.model_types.specs.declared.grid.Grid.{Grid}
 use Rattle.model_types.specs.declared.face.Face.{Face}
 use Rattle.model_types.specs.declared.period.Period.{Period}
+use Rattle.model_types.specs.declared.limits.Limits.TheVariants.{Wide}
+use Rattle.model_types.specs.Limits.{most_cells}
 
 abbrev pub is_int : ℤ → ℕ → Bool
 is_int (pos n) k = n == k
@@ -104,7 +106,7 @@ pub record HasSize (g : Grid) : Type 0 where
   pub layers : (1 ≤ g.layers) × (g.layers ≤ 1024)
   pub rows : (1 ≤ g.rows) × (g.rows ≤ 4096)
   pub cols : (1 ≤ g.cols) × (g.cols ≤ 4096)
-  pub cells : cell_count g ≤ 4194304
+  pub cells : cell_count g ≤ most_cells Wide
 
 -- a layer, a row and a column of the grid, counted from 1
 pub record IsPlace (g : Grid) (k i j : ℕ) : Type 0 where

@@ -16,6 +16,8 @@ use Rattle.model_types.specs.Faces.{layer_size, cell_count}
 use Rattle.model_types.specs.Layers.{dec_at, is_active, has_bed, top_at, bottom_at, lowest}
 use Rattle.model_types.specs.Receivers.{EvapSource, is_int, IsPositive, IsNotNegative, IsHeadNumber, IsThick, IsGrid}
 use Rattle.model_types.specs.Sources.{evap_sources}
+use Rattle.model_types.specs.declared.limits.Limits.TheVariants.{Wide}
+use Rattle.model_types.specs.Limits.{most_entries}
 
 abbrev pub number_one : Dec
 number_one = record { neg = false; digits = 1; exp = pos 0 }
@@ -41,9 +43,9 @@ IsEntryValid cells (River cell stage k bottom) = (cell.0 < cells) × IsHeadNumbe
 IsEntryValid cells (Drain cell elevation k) = (cell.0 < cells) × IsHeadNumber elevation × IsNotNegative k
 IsEntryValid cells (General cell head k) = (cell.0 < cells) × IsHeadNumber head × IsNotNegative k
 
--- a list of at most 4194304 entries, as in wide limits
+-- a list of at most the entries of the wide limits
 pub record IsEntryList (cells : ℕ) (xs : List Entry) : Type 0 where
-  pub few : length xs ≤ 4194304
+  pub few : length xs ≤ most_entries Wide
   pub entries : All (IsEntryValid cells) xs
 
 pub record IsGivenValid (cells : ℕ) (x : Given) : Type 0 where
@@ -53,7 +55,7 @@ pub record IsGivenValid (cells : ℕ) (x : Given) : Type 0 where
 
 -- a CHD list, which names a cell at most once
 pub record IsGivenList (cells : ℕ) (xs : List Given) : Type 0 where
-  pub few : length xs ≤ 4194304
+  pub few : length xs ≤ most_entries Wide
   pub entries : All (IsGivenValid cells) xs
   pub once : AllPairs (λ x y. x.cell ≡ y.cell → ⊥) xs
 

@@ -2,7 +2,8 @@
 ghost use Rattle.std.specs.Prelude.{◌≡◌, ◌<◌, ◌≤◌, All, map, [], ◌∷◌};
 ghost use Rattle.std.specs.Option.{option_map};
 ghost use Rattle.model_types.specs.{layer_size, cell_count, left, right, back, front, up, down, stride, span, face_before, face_after, faces, HasSize};
-ghost use Rattle.model_types.specs.{IsInGrid};
+ghost use Rattle.model_types.specs.{IsInGrid, most_cells};
+ghost use Rattle.model_types.specs.declared.limits.Limits.TheVariants.{Wide};
 
 use crate::face::{Axis, Face};
 use crate::grid::Grid;
@@ -21,7 +22,7 @@ impl Grid {
     pub fn cell_count(&self) -> u32
         requires size { HasSize self.now }
         ensures count { result ≡ cell_count self.now }
-        ensures few { result ≤ 4194304 }
+        ensures few { result ≤ most_cells Wide }
     {
         self.layers * self.layer_size()
     }

@@ -21,7 +21,7 @@ pub use entry::{Entry, Given};
 pub use face::{Axis, Face};
 pub use given_heads::{GivenHeads, Kind, kind_at};
 pub use grid::{CellId, Grid};
-pub use limits::Limits;
+pub use limits::{Limits, WIDE_COUNT};
 pub use listed::Listed;
 pub use model::FlowModel;
 pub use optional::Optional;

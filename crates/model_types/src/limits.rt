@@ -1,6 +1,10 @@
 // The limits that a model is read by.
 ghost use Rattle.std.specs.Prelude.{◌≡◌, ◌≤◌};
 ghost use Rattle.model_types.specs.{most_layers, most_in_row, most_cells, most_entries, most_bytes};
+ghost use Rattle.model_types.specs.declared.limits.Limits.TheVariants.{Wide};
+
+/// The most cells of a grid, and the most entries of a list for a stress period, by the wide limits.
+pub const WIDE_COUNT: u32 = 4_194_304;
 
 /// The limits that a model is read by: the plain ones, or the wide ones for larger models. What is known of a model that
 /// was read holds by the wide ones, so nothing above the readers depends on which they were.
@@ -36,11 +40,11 @@ impl Limits {
     /// The most cells of a grid.
     pub fn cells(self) -> u32
         ensures most { result ≡ most_cells self }
-        ensures few { result ≤ 4194304 }
+        ensures few { result ≤ most_cells Wide }
     {
         match self {
             Limits::Plain => 65_536,
-            Limits::Wide => 4_194_304,
+            Limits::Wide => WIDE_COUNT,
         }
     }
 
@@ -57,11 +61,11 @@ impl Limits {
     /// The most entries of a list for a stress period.
     pub fn entries(self) -> u32
         ensures most { result ≡ most_entries self }
-        ensures few { result ≤ 4194304 }
+        ensures few { result ≤ most_entries Wide }
     {
         match self {
             Limits::Plain => 65_536,
-            Limits::Wide => 4_194_304,
+            Limits::Wide => WIDE_COUNT,
         }
     }
 }

@@ -1,5 +1,7 @@
 // A list of optional items that contracts see as a list.
 ghost use Rattle.std.specs.Prelude.{◌≡◌, ◌<◌, ◌++◌, ◌∷◌, [], List, Option, None, IfOk, length, replicate, slice_index_or, slice_set};
+ghost use Rattle.model_types.specs.declared.limits.Limits.TheVariants.{Wide};
+ghost use Rattle.model_types.specs.Limits.{most_entries};
 
 use std::alloc::{AllocError, Global};
 use std::marker::Model;
@@ -67,7 +69,7 @@ impl<T: Copy> Optional<T> {
 
     /// Appends a place.
     pub fn push(&mut self, item: Option<T>) -> Result<(), AllocError>
-        requires few { length self.old < 4194304 }
+        requires few { length self.old < most_entries Wide }
         ensures { IfOk result (λ _. self.new ≡ self.old ++ item ∷ []) }
     {
         if self.rest.is_empty() && item.is_none() {

@@ -23,8 +23,8 @@ pub use Rattle.plan_step.specs.{SolutionsBoundPlans, acting, are_turned, bound_a
 pub use Rattle.plan_step.specs.{known_high, known_low, river_branch, turned, turned_flow}
 unfoldable pub use Rattle.plan_step.specs.{acting_between}
 pub use Rattle.step_problem.proofs.Leasts.{mul_neg, mul_sub}
-pub use Rattle.step_problem.specs.{CellFits, DrainFits, EvapFits, FixedFits, IsHead, IsProblem, LinksFit, RiverFits, conductance_of, entries_at, flow_magnitude}
-pub use Rattle.step_problem.specs.{link_at, magnitude, no_bound, no_entries}
+pub use Rattle.step_problem.specs.{CellFits, DrainFits, EvapFits, FixedFits, IsHead, IsProblem, LinksFit, RiverFits, cell_limit, conductance_of, entries_at}
+pub use Rattle.step_problem.specs.{flow_magnitude, link_at, magnitude, no_bound, no_entries}
 pub use Rattle.step_problem.specs.Entries.{Entries}
 pub use Rattle.step_problem.specs.declared.entry.Fixed.{Fixed}
 pub use Rattle.step_problem.specs.declared.entry.FixedKind.{FixedKind}

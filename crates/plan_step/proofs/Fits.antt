@@ -3,7 +3,7 @@ use Rattle.plan_step.proofs.Common.{◌≡◌, ◌≤◌, ◌<◌, ◌+◌, ◌-
 use Rattle.plan_step.proofs.Common.{get_or, length, map, int_max, int_min, sum_by, inl, inr, cases_lt, ints, Fixed, FixedKind, Flow, Bound, High, Entries}
 use Rattle.plan_step.proofs.Common.{CellFits, DrainFits, EvapFits, FixedFits, IsHead, IsProblem, LinksFit, RiverFits, conductance_of, entries_at}
 use Rattle.plan_step.proofs.Common.{flow_magnitude, link_at, magnitude, no_bound, no_entries, IsDifferenceProblem, bound_at, branch, difference_cell}
-use Rattle.plan_step.proofs.Common.{drain_branch, evap_branch, known_branch, known_high, known_low, river_branch, turned}
+use Rattle.plan_step.proofs.Common.{drain_branch, evap_branch, known_branch, known_high, known_low, river_branch, turned, cell_limit}
 use Rattle.std.proofs.lemmas.List.{get_or-append_right, get_or_append_left, get_or_past, length-append}
 use Rattle.std.proofs.lemmas.List.Elements.{All-append, All-map, All-nil}
 use Rattle.std.proofs.lemmas.List.Sums.{get_or-le-sum_by, sum_by-append, sum_by-cons, sum_by-take-drop}
@@ -132,7 +132,7 @@ module _ (base planned : List Entries) (xs ys olds : List Bound) (r : List Entri
 
   pub is_problem : IsProblem r
   is_problem = record {
-    few = subst (λ (n : ℕ). n ≤ 4194304) (sym h.as_many) first.few;
+    few = subst (λ (n : ℕ). n ≤ cell_limit) (sym h.as_many) first.few;
     ascending = λ c d lt below.
         let there : d < length base = omega (arith, below, h.as_many) in
         subst (λ (n : ℕ). n < (entries_at r d).id) (sym (ids_at c (omega (arith, lt, there)))) (subst (λ (n : ℕ). (entries_at base c).id < n) (sym (ids_at d there)) (first.ascending c d lt there));

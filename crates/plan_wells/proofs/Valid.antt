@@ -3,7 +3,7 @@ use Rattle.plan_wells.proofs.Common.{◌≡◌, ◌≤◌, ℕ, refl, true, inl,
 use Rattle.plan_wells.proofs.Common.{All-weaker, AllPass-from_list_all, list_all-from_AllPass, IsBedChecked, IsCellValid, IsEntryValid, IsEvapValid, IsPeriod}
 use Rattle.plan_wells.proofs.Common.{IsTimed, cell_count, evap_sources, most_entries, Entry, Well, River, Drain, General, FlowModel, Period, IsWell}
 use Rattle.plan_wells.proofs.Common.{PlainAreFew, PlannedAreValid, are_few, with_plan, with_wells}
-use Rattle.model_types.specs.declared.limits.Limits.TheVariants.{Plain}
+use Rattle.model_types.specs.declared.limits.Limits.TheVariants.{Plain, Wide}
 use Rattle.plan_wells.proofs.Added.{all_planned, as_many, period_is, planned_periods, sum_kept}
 
 well_valid : (cells : ℕ) (x : Entry) → IsWell cells x → IsEntryValid cells x
@@ -30,7 +30,7 @@ module _ (m : FlowModel) (plan : List (List Entry)) where
 
   -- a period is valid once its wells are few
   abbrev IsValidIfFew : Period → Type 0
-  IsValidIfFew q = length q.stresses.wells ≤ 4194304 → IsPeriod own q
+  IsValidIfFew q = length q.stresses.wells ≤ most_entries Wide → IsPeriod own q
 
   period_valid : (p : Period) (w : List Entry) → IsPeriod m p → All (IsWell cells) w → IsValidIfFew (with_wells p w)
   period_valid p w h all few = record {
@@ -50,8 +50,8 @@ module _ (m : FlowModel) (plan : List (List Entry)) where
     };
   }
 
-  few_are : are_few own ≡ true → All (λ q. length q.stresses.wells ≤ 4194304) own.periods
-  few_are e k d lt = leb-true _ 4194304 (AllPass-from_list_all (λ q. nat_le (length q.stresses.wells) 4194304) own.periods e k d lt)
+  few_are : are_few own ≡ true → All (λ q. length q.stresses.wells ≤ most_entries Wide) own.periods
+  few_are e k d lt = leb-true _ (most_entries Wide) (AllPass-from_list_all (λ q. nat_le (length q.stresses.wells) (most_entries Wide)) own.periods e k d lt)
 
   cell_valid : (c : ℕ) → IsCellValid m c → IsCellValid own c
   cell_valid c h = record { thick = h.thick; strt = h.strt; hk = h.hk; hani = h.hani; vka = h.vka; ss = h.ss }
@@ -95,10 +95,10 @@ planned_are_valid limits plan m valid is few = record {
     whole = all_planned (IsPeriod m) (IsValidIfFew m plan) (All (IsWell (cell_count m.grid))) (period_valid m plan) m.periods plan valid.periods is.wells
 
 pub plain_are_few : PlainAreFew
-plain_are_few plan m own is = list_all-from_AllPass (λ q. nat_le (length q.stresses.wells) 4194304) (planned_periods m.periods plan) (λ k d lt. le-leb _ 4194304 (few k d lt))
+plain_are_few plan m own is = list_all-from_AllPass (λ q. nat_le (length q.stresses.wells) (most_entries Wide)) (planned_periods m.periods plan) (λ k d lt. le-leb _ (most_entries Wide) (few k d lt))
   where
-    both : (p : Period) (w : List Entry) → length p.stresses.wells ≤ most_entries Plain → length w ≤ most_entries Plain → length (with_wells p w).stresses.wells ≤ 4194304
+    both : (p : Period) (w : List Entry) → length p.stresses.wells ≤ most_entries Plain → length w ≤ most_entries Plain → length (with_wells p w).stresses.wells ≤ most_entries Wide
     both p w h k = omega (arith, length-append p.stresses.wells w, h, k)
 
-    few : All (λ q. length q.stresses.wells ≤ 4194304) (planned_periods m.periods plan)
-    few = all_planned (λ p. length p.stresses.wells ≤ most_entries Plain) (λ q. length q.stresses.wells ≤ 4194304) (λ w. length w ≤ most_entries Plain) both m.periods plan own is.few
+    few : All (λ q. length q.stresses.wells ≤ most_entries Wide) (planned_periods m.periods plan)
+    few = all_planned (λ p. length p.stresses.wells ≤ most_entries Plain) (λ q. length q.stresses.wells ≤ most_entries Wide) (λ w. length w ≤ most_entries Plain) both m.periods plan own is.few

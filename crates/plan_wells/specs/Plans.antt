@@ -16,6 +16,7 @@ use Rattle.model_types.specs.declared.period.Period.{Period}
 use Rattle.list_package.specs.{lists_of}
 use Rattle.stress_packages.specs.{wells}
 use Rattle.problem_hull.specs.{zip_with}
+use Rattle.model_types.specs.declared.limits.Limits.TheVariants.{Wide}
 
 -- the period with these wells after its own
 abbrev pub with_wells : Period → List Entry → Period
@@ -32,7 +33,7 @@ plan_of limits file bytes grid periods =
 
 -- no stress period has more wells than a valid model may have
 abbrev pub are_few : FlowModel → Bool
-are_few m = list_all (λ p. nat_le (length p.stresses.wells) 4194304) m.periods
+are_few m = list_all (λ p. nat_le (length p.stresses.wells) (most_entries Wide)) m.periods
 
 -- the model with the plan's wells, or the refusal of too many, with the plan's file and no line
 abbrev pub planned : List (List Entry) → List ℕ → FlowModel → Result FlowModel Refusal

@@ -5,13 +5,13 @@ ghost use Rattle.problem_hull.specs.{zip_with};
 ghost use Rattle.plan_wells.specs.{are_few, planned, with_plan, with_wells};
 
 use crate::plan::Plan;
-use model_types::{Entry, FlowModel, Listed, Period, Shared};
+use model_types::{Entry, FlowModel, Listed, Period, Shared, WIDE_COUNT};
 use outside::{Code, TextFault, text_fault};
 use std::alloc::{AllocError, Global};
 use std::mem;
 
 // The most wells of a stress period, of a model that was read by wide limits.
-const MOST_WELLS: usize = 4_194_304;
+const MOST_WELLS: usize = WIDE_COUNT as usize;
 
 // The entries of two lists, one after the other. A list to which nothing is added stays in memory once.
 fn joined(

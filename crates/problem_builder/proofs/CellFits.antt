@@ -7,6 +7,7 @@ use Rattle.problem_builder.proofs.Common.{CellFits, IsHead, Face, FlowModel, Tim
 use Rattle.problem_builder.proofs.Common.{local_entries, variable_faces, fixed_sources, ToConstant, ToGeneral, FromStorage, IsModel, IsEntryValid, dec_at, In}
 use Rattle.problem_builder.proofs.Common.{IsFaceOf, passing_are, end_within, face_term, AreGridHeads, IsTimeOf, fault_of, AreStartHeads, or_parts, cases_order}
 use Rattle.problem_builder.proofs.Common.{get_or_append_left, get_or_push, length_push, Filled, ints, map-range_with_len_more, capped_ordered, formulas_hold}
+use Rattle.problem_builder.proofs.Common.{Wide, most_cells}
 use Rattle.problem_builder.proofs.Members.{variable_active, constant_active, fixed_source}
 use Rattle.problem_builder.proofs.BoundsOf.{head_range}
 use Rattle.problem_builder.proofs.HeadRange.{AreHeads, head_range_of, head_encloses}
@@ -18,7 +19,7 @@ use Rattle.problem_builder.proofs.Zipped.{all_mapped}
 
 module _ (m : FlowModel) (s : ℕ) (at : TimeStep) (old : List Bound) (valid : IsModel m) (time : IsTimeOf m at) (grid : AreGridHeads m old) (c : ℕ)
     (lt : c < cell_count m.grid) (v : is_variable m at.period c ≡ true) where
-  entries_fit : All (IsEntryValid 4194304) (local_entries m at.period c)
+  entries_fit : All (IsEntryValid (most_cells Wide)) (local_entries m at.period c)
   entries_fit = local_valid m at.period c valid time.valid
 
   here : is_active m c ≡ true

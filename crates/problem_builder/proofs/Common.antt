@@ -45,9 +45,9 @@ pub use Rattle.model_types.specs.{IsHeadNumber, IsModel, IsNotNegative, IsPeriod
 pub use Rattle.model_types.specs.{as_drain, as_general, as_river, as_well, bed_thickness, bottom_at, cell_count, cell_of, conductance, constant_faces, dec_at}
 pub use Rattle.model_types.specs.{delc_at, delr_at, drain_sources, entries, evap_at, evap_conductance, evap_source, evap_sources, extinction, face_after, faces}
 pub use Rattle.model_types.specs.{fixed_sources, flow_sources, has_after, has_bed, head_or_kept, index_of, int_at, is_active, is_chosen, is_constant}
-pub use Rattle.model_types.specs.{is_highest, is_int, is_variable, kept_head, kind_of, last_given, layer_of, layer_size, local_entries, lowest, no_period}
-pub use Rattle.model_types.specs.{number_one, period_at, place_in_layer, recharge_at, recharge_flow, river_sources, span, start_head, steps_of, storage}
-pub use Rattle.model_types.specs.{storage_at, stride, thickness, through, top_at, variable_below, variable_cells, variable_faces, vkcb_at}
+pub use Rattle.model_types.specs.{is_highest, is_int, is_variable, kept_head, kind_of, last_given, layer_of, layer_size, local_entries, lowest, most_cells}
+pub use Rattle.model_types.specs.{no_period, number_one, period_at, place_in_layer, recharge_at, recharge_flow, river_sources, span, start_head, steps_of}
+pub use Rattle.model_types.specs.{storage, storage_at, stride, thickness, through, top_at, variable_below, variable_cells, variable_faces, vkcb_at}
 unfoldable pub use Rattle.model_types.specs.{constant_head, entries_of, given_heads, given_in, kinds, times}
 pub use Rattle.model_types.specs.declared.entry.Entry.{Entry}
 pub use Rattle.model_types.specs.declared.entry.Entry.TheVariants.{General, Well}
@@ -57,6 +57,7 @@ pub use Rattle.model_types.specs.declared.face.Axis.TheVariants.{Column, Row, Ve
 pub use Rattle.model_types.specs.declared.face.Face.{Face}
 pub use Rattle.model_types.specs.declared.given_heads.Kind.TheVariants.{Constant, NoFlow, Variable}
 pub use Rattle.model_types.specs.declared.grid.Grid.{Grid}
+pub use Rattle.model_types.specs.declared.limits.Limits.TheVariants.{Wide}
 pub use Rattle.model_types.specs.declared.model.FlowModel.{FlowModel}
 pub use Rattle.model_types.specs.declared.period.Period.{Period}
 pub use Rattle.model_types.specs.declared.time_steps.TimeStep.{TimeStep}

@@ -6,7 +6,7 @@ use Rattle.problem_builder.proofs.Common.{mul_mono_right, one_floor, one_ceiling
 use Rattle.problem_builder.proofs.Common.{IsPositive, IsNotNegative, IsHeadNumber, EvapSource, RiverSource, as_river, local_entries, river_sources}
 use Rattle.problem_builder.proofs.Common.{evap_sources, IsEntryValid, IsEvapValid, DrainSource, as_drain, drain_sources, IsModel, IsPeriod, period_at}
 use Rattle.problem_builder.proofs.Common.{cell_count, is_variable, In-All, filter_map-In, Term, Number, evap_term, IsDepth, w64, den, capped_ordered}
-use Rattle.problem_builder.proofs.Common.{evap_holds}
+use Rattle.problem_builder.proofs.Common.{evap_holds, Wide, most_cells}
 use Rattle.conductance_bounds.proofs.Manual.{pair_encloses}
 use Rattle.model_types.specs.declared.entry.Entry.TheVariants.{River as RiverEntry, Drain as DrainEntry}
 use Rattle.problem_builder.proofs.Members.{variable_active, some_same}
@@ -33,7 +33,7 @@ pub cond_encloses : (s : ℕ) (d : Dec) → (cond_pair s d).hi < 2 ^ 60 → Encl
 cond_encloses s d = capped_encloses (Number (size d)) s (size d) (pair_encloses (Number (size d)) s tt)
 
 -- a river of the lists has heads in range
-pub river_valid : (y : Entry) (r : RiverSource) → as_river y ≡ Some r → IsEntryValid 4194304 y → IsHeadNumber r.stage × IsNotNegative r.cond × IsHeadNumber r.bottom
+pub river_valid : (y : Entry) (r : RiverSource) → as_river y ≡ Some r → IsEntryValid (most_cells Wide) y → IsHeadNumber r.stage × IsNotNegative r.cond × IsHeadNumber r.bottom
 river_valid (RiverEntry cell a k b) r e h = let P : RiverSource → Type 0 = λ z. IsHeadNumber z.stage × IsNotNegative z.cond × IsHeadNumber z.bottom in subst P (some_same e) (h.1, h.2, h.3)
 river_valid y r e h = absurd (none-some r e)
 
@@ -43,7 +43,7 @@ river_fits s r p q =
     let b = head_range_of r.bottom q in
     record { ordered = cond_ordered s r.cond; stage_lo = a.0; stage_hi = a.1; bottom_lo = b.0; bottom_hi = b.1 }
 
-pub drain_valid : (y : Entry) (r : DrainSource) → as_drain y ≡ Some r → IsEntryValid 4194304 y → IsHeadNumber r.elevation × IsNotNegative r.cond
+pub drain_valid : (y : Entry) (r : DrainSource) → as_drain y ≡ Some r → IsEntryValid (most_cells Wide) y → IsHeadNumber r.elevation × IsNotNegative r.cond
 drain_valid (DrainEntry cell a k) r e h = let P : DrainSource → Type 0 = λ z. IsHeadNumber z.elevation × IsNotNegative z.cond in subst P (some_same e) (h.1, h.2)
 drain_valid y r e h = absurd (none-some r e)
 
@@ -91,19 +91,19 @@ module _ (x : EvapSource) (v : IsEvapValid x) where
 
 -- of a cell in a valid model
 module _ (m : FlowModel) (s p c : ℕ) (valid : IsModel m) (period : IsPeriod m (period_at m p)) where
-  local : All (IsEntryValid 4194304) (local_entries m p c)
+  local : All (IsEntryValid (most_cells Wide)) (local_entries m p c)
   local = local_valid m p c valid period
 
   pub rivers_fit : All RiverFits (map (whole_river s) (river_sources m p c))
   rivers_fit = all_mapped RiverFits (whole_river s) (river_sources m p c)
       (λ r j. let (y, l, q) = filter_map-In as_river (local_entries m p c) r j in
-      let w = river_valid y r q (In-All (IsEntryValid 4194304) (local_entries m p c) y local l) in
+      let w = river_valid y r q (In-All (IsEntryValid (most_cells Wide)) (local_entries m p c) y local l) in
       river_fits s r w.0 w.2)
 
   pub drains_fit : All DrainFits (map (whole_drain s) (drain_sources m p c))
   drains_fit = all_mapped DrainFits (whole_drain s) (drain_sources m p c)
       (λ r j. let (y, l, q) = filter_map-In as_drain (local_entries m p c) r j in
-      drain_fits s r (drain_valid y r q (In-All (IsEntryValid 4194304) (local_entries m p c) y local l)).0)
+      drain_fits s r (drain_valid y r q (In-All (IsEntryValid (most_cells Wide)) (local_entries m p c) y local l)).0)
 
   pub evaps_fit : c < cell_count m.grid → is_variable m p c ≡ true → All EvapFits (map (whole_evap m s c) (evap_sources m p c))
   evaps_fit lt v = all_mapped EvapFits (whole_evap m s c) (evap_sources m p c)

@@ -6,7 +6,7 @@ use Rattle.problem_builder.proofs.Common.{is_variable, variable_below, period_at
 use Rattle.problem_builder.proofs.Common.{local_entries, ToConstant, ToGeneral, FromStorage, IsHeadNumber, IsNotNegative, IsEntryValid, is_active, int_at}
 use Rattle.problem_builder.proofs.Common.{is_constant, cell_count, HasSize, In, In-All, map-In, filter_map-In, In-get_or, Contains-In, passing, rank}
 use Rattle.problem_builder.proofs.Common.{rank_below, at_rank, below_is, not, int_lt, ◌==◌, unsigned_abs, and_parts, Bound, Fixed, Entries, entries_at}
-use Rattle.problem_builder.proofs.Common.{no_entries, TimeStep, passing_are, end_within, IsActive, HasOldHeads, Storage, IsCellNamed}
+use Rattle.problem_builder.proofs.Common.{no_entries, TimeStep, passing_are, end_within, IsActive, HasOldHeads, Storage, IsCellNamed, Wide, most_cells}
 use Rattle.model_types.specs.declared.entry.Entry.TheVariants.{General as GeneralEntry}
 use Rattle.std.proofs.lemmas.Bool.Decides.{nat_tests}
 
@@ -53,11 +53,11 @@ module _ (m : FlowModel) (p c : ℕ) where
   -- what a branch to a known head among the sources of a cell is: to a constant cell through a face, to the head of an entry, in a transient period to the old head
   abbrev pub IsFixedSource : FixedSource → Type 0
   IsFixedSource (ToConstant f) = In (constant_faces m p c) f
-  IsFixedSource (ToGeneral h k) = All (IsEntryValid 4194304) (local_entries m p c) → IsHeadNumber h × IsNotNegative k
+  IsFixedSource (ToGeneral h k) = All (IsEntryValid (most_cells Wide)) (local_entries m p c) → IsHeadNumber h × IsNotNegative k
   IsFixedSource FromStorage = (period_at m p).steady ≡ false
 
   of_general : (y : Entry) (x : FixedSource) → In (local_entries m p c) y → as_general y ≡ Some x → IsFixedSource x
-  of_general (GeneralEntry cell a b) x i e = subst IsFixedSource (some_same e) (λ valid. let v = In-All (IsEntryValid 4194304) (local_entries m p c) (GeneralEntry cell a b) valid i in (v.1, v.2))
+  of_general (GeneralEntry cell a b) x i e = subst IsFixedSource (some_same e) (λ valid. let v = In-All (IsEntryValid (most_cells Wide)) (local_entries m p c) (GeneralEntry cell a b) valid i in (v.1, v.2))
   of_general y x i e = absurd (none-some x e)
 
   of_storage : (steady : Bool) (x : FixedSource) → (period_at m p).steady ≡ steady → cond steady None (Some FromStorage) ≡ Some x → IsFixedSource x

@@ -1,10 +1,10 @@
 -- The entries of a cell are those of valid lists.
 use Rattle.problem_builder.proofs.Common.{ℕ, ◌≤◌, ◌++◌, arith, All, ◌≡◌, ◌-◌, ◌<◌, length, sym, subst, All-append, All-filter, All-weaker, ◌==◌, Entry, Well}
 use Rattle.problem_builder.proofs.Common.{General, FlowModel, cell_count, cell_of, entries_of, local_entries, period_at, entries, IsModel, IsPeriod}
-use Rattle.problem_builder.proofs.Common.{IsEntryValid, no_period, Period, IsEntryIn, List, AreEntriesIn}
+use Rattle.problem_builder.proofs.Common.{IsEntryValid, no_period, Period, IsEntryIn, List, AreEntriesIn, Wide, most_cells}
 use Rattle.model_types.specs.declared.entry.Entry.TheVariants.{River, Drain}
 
-pub wider : (n : ℕ) (x : Entry) → n ≤ 4194304 → IsEntryValid n x → IsEntryValid 4194304 x
+pub wider : (n : ℕ) (x : Entry) → n ≤ most_cells Wide → IsEntryValid n x → IsEntryValid (most_cells Wide) x
 wider n (Well cell q) le h = (omega (arith, le, h.0), h.1)
 wider n (River cell stage k bottom) le h = (omega (arith, le, h.0), h.1, h.2, h.3)
 wider n (Drain cell elevation k) le h = (omega (arith, le, h.0), h.1, h.2)
@@ -18,12 +18,12 @@ all_entries m p q =
     All-append P t.wells (t.rivers ++ (t.drains ++ t.generals)) h.wells.entries
     (All-append P t.rivers (t.drains ++ t.generals) h.rivers.entries (All-append P t.drains t.generals h.drains.entries h.generals.entries))
 
-pub local_valid : (m : FlowModel) (p c : ℕ) → IsModel m → IsPeriod m (period_at m p) → All (IsEntryValid 4194304) (local_entries m p c)
+pub local_valid : (m : FlowModel) (p c : ℕ) → IsModel m → IsPeriod m (period_at m p) → All (IsEntryValid (most_cells Wide)) (local_entries m p c)
 unfolding entries_of
 local_valid m p c valid q =
     let n = cell_count m.grid in
-    All-filter (λ x. cell_of x == c) (IsEntryValid 4194304) (entries (period_at m p))
-    (All-weaker (IsEntryValid n) (IsEntryValid 4194304) (λ x h. wider n x valid.grid.size.cells h) (entries (period_at m p)) (all_entries m p q))
+    All-filter (λ x. cell_of x == c) (IsEntryValid (most_cells Wide)) (entries (period_at m p))
+    (All-weaker (IsEntryValid n) (IsEntryValid (most_cells Wide)) (λ x h. wider n x valid.grid.size.cells h) (entries (period_at m p)) (all_entries m p q))
 
 -- Stress periods by their numbers.
 pub period_valid : (m : FlowModel) (p : ℕ) → IsModel m → (1 ≤ p) × (p ≤ length m.periods) → IsPeriod m (period_at m p)

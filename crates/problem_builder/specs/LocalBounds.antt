@@ -12,9 +12,10 @@ use Rattle.step_problem.specs.declared.entry.Drain.{Drain}
 use Rattle.model_types.specs.declared.entry.Entry.{Entry}
 use Rattle.model_types.specs.declared.period.Period.{Period}
 use Rattle.model_types.specs.declared.entry.Entry.TheVariants.{Well, River as RiverEntry, Drain as DrainEntry, General as GeneralEntry}
-use Rattle.model_types.specs.{cell_of, entries_of, as_river, as_drain, IsEntryValid}
+use Rattle.model_types.specs.{cell_of, entries_of, as_river, as_drain, IsEntryValid, most_cells}
 use Rattle.problem_builder.specs.Cells.{flow_of_pair, known_head, whole_river, whole_drain}
 use Rattle.problem_builder.specs.GridHeads.{well_pair, cond_pair, head_bound}
+use Rattle.model_types.specs.declared.limits.Limits.TheVariants.{Wide}
 
 -- by kind, in the order of the lists
 pub record LocalBounds : Type 0 where
@@ -66,7 +67,7 @@ AreAppended s old new added =
 
 -- an entry of a cell of a grid of this many, and the lists of a period of such entries
 abbrev pub IsEntryIn : ℕ → Entry → Type 0
-IsEntryIn cells x = (cell_of x < cells) × IsEntryValid 4194304 x
+IsEntryIn cells x = (cell_of x < cells) × IsEntryValid (most_cells Wide) x
 
 pub record AreEntriesIn (cells : ℕ) (p : Period) : Type 0 where
   pub wells : All (IsEntryIn cells) p.stresses.wells

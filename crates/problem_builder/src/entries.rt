@@ -1,10 +1,11 @@
 // The entries of a cell by their bounds, kind by kind.
 ghost use Rattle.std.specs.Prelude.{◌≡◌, ◌≤◌, ◌∷◌, ◌++◌, [], List, IfOk};
 ghost use Rattle.model_types.specs.declared.entry.Entry.{Entry as DeclaredEntry};
-ghost use Rattle.model_types.specs.{IsEntryValid, as_river, as_drain};
+ghost use Rattle.model_types.specs.{IsEntryValid, as_river, as_drain, most_cells};
 ghost use Rattle.std.specs.Option.{option_map};
 ghost use Rattle.problem_builder.specs.Cells.{whole_river, whole_drain};
 ghost use Rattle.problem_builder.specs.LocalBounds.{AreLocalBounds, well_of, general_of, no_bounds};
+ghost use Rattle.model_types.specs.declared.limits.Limits.TheVariants.{Wide};
 
 use crate::branches::{constant_flow, known_head, push_some};
 use crate::start::{cond_pair, head_pair, well_pair};
@@ -72,7 +73,7 @@ impl LocalEntries {
 
     /// Appends the bounds of an entry of the cell, with s digits of conductances.
     pub fn add(&mut self, entry: &Entry, cell: u32, s: u32) -> Result<(), AllocError>
-        requires entry { IsEntryValid 4194304 entry.now }
+        requires entry { IsEntryValid (most_cells Wide) entry.now }
         requires places { s ≤ 18 }
         ensures { IfOk result
             (λ _. (entries : List DeclaredEntry) → AreLocalBounds s cell self.old entries →
@@ -87,7 +88,7 @@ impl LocalEntries {
 }
 
 fn river(entry: &Entry, s: u32) -> Option<River>
-    requires entry { IsEntryValid 4194304 entry.now }
+    requires entry { IsEntryValid (most_cells Wide) entry.now }
     ensures { result ≡ option_map (whole_river s) (as_river entry.now) }
 {
     match entry {
@@ -114,7 +115,7 @@ fn river(entry: &Entry, s: u32) -> Option<River>
 }
 
 fn drain(entry: &Entry, s: u32) -> Option<Drain>
-    requires entry { IsEntryValid 4194304 entry.now }
+    requires entry { IsEntryValid (most_cells Wide) entry.now }
     ensures { result ≡ option_map (whole_drain s) (as_drain entry.now) }
 {
     match entry {
@@ -137,7 +138,7 @@ fn drain(entry: &Entry, s: u32) -> Option<Drain>
 }
 
 fn general(entry: &Entry, cell: u32, s: u32) -> Option<Fixed>
-    requires entry { IsEntryValid 4194304 entry.now }
+    requires entry { IsEntryValid (most_cells Wide) entry.now }
     ensures { result ≡ general_of s cell entry.now }
 {
     match entry {
@@ -150,7 +151,7 @@ fn general(entry: &Entry, cell: u32, s: u32) -> Option<Fixed>
 }
 
 fn well(entry: &Entry, s: u32) -> Option<Flow>
-    requires entry { IsEntryValid 4194304 entry.now }
+    requires entry { IsEntryValid (most_cells Wide) entry.now }
     requires places { s ≤ 18 }
     ensures { result ≡ well_of s entry.now }
 {

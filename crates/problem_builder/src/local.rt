@@ -1,8 +1,9 @@
 // The bounds of the entries of each cell.
 ghost use Rattle.std.specs.Prelude.{◌≡◌, ◌<◌, ◌≤◌, ◌∷◌, ◌++◌, All, List, ℕ, [], length, IfOk};
 ghost use Rattle.model_types.specs.declared.entry.Entry.{Entry as DeclaredEntry};
-ghost use Rattle.model_types.specs.{cell_of, entries_of, entries, IsEntryValid};
+ghost use Rattle.model_types.specs.{cell_of, entries_of, entries, IsEntryValid, most_cells};
 ghost use Rattle.problem_builder.specs.LocalBounds.{AreAppended, AreEntriesIn, AreLocalBounds, IsEntryIn, kept_bounds, local_in, no_bounds};
+ghost use Rattle.model_types.specs.declared.limits.Limits.TheVariants.{Wide};
 
 use crate::entries::{CellEntries, LocalEntries};
 use model_types::{Entry, Period};
@@ -55,7 +56,7 @@ fn add_to(
     cell: u32,
     s: u32,
 ) -> Result<(), AllocError>
-    requires entry { IsEntryValid 4194304 entry.now }
+    requires entry { IsEntryValid (most_cells Wide) entry.now }
     requires places { s ≤ 18 }
     ensures { IfOk result
         (λ _. (entries : List DeclaredEntry) → AreLocalBounds s cell (kept_bounds kept.old) entries →

@@ -8,6 +8,6 @@ pub use Rattle.problem_hull.specs.{AreAlike, IsHull, IsHullOf, IsHullPair, IsToo
 pub use Rattle.problem_hull.specs.{evap_shape, first_refusal, fixed_hull, fixed_shape, flow_hull, flow_shape, link_hull, link_shape, refusal_at, river_hull}
 pub use Rattle.problem_hull.specs.{river_shape, zip_with}
 unfoldable pub use Rattle.problem_hull.specs.{sum_refusal}
-pub use Rattle.step_problem.specs.{CellFits, DrainFits, EvapFits, FixedFits, IsHead, IsProblem, LinksFit, RiverFits, conductance_of, entries_at, flow_magnitude}
-pub use Rattle.step_problem.specs.{link_at, no_entries}
+pub use Rattle.step_problem.specs.{CellFits, DrainFits, EvapFits, FixedFits, IsHead, IsProblem, LinksFit, RiverFits, cell_limit, conductance_of, entries_at}
+pub use Rattle.step_problem.specs.{flow_magnitude, link_at, no_entries}
 pub use Rattle.step_problem.specs.Entries.{Entries}

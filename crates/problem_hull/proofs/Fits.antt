@@ -2,7 +2,7 @@
 use Rattle.problem_hull.proofs.Common.{◌≡◌, ◌<◌, ◌≤◌, ◌^◌, ℕ, ℤ, arith, List, length, min, max, sym, subst, get_or, All, Contains, int_min, int_max, ints}
 use Rattle.problem_hull.proofs.Common.{clamps, Entries, entries_at, link_at, IsHead, FixedFits, RiverFits, DrainFits, EvapFits, CellFits, LinksFit, IsProblem}
 use Rattle.problem_hull.proofs.Common.{conductance_of, flow_magnitude, IsHullPair, fixed_hull, river_hull, drain_hull, evap_hull, None, ap, cell_hull}
-use Rattle.problem_hull.proofs.Common.{cell_shape, first_refusal, sum_refusal, IsHull}
+use Rattle.problem_hull.proofs.Common.{cell_shape, first_refusal, sum_refusal, IsHull, cell_limit}
 use Rattle.step_problem.specs.declared.entry.Link.{Link}
 use Rattle.step_problem.specs.declared.entry.Fixed.{Fixed}
 use Rattle.step_problem.specs.declared.entry.River.{River}
@@ -101,7 +101,7 @@ module _ (p q r : List Entries) (first : IsProblem p) (second : IsProblem q) (h 
 
   pub is_problem : first_refusal r ≡ None → IsProblem r
   is_problem none = record {
-    few = subst (λ (n : ℕ). n ≤ 4194304) (sym count) first.few;
+    few = subst (λ (n : ℕ). n ≤ cell_limit) (sym count) first.few;
     ascending = λ c d lt below. subst (λ (n : ℕ). n < (entries_at r d).id) (sym (ids_at c)) (subst (λ (n : ℕ). (entries_at p c).id < n) (sym (ids_at d)) (first.ascending c d lt (in_first d below)));
     cells = λ c lt. cell_has c lt (λ (x : Entries). sum_refusal x ≡ None → CellFits x) (λ a b f g small.
         cell_fits a b f g (conductances_are_small (cell_hull a b) small) (flows_are_small (cell_hull a b) small)) (none_of_each r none c lt);

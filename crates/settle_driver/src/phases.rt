@@ -4,6 +4,7 @@ ghost use Rattle.head_table.specs.declared.table.HeadSeat.{HeadSeat};
 ghost use Rattle.cell_relax.specs.{AreNoLooser};
 ghost use Rattle.head_table.specs.{IsSeatOf, seen_of};
 ghost use Rattle.settle_driver.specs.{HasSeen, HasWorked, IsPlan, AreShared};
+ghost use Rattle.step_problem.specs.{cell_limit};
 
 use head_table::{HeadSeat, HeadTable};
 use outside::Gate;
@@ -109,7 +110,7 @@ impl Plan {
 // The turns of each worker in a phase.
 pub(crate) fn turns_of_each(plan: Plan, cells: u32) -> u32
     requires plan { IsPlan plan }
-    requires cells { cells ≤ 4194304 }
+    requires cells { cells ≤ cell_limit }
     ensures { AreShared (plan.turns_per_cell * cells) plan.workers result }
 {
     (plan.turns_per_cell * cells).div_ceil(plan.workers)

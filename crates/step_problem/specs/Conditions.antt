@@ -52,6 +52,10 @@ pub record EvapFits (x : Evap) : Type 0 where
   pub surf_hi : IsHead x.surf_hi
   pub deep : x.ext_lo ≤ℤ x.surf_hi
 
+-- the most variable cells of a problem: those of a grid by the wide limits
+abbrev pub cell_limit : ℕ
+cell_limit = 4194304
+
 -- the sum of all upper conductances at a cell
 abbrev pub conductance_of : Entries → ℕ
 conductance_of c =
@@ -96,7 +100,7 @@ pub record LinksFit (p : List Entries) (c : ℕ) (links : List Link) : Type 0 wh
 
 -- a step's problem: its variable cells by ascending cell number
 pub record IsProblem (p : List Entries) : Type 0 where
-  pub few : length p ≤ 4194304
+  pub few : length p ≤ cell_limit
   pub ascending : (c d : ℕ) → c < d → d < length p → (entries_at p c).id < (entries_at p d).id
   pub cells : (c : ℕ) → c < length p → CellFits (entries_at p c)
   pub links : (c : ℕ) → c < length p → LinksFit p c (entries_at p c).links

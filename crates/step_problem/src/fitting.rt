@@ -1,6 +1,6 @@
 // Whether cells make a problem.
 ghost use Rattle.std.specs.Prelude.{◌≡◌, ◌<◌, ◌≤◌, ◌↔◌, ℕ, IsTrue, All, length};
-ghost use Rattle.step_problem.specs.{entries_at, LinkFits, FixedFits, RiverFits, DrainFits, EvapFits, CellFits, LinksFit, IsProblem};
+ghost use Rattle.step_problem.specs.{entries_at, LinkFits, FixedFits, RiverFits, DrainFits, EvapFits, CellFits, LinksFit, IsProblem, cell_limit};
 
 mod links;
 mod ranges;
@@ -11,6 +11,7 @@ use links::{MOST_LINKS, links_fit};
 use ranges::in_range;
 pub use sums::{conductances_fit, flows_fit};
 
+// The cell_limit of specs/Conditions.
 const MOST_CELLS: usize = 4_194_304;
 
 /// Whether these cells make a problem: the condition of `Problem::new`. It takes time in proportion to the number of entries.
@@ -34,7 +35,7 @@ fn ids_ascend(cells: &[Cell]) -> bool
 }
 
 fn each_fits(cells: &[Cell]) -> bool
-    requires { length cells.now ≤ 4194304 }
+    requires { length cells.now ≤ cell_limit }
     ensures { IsTrue result ↔ (((c : ℕ) → c < length cells.now → CellFits (entries_at cells.now c))
         × ((c : ℕ) → c < length cells.now → LinksFit cells.now c (entries_at cells.now c).links)) }
 {
@@ -68,7 +69,7 @@ fn entries_fit(cell: &Cell) -> bool
 
 // The numbers of links are tested first, so that no test searches more than six links.
 fn all_links_hold(cells: &[Cell]) -> bool
-    requires { length cells.now ≤ 4194304 }
+    requires { length cells.now ≤ cell_limit }
     ensures { IsTrue result ↔ ((c : ℕ) → c < length cells.now → LinksFit cells.now c (entries_at cells.now c).links) }
 {
     links_are_few(cells) && all_links_fit(cells)
@@ -81,7 +82,7 @@ fn links_are_few(cells: &[Cell]) -> bool
 }
 
 fn all_links_fit(cells: &[Cell]) -> bool
-    requires { length cells.now ≤ 4194304 }
+    requires { length cells.now ≤ cell_limit }
     ensures { IsTrue result ↔ ((c : ℕ) → c < length cells.now → LinksFit cells.now c (entries_at cells.now c).links) }
 {
     for c in 0..cells.len() {

@@ -1,6 +1,6 @@
 // Whether the links of one cell lead to different other cells that lead back.
 ghost use Rattle.std.specs.Prelude.{◌≡◌, ◌<◌, ◌≤◌, ◌↔◌, ℕ, IsTrue, All, Contains, ◌^◌, length};
-ghost use Rattle.step_problem.specs.{entries_at, link_at, LinksFit};
+ghost use Rattle.step_problem.specs.{entries_at, link_at, LinksFit, cell_limit};
 
 use crate::entry::{Cell, Link};
 
@@ -86,7 +86,7 @@ fn these_fit(cells: &[Cell], c: usize, links: &[Link]) -> bool
 
 pub(crate) fn links_fit(cells: &[Cell], c: usize) -> bool
     requires index { c < length cells.now }
-    requires few { length cells.now ≤ 4194304 }
+    requires few { length cells.now ≤ cell_limit }
     ensures { IsTrue result ↔ LinksFit cells.now c (entries_at cells.now c).links }
 {
     let cell: &Cell = &cells[c];

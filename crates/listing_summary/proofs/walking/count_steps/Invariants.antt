@@ -1,4 +1,4 @@
-use Rattle.listing_summary.proofs.Common.{◌≡◌, ◌*◌, ◌≤◌, length, IsWalk, times_left, Fits}
+use Rattle.listing_summary.proofs.Common.{◌≡◌, ◌*◌, ◌≤◌, length, IsWalk, times_left, Fits, cell_limit}
 use Rattle.listing_summary.proofs.Counts.{IsCounted}
 use Rattle.listing_summary.proofs.walking.count_steps.Given as goal
 
@@ -8,7 +8,7 @@ invariant-loop-summary g l = record {
   rounds : g.S.Settler.rounds l.settler ≡ l.task.rounds;
   walk : IsWalk l.task l.steps;
   steps : l.summary.steps ≤ l.steps.done;
-  heads : l.summary.heads ≤ l.steps.done * 4194304;
+  heads : l.summary.heads ≤ l.steps.done * cell_limit;
   fits : Fits l.summary;
   counted : IsCounted l.task l.steps l.summary;
 }
