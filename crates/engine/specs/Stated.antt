@@ -32,7 +32,8 @@ pub record Stated (old new : Option (List ℕ)) : Type 0 where
   -- The model is valid.
   pub model : FlowModel
   pub valid : IsModel model
-  -- Its deck, with the zones of its cells, and then the listing of some values, which are the heads, the budget and the flows between zones of each step, was appended, and nothing else.
+  -- Its deck, with the zones of its cells, and then the listing of some values, which are the heads, the budget and the flows
+  -- between zones of each step, was appended, and nothing else.
   pub zones : Option (List ℕ)
   pub digits : ℕ
   pub values : List Step
@@ -55,7 +56,8 @@ pub record SpanStated (old new : Option (List ℕ)) : Type 0 where
   pub valid : IsModel first
   pub second : FlowModel
   pub valid_to : IsModel second
-  -- Both decks, each with the zones of its cells, and then the listing of some values, which are the heads, the budget and the flows between zones of each step, were appended, and nothing else.
+  -- Both decks, each with the zones of its cells, and then the listing of some values, which are the heads, the budget and the
+  -- flows between zones of each step, were appended, and nothing else.
   pub zones : Option (List ℕ)
   pub digits : ℕ
   pub values : List Step

@@ -60,8 +60,8 @@ pub record NetTermsLie (s : ℕ) (e : List ExactCell) (h : ℕ → Fraction) (b 
   pub in_the_others : (t : Term) → EnclosesSigned (lower_by_others b t) (upper_by_others b t) (s + 9) (net_flow e h t)
 
 -- What the steps of a listing say of the budgets of a history of heads.
--- At a step of a listing of a model, with s digits of conductances, the exact budget of the vector X over d is balanced, and its net terms lie between both pairs of
--- bounds, where `before` are the exact heads before it.
+-- At a step of a listing of a model, with s digits of conductances, the exact budget of the vector X over d is balanced, and
+-- its net terms lie between both pairs of bounds, where `before` are the exact heads before it.
 pub record NetTermsLieAt (m : FlowModel) (s : ℕ) (v : Step) (before : ℕ → Fraction) (d : ℕ) (X : ℕ → ℤ) : Type 0 where
   pub balanced : IsBalanced (exact_step m v.at.period v.at.step before)
       (heads_of d (variable_heads (exact_step m v.at.period v.at.step before) X))

@@ -20,7 +20,8 @@ impl<'a> HeadTable<'a> {
     fn tighten(&self, seat: &mut Seat<(), Known>, side: Side, word: usize, to: u64) -> u64
         requires seat { seat.old.table_id ≡ self.now.table.shared.table_id }
         requires word { word < self.now.table.shared.table_id.words }
-        requires allows { let t = self.now.table.shared in Allows (IsTableKept t.key.problem.value t.key.barrier.value) t.table_id.slots seat.old.id seat.old.me word
+        requires allows { let t = self.now.table.shared in
+            Allows (IsTableKept t.key.problem.value t.key.barrier.value) t.table_id.slots seat.old.id seat.old.me word
             (λ n. tighter_word side n to) (exchange_play (step t.table_id.slots word to 0 none) seat.old.me) }
         ensures seat { seat.new.table_id ≡ seat.old.table_id }
         ensures play { exchange_play (step self.now.table.shared.table_id.slots word to 0 none) seat.old.me result seat.new.me }

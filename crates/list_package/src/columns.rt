@@ -34,7 +34,8 @@ pub fn read_numbers(
     columns: &[Column],
     numbers: &mut Vec<Dec>,
 ) -> Result<(), TextFault>
-    ensures numbers { GivesText (λ _. numbers.new.items) result words.new (repeated_reading (length columns.now) (number_at spec.number file.now line) words.old) }
+    ensures numbers { GivesText (λ _. numbers.new.items) result words.new
+        (repeated_reading (length columns.now) (number_at spec.number file.now line) words.old) }
     ensures count { IfOk result (λ _. length numbers.new.items ≡ length columns.now) }
     ensures decimals { IfOk result (λ _. All IsDec numbers.new.items) }
 {

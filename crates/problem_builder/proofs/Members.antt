@@ -57,7 +57,9 @@ module _ (m : FlowModel) (p c : ℕ) where
   IsFixedSource FromStorage = (period_at m p).steady ≡ false
 
   of_general : (y : Entry) (x : FixedSource) → In (local_entries m p c) y → as_general y ≡ Some x → IsFixedSource x
-  of_general (GeneralEntry cell a b) x i e = subst IsFixedSource (some_same e) (λ valid. let v = In-All (IsEntryValid (most_cells Wide)) (local_entries m p c) (GeneralEntry cell a b) valid i in (v.1, v.2))
+  of_general (GeneralEntry cell a b) x i e =
+      subst IsFixedSource (some_same e)
+      (λ valid. let v = In-All (IsEntryValid (most_cells Wide)) (local_entries m p c) (GeneralEntry cell a b) valid i in (v.1, v.2))
   of_general y x i e = absurd (none-some x e)
 
   of_storage : (steady : Bool) (x : FixedSource) → (period_at m p).steady ≡ steady → cond steady None (Some FromStorage) ≡ Some x → IsFixedSource x

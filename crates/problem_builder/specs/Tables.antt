@@ -84,7 +84,8 @@ pub record AreTables (m : FlowModel) (s : ℕ) (t : Tables) : Type 0 where
   pub column : Filled (HasConductance m s Column) no_pair (cell_count m.grid) t.column
   pub vertical : Filled (HasConductance m s Vertical) no_pair (cell_count m.grid) t.vertical
 
--- The tables of a stress period: kinds and indices, given and kept heads, the bounds of the entries of each cell, of its recharge and of its evapotranspiration.
+-- The tables of a stress period: kinds and indices, given and kept heads, and for each cell the bounds of its entries, of its
+-- recharge and of its evapotranspiration.
 
 pub record ArePeriodTables (m : FlowModel) (s p : ℕ) (t : PeriodTables) : Type 0 where
   pub period : t.period ≡ p

@@ -80,7 +80,8 @@ pub fn turn(table: &HeadTable, seat: &mut HeadSeat, ticket: u64)
     requires seat { IsSeatOf table.now seat.old }
     requires some_cell { 0 < length table.now.problem.now }
     ensures seat { IsSeatOf table.now seat.new }
-    ensures moved { let c = ticket % length table.now.problem.now in (side : Side) → HasMoved side table.now.problem.now (seen_on side seat.old) c (seen_on side seat.new c) }
+    ensures moved { let c = ticket % length table.now.problem.now in
+        (side : Side) → HasMoved side table.now.problem.now (seen_on side seat.old) c (seen_on side seat.new c) }
     ensures no_looser { AreNoLooser table.now.problem.now (seen_of seat.old) (seen_of seat.new) }
 {
     let cell = (ticket % table.problem().len() as u64) as usize;

@@ -53,7 +53,8 @@ pub(crate) fn words_or_open(
     first: Option<(u32, Side)>,
 ) -> Result<Vec<Bound>, SettleFault>
     requires { MatchOption first (AreBothSettled p.now words.items) (λ o. IsFirstOpen p.now words.items o.0 o.1) }
-    ensures settles { (b : Edges) (k : ℕ) → AreOnTheWay p.now b words.items → (RoundsSettleBoth p.now b k → AreBothSettled p.now words.items) → Settles p.now b k result }
+    ensures settles { (b : Edges) (k : ℕ) → AreOnTheWay p.now b words.items →
+        (RoundsSettleBoth p.now b k → AreBothSettled p.now words.items) → Settles p.now b k result }
     ensures memory { had_memory result ≡ true }
 {
     p.recall_conditions();

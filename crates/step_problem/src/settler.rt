@@ -9,7 +9,8 @@ use crate::heads::{Barrier, Bound, SettleFault};
 use crate::problem::Problem;
 use std::alloc::Global;
 
-/// Gives the pairs of problems, settled ones or certificates (`pairs`). `rounds`: how many plain rounds it may use; no call changes it. `ready`: when it may be called. `leads`: how a call may change it.
+/// Gives the pairs of problems, settled ones or certificates (`pairs`). `rounds`: how many plain rounds it may use; no call
+/// changes it. `ready`: when it may be called. `leads`: how a call may change it.
 pub trait Settler {
     ghost pairs: { PairKind };
 

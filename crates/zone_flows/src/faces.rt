@@ -89,7 +89,8 @@ fn add_links(table: &mut Table, walk: &Walk, id: u32, links: &[Link]) -> Result<
     requires ends { All (λ x. x.cell < length walk.now.problem.now) links.now }
     requires ordered { All (λ x. x.lo ≤ x.hi) links.now }
     requires small { All (λ x. x.hi < 2 ^ 60) links.now }
-    ensures { OnOk result (Gains table.old.map table.new.map (flat_map (λ x. from_to walk.now id (entries_at walk.now.problem.now x.cell).id x.lo x.hi) links.now)) }
+    ensures { OnOk result (Gains table.old.map table.new.map
+        (flat_map (λ x. from_to walk.now id (entries_at walk.now.problem.now x.cell).id x.lo x.hi) links.now)) }
 {
     for x in links {
         add_link(table, walk, id, x)?;

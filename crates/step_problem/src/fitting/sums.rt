@@ -24,7 +24,8 @@ fn add_capped(sum: u128, more: u128, cap: u128) -> u128
 // The sum of the sizes of entries, at most the cap.
 fn sum_capped<E, F: Fn(&E) -> u128>(entries: &[E], cap: u128, size: F) -> u128
     requires { (x : _) → Contains entries.now x.now → F.pre size x }
-    ensures value { (of : E → ℕ) → ((x : E) (r : ℕ) → Contains entries.now x → FnReturnsAt F.Fn size x r → r ≡ of x) → result ≡ min (sum_by of entries.now) cap }
+    ensures value { (of : E → ℕ) → ((x : E) (r : ℕ) → Contains entries.now x → FnReturnsAt F.Fn size x r → r ≡ of x) →
+        result ≡ min (sum_by of entries.now) cap }
     ensures capped { result ≤ cap }
 {
     let mut sum: u128 = 0;
