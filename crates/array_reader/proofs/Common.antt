@@ -12,7 +12,7 @@ pub use Rattle.decimal_input.specs.declared.dec.NumFault.{NumFault}
 pub use Rattle.outside.specs.{FileSet, IsGoodName, IsRefusal, WordsMay, is_good_name, words}
 pub use Rattle.outside.specs.declared.inputs.TextFault.{TextFault}
 pub use Rattle.outside.specs.declared.inputs.TextFault.TheVariants.{Memory, Refused}
-pub use Rattle.record_lines.proofs.Forward.{leaves, line_words, name_held, value_held, word_held}
+pub use Rattle.record_lines.proofs.Forward.{line_words, name_held, rest_has_its_lines, value_held, word_held}
 pub use Rattle.record_lines.proofs.Loops.{ends_all, ends_text, is_done, list_ends, list_goes_on, list_stops, lists_done, step_goes_on, steps_done, steps_end}
 pub use Rattle.record_lines.proofs.Loops.{with_front}
 pub use Rattle.record_lines.specs.{GivesOnly, Left, LineMay, LinesMay, Numbered, StopsText, Taking, appended_readings, beginning, each_number, is_word, line_at}

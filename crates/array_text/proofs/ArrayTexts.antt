@@ -102,9 +102,9 @@ free_lists = record {
   integers = λ file xs some h. free_list_reads integer integer_word file xs some (All-weaker (λ z. IsShort z) (λ z. IsWrittenAs integer integer_word z) integer_written xs h);
 }
 
-pub arrays : ArraysReadAsWritten
+pub arrays_read_back : ArraysReadAsWritten
 unfolding reals layer_array real_layer integer_layer real_array integer_array
-arrays = record {
+arrays_read_back = record {
   lists = λ files file xs some h. layer_reads real number_word one files file 1 (length xs) xs real_one some (omega arith) (reals_written xs h);
   layers = λ files file rows cols xs some e h. layer_reads real number_word one files file rows cols xs real_one some e (reals_written xs h);
   integer_layers = λ files file rows cols xs some e h. layer_reads whole integer_word (pos 1) files file rows cols xs whole_one some e (wholes_written xs h);

@@ -30,6 +30,6 @@ pub use Rattle.decimal_input.specs.declared.dec.NumFault.{NumFault}
 pub use Rattle.outside.specs.{FileSet, file_at, is_separator, refusal}
 unfoldable pub use Rattle.outside.specs.{lines, words}
 pub use Rattle.outside.specs.declared.inputs.Refusal.{Refusal}
-pub use Rattle.record_lines.proofs.Readings.{appended_are, done, goes_on, refused, repeated_are, then_, weaker}
+pub use Rattle.record_lines.proofs.Readings.{appended_are, err_gives_only, gives_only_less, goes_on, ok_gives_only, repeated_are, then_}
 pub use Rattle.record_lines.specs.{GivesOnly, Left, Numbered, Taking, beginning, left_from, name_at, next_number, next_word, ◌>>=◌}
 unfoldable pub use Rattle.record_lines.specs.{appended_readings, has_word, line_at, next_value, repeated_reading, spread, word_at}

@@ -1,8 +1,8 @@
 -- Layers that are read: as many values as they have cells, layer after layer.
 use Rattle.array_text.proofs.Common.{◌≡◌, ℕ, ◌+◌, ◌*◌, Bool, true, false, List, length, replicate, All, refl, arith, ◌⊎◌, inl, inr, ◌-◌, ◌<◌, ◌≤◌, [], ◌++◌}
 use Rattle.array_text.proofs.Common.{take, drop, length-replicate, length-append, length-drop, take-append-le, drop-append-le, take_all, drop_at, All-append}
-use Rattle.array_text.proofs.Common.{All-replicate, Dec, IsDec, FileSet, Left, real_layer, layer_or, GivesOnly, cases_lt, done, weaker}
-use Rattle.array_text.proofs.ArrayForms.{arrays}
+use Rattle.array_text.proofs.Common.{All-replicate, Dec, IsDec, FileSet, Left, real_layer, layer_or, GivesOnly, cases_lt, ok_gives_only, gives_only_less}
+use Rattle.array_text.proofs.ArrayForms.{array_files_have_form}
 use Rattle.std.proofs.Math.Nat.{mul-le-mul_right}
 
 -- this many values of this form, layer after layer
@@ -52,5 +52,5 @@ module _ (files : FileSet) (file : List ℕ) where
   pub layer_or_is : (rows cols : ℕ) (b : Bool) (other : Dec) (left : Left) → IsDec other
       → GivesOnly (λ x. (length x.0 ≡ rows * cols) × All IsDec x.0 × (b ≡ false → x.0 ≡ replicate (rows * cols) other)) (layer_or files file rows cols b other left)
   unfolding layer_or
-  layer_or_is rows cols true other left dec = weaker (layer_is rows cols left) (λ x is. (is.0, is.1, λ e. absurd (let clash : true ≡ false = e in cc)))
-  layer_or_is rows cols false other left dec = done (length-replicate (rows * cols) other, All-replicate IsDec (rows * cols) other dec, λ e. refl)
+  layer_or_is rows cols true other left dec = gives_only_less (layer_is rows cols left) (λ x is. (is.0, is.1, λ e. absurd (let clash : true ≡ false = e in cc)))
+  layer_or_is rows cols false other left dec = ok_gives_only (length-replicate (rows * cols) other, All-replicate IsDec (rows * cols) other dec, λ e. refl)

@@ -3,10 +3,10 @@ use Rattle.array_text.proofs.Common.{◌≡◌, ◌⊎◌, inl, inr, ℕ, zero, 
 use Rattle.array_text.proofs.Common.{if◌then◌else◌, List, [], ◌∷◌, length, Option, Some, None, Result, Ok, Err, refl, sym, subst, arith, ℤ, pos, negsuc, neg_ℤ}
 use Rattle.array_text.proofs.Common.{◌+ℤ◌, ◌≤ℤ◌, ◌<ℤ◌, unsigned_abs, NumFault, IsDec, is_exponent, canonical, spelt_number, number, product, integer}
 use Rattle.array_text.proofs.Common.{scaled_value, GivesOnly, real, multiplied_value, IsShort, ints, nat_tests, Dec, Spelling, AreDigits, IsInteger}
-use Rattle.array_text.proofs.Common.{number_from, IsTested, IsCanonical, differ, canonical_is, integers_are, with_sign, spelling_of, WordsHaveForm, done}
-use Rattle.array_text.proofs.Common.{refused, then_}
+use Rattle.array_text.proofs.Common.{number_from, IsTested, IsCanonical, differ, canonical_is, integers_are, with_sign, spelling_of, WordsHaveForm}
+use Rattle.array_text.proofs.Common.{ok_gives_only, err_gives_only, then_}
 use Rattle.decimal_input.specs.declared.dec.NumFault.TheVariants.{BadNumber}
-use Rattle.decimal_input.proofs.Powers.{zero_number, longer, within}
+use Rattle.decimal_input.proofs.Powers.{zero_number, one_digit_more_fits, power_fits_18_digits}
 use Rattle.decimal_input.proofs.Named.{digit_small}
 
 -- a word that is no number
@@ -28,19 +28,19 @@ tested_is neg n e r last t = by_digits (nat_lt n (10 ^ 18)) refl
     by_exponent few true h =
         let range = in_range e h in
         let some : 0 < n = omega (arith, last) in
-        rw (t.good few range.0 range.1) (done (record { few = few; form = inr (some, last); above = range.0; below = range.1 }))
+        rw (t.good few range.0 range.1) (ok_gives_only (record { few = few; form = inr (some, last); above = range.0; below = range.1 }))
     by_exponent few false h = by_side (out_of_range e h)
       where
         by_side : (e <ℤ neg_ℤ (pos 40)) ⊎ (pos 40 <ℤ e) → GivesOnly IsDec r
-        by_side (inl low) = rw (t.low few low) refused
-        by_side (inr high) = rw (t.high few high) refused
+        by_side (inl low) = rw (t.low few low) err_gives_only
+        by_side (inr high) = rw (t.high few high) err_gives_only
 
     by_digits : (b : Bool) → nat_lt n (10 ^ 18) ≡ b → GivesOnly IsDec r
     by_digits true h = let few : n < 10 ^ 18 = grind (arith, nat_tests) in by_exponent few (is_exponent e) refl
-    by_digits false h = let many : 10 ^ 18 ≤ n = grind (arith, nat_tests) in rw (t.many many) refused
+    by_digits false h = let many : 10 ^ 18 ≤ n = grind (arith, nat_tests) in rw (t.many many) err_gives_only
 
 canonical_form : (neg : Bool) (c : ℕ) (e : ℤ) (r : Result Dec NumFault) → IsCanonical neg c e r → GivesOnly IsDec r
-canonical_form neg c e r (inl k) = rw k.1 (done zero_number)
+canonical_form neg c e r (inl k) = rw k.1 (ok_gives_only zero_number)
 canonical_form neg c e r (inr k) = tested_is neg k.0 (e +ℤ pos k.1) r k.2.last k.3
 
 made_canonical : (neg : Bool) (c : ℕ) (e : ℤ) → GivesOnly IsDec (canonical neg c e)
@@ -51,19 +51,19 @@ unfolding number
 number_is w = by_length (nat_le (length w) 64)
   where
     by_spelling : (x : Option Spelling) → GivesOnly IsDec (spelt_number x)
-    by_spelling None = refused
+    by_spelling None = err_gives_only
     by_spelling (Some n) = made_canonical n.neg n.coefficient n.exp
 
     by_length : (b : Bool) → GivesOnly IsDec (if b then spelt_number (spelling_of w) else number_fault)
     by_length true = by_spelling (spelling_of w)
-    by_length false = refused
+    by_length false = err_gives_only
 
 scaled_is : (by value : Dec) → IsDec value → GivesOnly IsDec (scaled_value by value)
 unfolding scaled_value product
 scaled_is by value good = by_case (by.digits == 0)
   where
     by_case : (b : Bool) → GivesOnly IsDec (if b then Ok value else product value by)
-    by_case true = done good
+    by_case true = ok_gives_only good
     by_case false = made_canonical (differ value.neg by.neg) (value.digits * by.digits) (value.exp +ℤ by.exp)
 
 pub multiplied_is : (by : Dec) (w : List ℕ) → GivesOnly IsDec (multiplied_value real by w)
@@ -75,7 +75,7 @@ digits_below : (c i : ℕ) (xs : List ℕ) → c < 10 ^ i → AreDigits xs → n
 digits_below c i [] h all = let e : i ≡ i + 0 = omega arith in subst (λ n. c < 10 ^ n) e h
 digits_below c i (x ∷ xs) h all =
     let small : x - 48 ≤ 9 = digit_small x (all 0 0 (omega arith)) in
-    let rest = digits_below (c * 10 + (x - 48)) (i + 1) xs (longer c (x - 48) i h small) (λ k d lt. all (suc k) d (omega (arith, lt))) in
+    let rest = digits_below (c * 10 + (x - 48)) (i + 1) xs (one_digit_more_fits c (x - 48) i h small) (λ k d lt. all (suc k) d (omega (arith, lt))) in
     let e : (i + 1) + length xs ≡ i + suc (length xs) = omega arith in
     subst (λ n. number_from (c * 10 + (x - 48)) xs < 10 ^ n) e rest
 
@@ -91,7 +91,7 @@ integer_is w = record {
       let n : ℕ = number_from 0 i.digits in
       let below : n < 10 ^ (0 + length i.digits) = digits_below 0 0 i.digits (omega arith) i.are_digits in
       let few : 0 + length i.digits ≤ 18 = omega (arith, i.few) in
-      record { few = subst (λ x. unsigned_abs x < 10 ^ 18) (sym i.value) (signed_below i.neg n (within n (0 + length i.digits) few below)) };
+      record { few = subst (λ x. unsigned_abs x < 10 ^ 18) (sym i.value) (signed_below i.neg n (power_fits_18_digits n (0 + length i.digits) few below)) };
 }
 
 pub words_are : WordsHaveForm

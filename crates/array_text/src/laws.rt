@@ -21,7 +21,7 @@ pub fn free_lists_read_as_written()
 {}
 
 /// An array with its control record is read as its values.
-#[tactic(auto, using(crate::proofs::ArrayTexts::arrays))]
+#[tactic(auto, using(crate::proofs::ArrayTexts::arrays_read_back))]
 pub fn arrays_read_as_written()
     ensures { ArraysReadAsWritten }
 {}
@@ -33,13 +33,13 @@ pub fn words_have_form()
 {}
 
 /// A free list that is read has as many values as it asked for.
-#[tactic(auto, using(crate::proofs::ArrayForms::lists))]
+#[tactic(auto, using(crate::proofs::ArrayForms::list_files_have_form))]
 pub fn lists_have_form()
     ensures { ListsHaveForm }
 {}
 
 /// An array that is read has a value for each place.
-#[tactic(auto, using(crate::proofs::ArrayForms::arrays))]
+#[tactic(auto, using(crate::proofs::ArrayForms::array_files_have_form))]
 pub fn arrays_have_form()
     ensures { ArraysHaveForm }
 {}

@@ -7,7 +7,7 @@ use Rattle.barrier_vector.proofs.Levels.{marked_within}
 use Rattle.step_problem.specs.declared.entry.River.{River}
 use Rattle.step_problem.specs.declared.entry.Drain.{Drain}
 use Rattle.std.specs.Prelude.{sum_by}
-use Rattle.barrier_vector.proofs.CarriedRoots.{has_links, conducts}
+use Rattle.barrier_vector.proofs.CarriedRoots.{has_links, link_conducts}
 use Rattle.barrier_vector.proofs.Rooting.{greatest_has, drop_is, drop_of}
 
 -- conductances at a cell are below 2 ^ 60
@@ -74,7 +74,7 @@ module _ (p : List Entries) (ok : IsProblem p) (q : ℕ) (R S : ℕ → ℕ → 
         let small = link_small (entries_at p c) (ok.cells c (has_links p c x parent.has)) x parent.has in (
           ceil_over q x.lo + t,
           (x, parent_whole k c x parent, t, whole, refl),
-          ap (λ (n : ℕ). min n path_limit) is ∙ omega (arith, cut_drop q x.lo (conducts p ok c x parent.has) small),
+          ap (λ (n : ℕ). min n path_limit) is ∙ omega (arith, cut_drop q x.lo (link_conducts p ok c x parent.has) small),
         )
 
     pub whole_path : (c s : ℕ) → IsPath p (capped_flow q) R c s → (t : ℕ) × IsPath p q S c t × (min s path_limit ≡ min t path_limit)

@@ -11,11 +11,11 @@ module _ (p : List Entries) (ok : IsProblem p) where
   pub leads_within : (c : ℕ) (x : Link) → Contains (entries_at p c).links x → x.cell < length p
   leads_within c x has = All-contains (λ (z : Link). z.cell < length p) (entries_at p c).links x ((ok.links c (has_links p c x has)).within) has
 
-  pub conducts : (c : ℕ) (x : Link) → Contains (entries_at p c).links x → 0 < x.lo
-  conducts c x has = (All-contains LinkFits (entries_at p c).links x ((ok.cells c (has_links p c x has)).links) has).conducts
+  pub link_conducts : (c : ℕ) (x : Link) → Contains (entries_at p c).links x → 0 < x.lo
+  link_conducts c x has = (All-contains LinkFits (entries_at p c).links x ((ok.cells c (has_links p c x has)).links) has).conducts
 
-  pub back : (c : ℕ) (x : Link) → Contains (entries_at p c).links x → Contains (entries_at p x.cell).links (record { cell = c; lo = x.lo; hi = x.hi })
-  back c x has = All-contains (λ (z : Link). Contains (entries_at p z.cell).links (record { cell = c; lo = z.lo; hi = z.hi })) (entries_at p c).links x
+  pub links_are_mutual : (c : ℕ) (x : Link) → Contains (entries_at p c).links x → Contains (entries_at p x.cell).links (record { cell = c; lo = x.lo; hi = x.hi })
+  links_are_mutual c x has = All-contains (λ (z : Link). Contains (entries_at p z.cell).links (record { cell = c; lo = z.lo; hi = z.hi })) (entries_at p c).links x
       ((ok.links c (has_links p c x has)).mutual_ends) has
 
   pub reaches_within : (j a b : ℕ) → a < length p → LeadsTo p j a b → b < length p
@@ -34,7 +34,7 @@ module _ (p : List Entries) (ok : IsProblem p) where
 
   pub turn_way : (j a b : ℕ) → LeadsTo p j a b → (k : ℕ) × LeadsTo p k b a
   turn_way zero a b e = (0, sym e)
-  turn_way (suc j) a b (x, has, way) = let (k, rest) = turn_way j x.cell b way in (k + 1, join_ways k 1 b x.cell a rest (record { cell = a; lo = x.lo; hi = x.hi }, back a x has, refl))
+  turn_way (suc j) a b (x, has, way) = let (k, rest) = turn_way j x.cell b way in (k + 1, join_ways k 1 b x.cell a rest (record { cell = a; lo = x.lo; hi = x.hi }, links_are_mutual a x has, refl))
 
 module _ (p : List Entries) (ok : IsProblem p) (r : ℕ) (root : LeastRoot p r 0) where
   -- the component's least cell is its one root

@@ -6,13 +6,13 @@ use Rattle.barrier_vector.proofs.Common.{IsSearched, AreLabels, has_label, sum_a
 use Rattle.barrier_vector.proofs.Common.{false, cond, is_label, cut_on, IsBoundOrNone}
 use Rattle.barrier_vector.proofs.CarriedRoots.{reaches_within, turn_way, join_ways}
 use Rattle.barrier_vector.proofs.Levels.{marked_or_not, marked_within}
-use Rattle.barrier_vector.proofs.Labelling.{along}
+use Rattle.barrier_vector.proofs.Labelling.{mark_holds_along_lead}
 use Rattle.barrier_vector.proofs.Gathering.{label_true, label_is, greatest_covers, greatest_of}
 use Rattle.barrier_vector.proofs.Marking.{base_head}
 use Rattle.barrier_vector.proofs.Rooting.{label_within}
 use Rattle.barrier_vector.proofs.CappedFlows.{whole_path}
 use Rattle.barrier_vector.proofs.Uniques.{inner_one}
-use Rattle.barrier_vector.proofs.Components.{longest as longest_path, one_sum}
+use Rattle.barrier_vector.proofs.Components.{longest_path_exists as longest_path, one_sum}
 
 module _ (p : List Entries) (ok : IsProblem p) where
   -- every cell leads to the least cell of its component
@@ -24,7 +24,7 @@ module _ (p : List Entries) (ok : IsProblem p) where
             let (m, e) = l.all c h in
             let (j, way) = l.reached c m e in
             let (i, back_way) = turn_way p ok j m c way in
-            let self = along p labels (length p) l i c m m e back_way in
+            let self = mark_holds_along_lead p labels (length p) l i c m m e back_way in
             absurd (found.none c h none i (record { root = m; drop = 0; is_root = drop_of m self; reaches = back_way }))
         | inr (k, e) ↦
             let (s, path, cut) = found.some c k e in
@@ -66,14 +66,14 @@ module _ (p : List Entries) (ok : IsProblem p) (labels : List (Option ℕ)) (inn
         let (i, back_way) = turn_way p ok j m c way in
         let (l, on) = y.labelling.reached k m (label_is (mark_at labels k) m t) in
         (i + l, join_ways p ok i l c m k back_way on);
-    whole = λ j k way. label_true (mark_at labels k) m (along p labels (length p) y.labelling j c k m e way);
+    whole = λ j k way. label_true (mark_at labels k) m (mark_holds_along_lead p labels (length p) y.labelling j c k m e way);
   }
 
   longest_is : (c m : ℕ) → c < length p → mark_at labels c ≡ Some m → (t : ℕ) × IsLongest p c t × (longest_at totals m ≡ min t path_limit)
   longest_is c m h e =
       let (t, top) = longest_path p ok c h in
       let k_in = reaches_within p ok top.links c top.cell h top.reached in
-      let on = label_true (mark_at labels top.cell) m (along p labels (length p) y.labelling top.links c top.cell m e top.reached) in
+      let on = label_true (mark_at labels top.cell) m (mark_holds_along_lead p labels (length p) y.labelling top.links c top.cell m e top.reached) in
       let at_least = greatest_covers (length p) (has_label labels m) (slice_index inner) top.cell k_in on in
       let (s, s_path, s_cut) = y.inner_paths top.cell k_in in
       let same = inner_one p ok top.cell s t s_path top.is_path in

@@ -4,9 +4,9 @@ use Rattle.barrier_vector.proofs.Common.{by_lt_z, IsProblem, Entries, entries_at
 use Rattle.barrier_vector.proofs.Common.{IsLongest, lack, sum-same}
 use Rattle.barrier_vector.proofs.CarriedRoots.{reaches_within}
 use Rattle.barrier_vector.proofs.Uniques.{inner_one, same_tests}
-use Rattle.barrier_vector.proofs.Decided.{Decided, test_of, test_true, true_test, first_or_none, path}
+use Rattle.barrier_vector.proofs.Decided.{Decided, test_of, test_true, true_test, first_or_none, lead_is_path}
 use Rattle.barrier_vector.proofs.Gathering.{greatest_covers, greatest_of}
-use Rattle.barrier_vector.proofs.Ways.{LeadTo, join, leading_decided}
+use Rattle.barrier_vector.proofs.Ways.{LeadTo, leads_join, leading_decided}
 
 module _ (p : List Entries) (ok : IsProblem p) where
   abbrev pub inside : ℕ → ℕ → Bool
@@ -50,11 +50,11 @@ module _ (p : List Entries) (ok : IsProblem p) where
       elim (first_or_none (λ k. LeadTo p c k) (length p) (λ k k_in. leading_decided p ok c k)) [
         | inr none ↦ absurd (none c h (0, refl))
         | inl (m, is) ↦
-            path p (lack p) (LeastRoot p) least_or_not is.has.0 c
+            lead_is_path p (lack p) (LeastRoot p) least_or_not is.has.0 c
             (record {
               root = m;
               drop = 0;
-              is_root = (is.within, λ j k way. elim (cases_lt k m) [ inl less ↦ absurd (is.least k less (join p ok c m k is.has (j, way))) | inr more ↦ more ], refl);
+              is_root = (is.within, λ j k way. elim (cases_lt k m) [ inl less ↦ absurd (is.least k less (leads_join p ok c m k is.has (j, way))) | inr more ↦ more ], refl);
               reaches = is.has.1;
             })
       ]
@@ -70,19 +70,19 @@ module _ (p : List Entries) (ok : IsProblem p) where
   path_is k s (inr past) k_in is = absurd (omega (arith, past, k_in))
 
   -- each component has a longest path
-  pub longest : (c : ℕ) → c < length p → (t : ℕ) × IsLongest p c t
-  longest c h =
+  pub longest_path_exists : (c : ℕ) → c < length p → (t : ℕ) × IsLongest p c t
+  longest_path_exists c h =
       let path_at : ℕ → ℕ = λ k. path_by k (cases_lt k (length p)) in
       let (k, k_in, on, is) = greatest_of (length p) (inside c) path_at c h (true_test (LeadTo p c c) (leading_decided p ok c c) (0, refl)) in
       let (j, way) = test_true (LeadTo p c k) (leading_decided p ok c k) on in
-      let (s, path) = inner_path k k_in in
-      let s_is = path_is k s (cases_lt k (length p)) k_in path in (
+      let (s, lead_is_path) = inner_path k k_in in
+      let s_is = path_is k s (cases_lt k (length p)) k_in lead_is_path in (
         s,
         record {
           cell = k;
           links = j;
           reached = way;
-          is_path = path;
+          is_path = lead_is_path;
           longest = λ i l r on_way r_path.
               let l_in = reaches_within p ok i c l h on_way in
               let le = greatest_covers (length p) (inside c) path_at l l_in (true_test (LeadTo p c l) (leading_decided p ok c l) (i, on_way)) in

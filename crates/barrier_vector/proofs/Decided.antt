@@ -132,5 +132,5 @@ module _ (p : List Entries) (q : ℕ) (Root : ℕ → ℕ → Type 0) (root_or_n
             absurd (none x has (nearer k c at x has (record { root = at.leads.root; drop = at.leads.drop; is_root = at.leads.is_root; reaches = way })))
       ]
 
-  pub path : (j c : ℕ) → LeadsToRoot p q Root j c → (s : ℕ) × IsPath p q Root c s
-  path j c l = let (k, at) = level j c l in let (s, sums) = sum k c at in (s, record { level = k; is_level = at; sums = sums })
+  pub lead_is_path : (j c : ℕ) → LeadsToRoot p q Root j c → (s : ℕ) × IsPath p q Root c s
+  lead_is_path j c l = let (k, at) = level j c l in let (s, sums) = sum k c at in (s, record { level = k; is_level = at; sums = sums })

@@ -6,7 +6,7 @@ use Rattle.barrier_vector.proofs.Common.{sub_mul, same_z, IsMutual, WholeCell, w
 use Rattle.barrier_vector.proofs.Common.{need_on, anchor_on, LeastRoot, IsAnchorPath, IsInnerPath, IsLongest, IsAnchoredBound, IsBoundOn, FloorsEnclose}
 use Rattle.barrier_vector.proofs.Common.{CeilingsEnclose, IsSolution, ceil_over, SumsTo, IsCellFloor, FloorsHold, IsCellCeiling}
 use Rattle.cell_balance.proofs.Encloses.{whole_head, whole_solution, bound_back}
-use Rattle.barrier_vector.proofs.CarriedRoots.{join_ways, leads_within, conducts, back, same_root}
+use Rattle.barrier_vector.proofs.CarriedRoots.{join_ways, leads_within, link_conducts, links_are_mutual, same_root}
 use Rattle.barrier_vector.proofs.Components.{inner_path}
 use Rattle.barrier_vector.proofs.FloorsLinks.{ceil_enough, joined_low, falls_over, falls_at, somewhere_above}
 use Rattle.barrier_vector.proofs.Gains.{inward, rest_of, inward_balance, gives}
@@ -27,14 +27,14 @@ module _ (p : List Entries) (ok : IsProblem p) (n q : ℕ) (Y : ℕ → ℤ) (to
     falls_along (suc k) c s i (x, parent, rest, sums, is) at =
         let far = falls_along k x.cell rest (leads_within p ok c x parent.has) sums (λ r d j root way. at r d (suc j) root (x, parent.has, way)) in
         joined_low t (Y c) n (ceil_over q x.lo) rest s is
-        (falls_over (t -ℤ pos (rest * n)) (under (rest * n)) (ceil_over q x.lo) c i x parent.has (ceil_enough q x.lo (conducts p ok c x parent.has)) far)
+        (falls_over (t -ℤ pos (rest * n)) (under (rest * n)) (ceil_over q x.lo) c i x parent.has (ceil_enough q x.lo (link_conducts p ok c x parent.has)) far)
 
     -- from a cell back along its path to its root
     pub falls_to_root : (k c s e : ℕ) → c < length p → SumsTo p q Root k c s → (t -ℤ pos (e * n)) ≤ℤ Y c → (r : ℕ) × (d : ℕ) × (j : ℕ) × Root r d × LeadsTo p j c r × ((t -ℤ pos ((e + s) * n)) ≤ℤ Y r)
     falls_to_root zero c s e i root h = (c, s, 0, root, refl, omega (arith, ints, h))
     falls_to_root (suc k) c s e i (x, parent, rest, sums, is) h =
         let next = falls_over (t -ℤ pos (e * n)) (under (e * n)) (ceil_over q x.lo) x.cell (leads_within p ok c x parent.has)
-        (record { cell = c; lo = x.lo; hi = x.hi }) (back p ok c x parent.has) (ceil_enough q x.lo (conducts p ok c x parent.has)) h in
+        (record { cell = c; lo = x.lo; hi = x.hi }) (links_are_mutual p ok c x parent.has) (ceil_enough q x.lo (link_conducts p ok c x parent.has)) h in
         let (r, d, j, root, way, deep) = falls_to_root k x.cell rest (e + ceil_over q x.lo) (leads_within p ok c x parent.has) sums
         (joined_low t (Y x.cell) n (ceil_over q x.lo) e (e + ceil_over q x.lo) (omega arith) next) in
         (r, d, suc j, root, (x, parent.has, way), omega (arith, ints, deep, ap (λ (k : ℕ). k * n) is))
@@ -117,11 +117,11 @@ pub bounds_enclose : (side : Side) (p : List Entries) (s : ℕ) (e : List ExactC
     IsBoundOn side p c f → Bounds side (f *ℤ pos d) (X c *ℤ pos (10 ^ 9))
 bounds_enclose side p s e d X given c f i bound =
     let (n, w, whole) = whole_solution p s e d X given.problem given.encloses given.some given.solves in
-    back side n whole.some (bound_encloses n (n * d) whole.some whole.some_heads p w (whole_head n X) whole.within whole.both whole.solves given.problem side c f i bound)
+    links_are_mutual side n whole.some (bound_encloses n (n * d) whole.some whole.some_heads p w (whole_head n X) whole.within whole.both whole.solves given.problem side c f i bound)
   where
-    back : (side : Side) (n : ℕ) → 0 < n → Bounds side (f *ℤ pos (n * d)) (whole_head n X c) → Bounds side (f *ℤ pos d) (X c *ℤ pos (10 ^ 9))
-    back Low n some h = bound_back n d f (X c *ℤ pos (10 ^ 9)) Low some h
-    back High n some h = bound_back n d f (X c *ℤ pos (10 ^ 9)) High some h
+    links_are_mutual : (side : Side) (n : ℕ) → 0 < n → Bounds side (f *ℤ pos (n * d)) (whole_head n X c) → Bounds side (f *ℤ pos d) (X c *ℤ pos (10 ^ 9))
+    links_are_mutual Low n some h = bound_back n d f (X c *ℤ pos (10 ^ 9)) Low some h
+    links_are_mutual High n some h = bound_back n d f (X c *ℤ pos (10 ^ 9)) High some h
 
 pub floors_enclose : FloorsEnclose
 floors_enclose p = bounds_enclose Low p

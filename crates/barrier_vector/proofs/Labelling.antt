@@ -74,9 +74,9 @@ module _ (p : List Entries) (ok : IsProblem p) (c : ℕ) (start : List (Option �
       fill_more = record { whole = s.same ∙ f.whole; each = each'; begun = stays c c f.begun; front_of = λ k has. let (n, m) = next_of k has in (was_none k n, m); onward = onward' }
 
 -- labels are the same along a way
-pub along : (p : List Entries) (labels : List (Option ℕ)) (i : ℕ) → AreLabels p labels i → (j a b m : ℕ) → mark_at labels a ≡ Some m → LeadsTo p j a b → mark_at labels b ≡ Some m
-along p labels i l zero a b m e way = subst (λ (z : ℕ). mark_at labels z ≡ Some m) way e
-along p labels i l (suc j) a b m e (x, has, way) = along p labels i l j x.cell b m (l.spread a m x e has) way
+pub mark_holds_along_lead : (p : List Entries) (labels : List (Option ℕ)) (i : ℕ) → AreLabels p labels i → (j a b m : ℕ) → mark_at labels a ≡ Some m → LeadsTo p j a b → mark_at labels b ≡ Some m
+mark_holds_along_lead p labels i l zero a b m e way = subst (λ (z : ℕ). mark_at labels z ≡ Some m) way e
+mark_holds_along_lead p labels i l (suc j) a b m e (x, has, way) = mark_holds_along_lead p labels i l j x.cell b m (l.spread a m x e has) way
 
 module _ (p : List Entries) (ok : IsProblem p) (labels labels' : List (Option ℕ)) (c : ℕ) (l : AreLabels p labels c) where
   pub labels_skip : (m : ℕ) → mark_at labels c ≡ Some m → AreLabels p labels (c + 1)
@@ -100,7 +100,7 @@ module _ (p : List Entries) (ok : IsProblem p) (labels labels' : List (Option �
     untouched j k way =
         elim (marked_or_not (mark_at labels k)) [
           | inl e ↦ e
-          | inr (m, e) ↦ let (i, back_way) = turn_way p ok j c k way in absurd (no_both (mark_at labels c) m none (along p labels c l i k c m e back_way))
+          | inr (m, e) ↦ let (i, back_way) = turn_way p ok j c k way in absurd (no_both (mark_at labels c) m none (mark_holds_along_lead p labels c l i k c m e back_way))
         ]
 
     spread' : (a m : ℕ) (x : Link) → mark_at labels' a ≡ Some m → Contains (entries_at p a).links x → mark_at labels' x.cell ≡ Some m

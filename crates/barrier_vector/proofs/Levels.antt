@@ -6,7 +6,7 @@ use Rattle.barrier_vector.proofs.Common.{IsParent, SumsTo, mark_at, count_unmark
 use Rattle.barrier_vector.proofs.Common.{ContinuesTo, IsSearched, AreBegun}
 use Rattle.barrier_vector.proofs.Spreading.{no_both}
 use Rattle.barrier_vector.proofs.Gathering.{place_of}
-use Rattle.barrier_vector.proofs.CarriedRoots.{back}
+use Rattle.barrier_vector.proofs.CarriedRoots.{links_are_mutual}
 
 pub record IsUpTo (p : List Entries) (q : ℕ) (own : List (Option ℕ)) (k : ℕ) (levels : List (Option ℕ)) (paths front : List ℕ) : Type 0 where
   pub levels_whole : length levels ≡ length p
@@ -60,11 +60,11 @@ module _ (p : List Entries) (ok : IsProblem p) (q : ℕ) (own : List (Option ℕ
   turned f c (j, h, e) =
       let x = link_at (entries_at p f).links j in
       let has : Contains (entries_at p f).links x = Contains-get_or (entries_at p f).links j no_link h in
-      (record { cell = f; lo = x.lo; hi = x.hi }, subst (λ (z : ℕ). Contains (entries_at p z).links (record { cell = f; lo = x.lo; hi = x.hi })) e (back p ok f x has), refl)
+      (record { cell = f; lo = x.lo; hi = x.hi }, subst (λ (z : ℕ). Contains (entries_at p z).links (record { cell = f; lo = x.lo; hi = x.hi })) e (links_are_mutual p ok f x has), refl)
 
   -- and a link from cell c leads to it too
   targeted : (c : ℕ) (x : Link) → Contains (entries_at p c).links x → LinkLeads (entries_at p x.cell).links (length (entries_at p x.cell).links) c
-  targeted c x has = let (j, h, e) = link_place (entries_at p x.cell).links _ (back p ok c x has) in (j, h, ap (λ (z : Link). z.cell) e)
+  targeted c x has = let (j, h, e) = link_place (entries_at p x.cell).links _ (links_are_mutual p ok c x has) in (j, h, ap (λ (z : Link). z.cell) e)
 
   pub up_to_start : (old levels : List (Option ℕ)) (paths front : List ℕ) → length own ≡ length p → length old ≡ length p → ((c : ℕ) → mark_at old c ≡ None) →
       count_unmarked old ≡ length p → AreBegun own (length own) old levels paths front → IsUpTo p q own 0 levels paths front
@@ -274,5 +274,5 @@ up_to_step p ok q own k levels l0 l1 l2 lf paths p0 p1 pf front f0 next n0 e0 e2
     let goes' = rw (h1, g0, at) at goes in
     rw (ef, gf) (up_to_next p ok q own k (k + 1) levels l1 paths p1 front next (omega arith) u s' (rw g0 at same) others' goes')
 
-pub written : {X : Type 0} (xs ys : List X) (n : ℕ) → n ≡ length xs → take n (xs ++ ys) ≡ xs
-written xs ys n e = take_at xs ys n (sym e)
+pub take_of_append : {X : Type 0} (xs ys : List X) (n : ℕ) → n ≡ length xs → take n (xs ++ ys) ≡ xs
+take_of_append xs ys n e = take_at xs ys n (sym e)

@@ -34,10 +34,10 @@ at_start p k b (inr by) = by.1
 
 -- two ways through the cells up to k, if ways through the cells below k are joined at m
 one_more : (p : List Entries) (k a m b : ℕ) → ((c d : ℕ) → Through p k c m → Through p k m d → Through p k c d) → Through p (suc k) a m → Through p (suc k) m b → Through p (suc k) a b
-one_more p k a m b join (inl x) (inl y) = inl (join a b x y)
-one_more p k a m b join (inl x) (inr y) = inr (join a k x y.0, y.1)
-one_more p k a m b join (inr x) (inl y) = inr (x.0, join k b x.1 y)
-one_more p k a m b join (inr x) (inr y) = inr (x.0, y.1)
+one_more p k a m b leads_join (inl x) (inl y) = inl (leads_join a b x y)
+one_more p k a m b leads_join (inl x) (inr y) = inr (leads_join a k x y.0, y.1)
+one_more p k a m b leads_join (inr x) (inl y) = inr (x.0, leads_join k b x.1 y)
+one_more p k a m b leads_join (inr x) (inr y) = inr (x.0, y.1)
 
 -- ways are joined at a cell below k
 joined : (p : List Entries) (k a m b : ℕ) → m < k → Through p k a m → Through p k m b → Through p k a b
@@ -53,14 +53,14 @@ abbrev pub LeadTo : List Entries → ℕ → ℕ → Type 0
 LeadTo p a b = (j : ℕ) × LeadsTo p j a b
 
 module _ (p : List Entries) (ok : IsProblem p) where
-  pub join : (a b c : ℕ) → LeadTo p a b → LeadTo p b c → LeadTo p a c
-  join a b c (j, way) (k, further) = (_, join_ways p ok j k a b c way further)
+  pub leads_join : (a b c : ℕ) → LeadTo p a b → LeadTo p b c → LeadTo p a c
+  leads_join a b c (j, way) (k, further) = (_, join_ways p ok j k a b c way further)
 
   a_way : (k a b : ℕ) → Through p k a b → LeadTo p a b
   a_way zero a b (inl e) = (0, e)
   a_way zero a b (inr (x, has, e)) = (1, (x, has, e))
   a_way (suc k) a b (inl way) = a_way k a b way
-  a_way (suc k) a b (inr (to, from)) = join a k b (a_way k a k to) (a_way k k b from)
+  a_way (suc k) a b (inr (to, from)) = leads_join a k b (a_way k a k to) (a_way k k b from)
 
   through : (j a b : ℕ) → LeadsTo p j a b → Through p (length p) a b
   through zero a b e = directly p (length p) a b (inl e)

@@ -22,8 +22,8 @@ module _ {X : Type 0} (f : X → ℕ) where
   weigh_one (x ∷ xs) zero v e = let same : f x ≡ f v = ap f (some-injective x v e) in omega arith
   weigh_one (x ∷ xs) (suc pass) v e = let t = weigh_one xs pass v e in omega arith
 
-pub puts : (n cap pass : ℕ) (v rest : List ℕ) (x : ℕ) → v ≡ x ∷ rest → Pushes (AreOnce n) cap pass v x (λ w. v ≡ x ∷ w)
-puts n cap pass v rest x is items views room once at = (
+pub push_keeps_once : (n cap pass : ℕ) (v rest : List ℕ) (x : ℕ) → v ≡ x ∷ rest → Pushes (AreOnce n) cap pass v x (λ w. v ≡ x ∷ w)
+push_keeps_once n cap pass v rest x is items views room once at = (
   rest,
   (λ h.
       let t = weigh_set (weigh h) views pass v rest at in
@@ -71,8 +71,8 @@ all_counted : (first count : ℕ) → weigh one_each (numbers_from first count) 
 all_counted first zero = refl
 all_counted first (suc count) = let e = all_counted (first + 1) count in omega arith
 
-pub learns : (n pass : ℕ) (v : List ℕ) → Learns (AreOnce n) pass v (λ items. length items + length v ≤ n)
-learns n pass v items views once at =
+pub learned_items_are_few : (n pass : ℕ) (v : List ℕ) → Learns (AreOnce n) pass v (λ items. length items + length v ≤ n)
+learned_items_are_few n pass v items views once at =
     let m = once one_each in
     let a = counted items in
     let b = counted v in

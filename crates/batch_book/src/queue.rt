@@ -71,7 +71,7 @@ impl Split<Held> for NewPass {
 pub(crate) type Queue<N> = RuledArrayQueue<u32, Held, Once<N>>;
 
 /// Puts all job numbers into the queue, in order.
-#[tactic(auto, using(crate::proofs::Queued::puts, crate::proofs::Queued::learns, crate::proofs::Queued::numbers_step, crate::proofs::Queued::same_rest))]
+#[tactic(auto, using(crate::proofs::Queued::push_keeps_once, crate::proofs::Queued::learned_items_are_few, crate::proofs::Queued::numbers_step, crate::proofs::Queued::same_rest))]
 pub(crate) fn push_all<N: Counted, R: Wait>(
     rt: &R,
     queue: &Queue<N>,

@@ -17,7 +17,7 @@ pub use Rattle.cell_balance.specs.{balance, cell_at, deep_flow, deep_low, drain_
 pub use Rattle.cell_balance.specs.{example_problem, example_step, first_cell, first_entries, fixed_flow, full_rate, greater, lesser, link_flow, minus, no_cell}
 pub use Rattle.cell_balance.specs.{no_link, one, over_difference, river_flow, second_cell, second_entries, share, sum_below, sum_inside, third_cell}
 pub use Rattle.cell_balance.specs.{third_entries, total_below, total_inside}
-pub use Rattle.decimal_input.proofs.FloorLaws.{cancel_right, le-add, le-antisym, le-of, mul_mono_right, negated_enclosed, swap}
+pub use Rattle.decimal_input.proofs.FloorLaws.{cancel_right, last_factors_swap, le-add, le-antisym, le-of, mul_mono_right, negated_enclosed}
 pub use Rattle.decimal_input.specs.{Encloses, EnclosesSigned, Fraction, IsBetweenSigned, IsBetweenWhole, IsOver, IsShare, Ratio, as_fraction, fraction_total}
 pub use Rattle.decimal_input.specs.{opposite, whole}
 pub use Rattle.decimal_input.specs.Fractions.{AtMost, Same, den, plus, times}

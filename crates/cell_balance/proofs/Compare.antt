@@ -6,7 +6,7 @@ use Rattle.cell_balance.proofs.Deep.{Bounds, bound_bounds, bounds_trans, add_mul
 use Rattle.cell_balance.proofs.Zips.{AllZip-length, WholeCell, whole_at, whole_balance, CellWithin, WholeLink, whole_link, whole_fixed, whole_river}
 use Rattle.cell_balance.proofs.Zips.{whole_drain, whole_evap, FlowWithin, LinkWithin, FixedWithin, RiverWithin, DrainWithin, EvapWithin}
 use Rattle.cell_balance.proofs.Dry.{IsMutual}
-use Rattle.cell_balance.proofs.Comparison.{comparison}
+use Rattle.cell_balance.proofs.Comparison.{heads_compare}
 use Rattle.cell_balance.proofs.Conducting.{both_ways}
 use Rattle.cell_balance.proofs.HeldBelow.{held_below, cell_within}
 use Rattle.cell_balance.proofs.WholeBalances.{ramps_from, a_of, b_of, q_of, balance_is_net_flow}
@@ -58,7 +58,7 @@ module _ (m n : ℕ) (some_m : 0 < m) (some_n : 0 < n) (p : List Entries) (w : L
     highest : (X Z : ℕ → ℤ) → ((c : ℕ) → c < length p → X c <ℤ Z c → whole_balance (whole_at w c) (X c) X ≤ℤ pos 0) →
         ((c : ℕ) → c < length p → X c <ℤ Z c → pos 0 ≤ℤ whole_balance (whole_at w c) (Z c) Z) → (c : ℕ) → c < length p → Z c ≤ℤ X c
     highest X Z loses gains c i =
-        comparison (length w) (a_of w) (b_of w) (q_of w) (ramps_from 0 w) (both_ways w both) (held_below m n some_m some_n p w within held) 1 X Z (omega arith)
+        heads_compare (length w) (a_of w) (b_of w) (q_of w) (ramps_from 0 w) (both_ways w both) (held_below m n some_m some_n p w within held) 1 X Z (omega arith)
         (λ k j up. rw (← balance_is_net_flow w X k (both.range k j)) (loses k (omega (arith, j, same_length)) up))
         (λ k j up. rw (← balance_is_net_flow w Z k (both.range k j)) (gains k (omega (arith, j, same_length)) up))
         c (omega (arith, i, same_length))

@@ -92,10 +92,10 @@ module _ (n : ℕ) (a : ℕ → ℕ → ℤ) (b : ℕ → ℕ) (q : ℕ → ℤ)
         carried_gain n a T Y (deep n a b q ramps) d both carried.closed some carried.carries (λ k h inside. deep_at_most k h (carried.within k h inside))
 
 -- where each cell with a higher head in Y than in X gains no water at X and loses none at Y, there is none
-pub comparison : (n : ℕ) (a : ℕ → ℕ → ℤ) (b : ℕ → ℕ) (q : ℕ → ℤ) (ramps : List Ramp) → AreMutual n a → IsHeldFromBelow n a b q ramps →
+pub heads_compare : (n : ℕ) (a : ℕ → ℕ → ℤ) (b : ℕ → ℕ) (q : ℕ → ℤ) (ramps : List Ramp) → AreMutual n a → IsHeldFromBelow n a b q ramps →
     (d : ℕ) (X Y : ℕ → ℤ) → 0 < d → ((i : ℕ) → i < n → X i <ℤ Y i → net_flow n a b q ramps d X i ≤ℤ pos 0) → ((i : ℕ) → i < n → X i <ℤ Y i → pos 0 ≤ℤ net_flow n a b q ramps d Y i) →
     (i : ℕ) → i < n → Y i ≤ℤ X i
-comparison n a b q ramps both held d X Y some loses gains i h =
+heads_compare n a b q ramps both held d X Y some loses gains i h =
     let (m, nonneg, above, at) = max_of (λ k. Y k -ℤ X k) n in
     by_lt_z (pos 0) m
     (λ over.

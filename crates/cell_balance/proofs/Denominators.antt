@@ -73,11 +73,11 @@ some_cell : (c : ExactCell) → 0 < cell_den c
 some_cell c = grind (arith, mul-pos, some_product, some_entry)
 
 -- where each element has one that it is related to, so has a list, over a number that the product of its denominators goes into
-pub choose : {X Y : Type 0} (R : X → Y → Type 0) (f : X → ℕ) (d : ℕ) → ((x : X) → Goes (f x) d → (y : Y) × R x y) → (xs : List X) → Goes (product f xs) d → (ys : List Y) × AllZip R xs ys
-choose R f d each [] g = ([], tt)
-choose R f d each (x ∷ xs) g =
+pub all_over_product : {X Y : Type 0} (R : X → Y → Type 0) (f : X → ℕ) (d : ℕ) → ((x : X) → Goes (f x) d → (y : Y) × R x y) → (xs : List X) → Goes (product f xs) d → (ys : List Y) × AllZip R xs ys
+all_over_product R f d each [] g = ([], tt)
+all_over_product R f d each (x ∷ xs) g =
     let (y, r) = each x (left_goes (f x) (product f xs) d g) in
-    let (ys, h) = choose R f d each xs (right_goes (f x) (product f xs) d g) in
+    let (ys, h) = all_over_product R f d each xs (right_goes (f x) (product f xs) d g) in
     (y ∷ ys, (r, h))
 
 -- a cell and a step have a common denominator

@@ -1,10 +1,10 @@
 -- Bounds that enclose an exact step enclose its whole numbers: conductances over m * 10^s, heads over n * 10^9; and such a step is linked.
 use Rattle.cell_balance.proofs.Common.{◌≡◌, ℕ, ◌+◌, ◌*◌, ◌^◌, ◌<◌, ◌≤◌, ap, ◌∙◌, subst, arith, ℤ, pos, ◌*ℤ◌, List, All, AllZip, mul-le-mul_right}
 use Rattle.cell_balance.proofs.Common.{le_of_mul-le-mul_right, Ratio, Fraction, den, IsOver, Encloses, EnclosesSigned, IsShare, IsBetweenWhole, IsBetweenSigned}
-use Rattle.cell_balance.proofs.Common.{cancel_right, mul_mono_right, swap, Flow, Link, Entries, mul_assoc, ExactFlow, ExactLink, ExactCell, FlowEncloses}
-use Rattle.cell_balance.proofs.Common.{LinkEncloses, FixedEncloses, RiverEncloses, DrainEncloses, EvapEncloses, CellEncloses, sym, length, All-get_or}
-use Rattle.cell_balance.proofs.Common.{All-from_get_or, entries_at, no_entries, IsProblem, LinkFits, cell_at, no_cell, AreLinked, no_link, EnclosesStep}
-use Rattle.cell_balance.proofs.Common.{mul_comm}
+use Rattle.cell_balance.proofs.Common.{cancel_right, mul_mono_right, last_factors_swap, Flow, Link, Entries, mul_assoc, ExactFlow, ExactLink, ExactCell}
+use Rattle.cell_balance.proofs.Common.{FlowEncloses, LinkEncloses, FixedEncloses, RiverEncloses, DrainEncloses, EvapEncloses, CellEncloses, sym, length}
+use Rattle.cell_balance.proofs.Common.{All-get_or, All-from_get_or, entries_at, no_entries, IsProblem, LinkFits, cell_at, no_cell, AreLinked, no_link}
+use Rattle.cell_balance.proofs.Common.{EnclosesStep, mul_comm}
 use Rattle.std.proofs.lemmas.Nat.{pow-add}
 use Rattle.cell_balance.proofs.Zips.{AllZip-compose, AllZip-at, AllZip-length, All-zip, WholeLink, WholeEntry, WholeCell, FlowWithin, LinkWithin, EntryWithin}
 use Rattle.cell_balance.proofs.Zips.{FixedWithin, RiverWithin, DrainWithin, EvapWithin, CellWithin}
@@ -26,8 +26,8 @@ pub between_over : (lo hi : ℤ) (s n : ℕ) (f : Fraction) (z : ℤ) → Enclos
 between_over lo hi s n f z h e =
     let both : (f.num *ℤ pos (10 ^ s)) *ℤ pos n ≡ z *ℤ pos (den f) = mul_assoc f.num (pos (10 ^ s)) (pos n) ∙ ap (λ (k : ℕ). f.num *ℤ pos k) (mul_comm (10 ^ s) n) ∙ e.is in
     record {
-      lower = cancel_right (den f) _ _ (omega arith) (rw (swap lo (pos n) (pos (den f)), ← both) (mul_mono_right n _ _ h.lower));
-      upper = cancel_right (den f) _ _ (omega arith) (rw (swap hi (pos n) (pos (den f)), ← both) (mul_mono_right n _ _ h.upper));
+      lower = cancel_right (den f) _ _ (omega arith) (rw (last_factors_swap lo (pos n) (pos (den f)), ← both) (mul_mono_right n _ _ h.lower));
+      upper = cancel_right (den f) _ _ (omega arith) (rw (last_factors_swap hi (pos n) (pos (den f)), ← both) (mul_mono_right n _ _ h.upper));
     }
 
 -- what a problem's type keeps of a cell's links
@@ -83,8 +83,8 @@ module _ (s : ℕ) (p : List Entries) (e : List ExactCell) (fits : IsProblem p) 
   cell_encloses : (c : ℕ) → c < length p → CellEncloses s (entries_at p c) (cell_at e c)
   cell_encloses c i = AllZip-at (CellEncloses s) p e c no_entries no_cell encloses.cells i
 
-  pub linked : AreLinked e
-  linked = record {
+  pub entries_are_linked : AreLinked e
+  entries_are_linked = record {
     range = λ c i. All-zip (LinkEncloses s) (λ x. x.cell < length p) (λ x. x.cell < length e) (λ x y r h. omega (arith, r.cell, h, same_length))
         (entries_at p c).links (cell_at e c).links (cell_encloses c (omega (arith, same_length))).links (fits.links c (omega (arith, same_length))).within;
     apart = λ c i j h less inside same.

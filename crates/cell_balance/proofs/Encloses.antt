@@ -1,14 +1,14 @@
 -- The comparison: from fractions to whole numbers and back.
 use Rattle.cell_balance.proofs.Common.{◌≡◌, ℕ, ◌-◌, ◌*◌, ◌^◌, ◌<◌, sym, ◌∙◌, subst, arith, ℤ, pos, ◌*ℤ◌, List, length, mul-pos, refl, AllZip, IsOver, Ratio}
-use Rattle.cell_balance.proofs.Common.{Fraction, cancel_right, mul_mono_right, swap, mul_assoc, ◌≤ℤ◌, ◌⊎◌, inl, inr, IsProblem, ExactCell, cell_at, no_cell}
-use Rattle.cell_balance.proofs.Common.{balance, share, SolvesStep, Compares, EnclosesStep, ExactFlow, ExactLink, Entries, Side, Low, High, den, mul_comm}
-use Rattle.cell_balance.proofs.Common.{LiesBetween, IsHeldBelow, entries_at, lower_balance, upper_balance}
+use Rattle.cell_balance.proofs.Common.{Fraction, cancel_right, mul_mono_right, last_factors_swap, mul_assoc, ◌≤ℤ◌, ◌⊎◌, inl, inr, IsProblem, ExactCell, cell_at}
+use Rattle.cell_balance.proofs.Common.{no_cell, balance, share, SolvesStep, Compares, EnclosesStep, ExactFlow, ExactLink, Entries, Side, Low, High, den}
+use Rattle.cell_balance.proofs.Common.{mul_comm, LiesBetween, IsHeldBelow, entries_at, lower_balance, upper_balance}
 use Rattle.cell_balance.proofs.Zips.{AllZip-at, AllZip-length, CellWithin, WholeCell, whole_at, no_whole, whole_balance, WholeLink, WholeEntry}
 use Rattle.cell_balance.proofs.Scaling.{zero_over}
 use Rattle.cell_balance.proofs.Over.{CellOver, balance_over, FlowOver, LinkOver, EntryOver, FixedOver, RiverOver, DrainOver, EvapOver}
 use Rattle.cell_balance.proofs.Denominators.{Goes, share_over, fraction_over, left_goes, right_goes, flow_den, link_den, entry_den, fixed_den, river_den}
-use Rattle.cell_balance.proofs.Denominators.{drain_den, evap_den, cell_den, product, choose, step_common}
-use Rattle.cell_balance.proofs.Enclosed.{step_within, linked, links_good}
+use Rattle.cell_balance.proofs.Denominators.{drain_den, evap_den, cell_den, product, all_over_product, step_common}
+use Rattle.cell_balance.proofs.Enclosed.{step_within, entries_are_linked, links_good}
 use Rattle.cell_balance.proofs.Mutual.{mutual_whole}
 use Rattle.cell_balance.proofs.Compare.{compare}
 use Rattle.cell_balance.proofs.Deep.{Bounds, le_trans_z}
@@ -28,8 +28,8 @@ module _ (d a b : ℕ) where
   pub link : (e : ExactLink) → Goes (link_den e) d → (w : WholeLink) × LinkOver (d * a) (d * b) e w
   link e g = let (c, share) = share_over d a e.conductance g in (record { cell = e.cell; c = c }, record { same = refl; c = share })
 
-  pub entry : (r : Ratio) (top foot : Fraction) → Goes (entry_den r top foot) d → (w : WholeEntry) × EntryOver (d * a) (d * b) r top foot w
-  entry r top foot g =
+  pub entry_over_denominator : (r : Ratio) (top foot : Fraction) → Goes (entry_den r top foot) d → (w : WholeEntry) × EntryOver (d * a) (d * b) r top foot w
+  entry_over_denominator r top foot g =
       let (c, share) = share_over d a r (left_goes (ratio_den r) (den top * den foot) d g) in
       let both = right_goes (ratio_den r) (den top * den foot) d g in
       let (z, high) = fraction_over d b top (left_goes (den top) (den foot) d both) in
@@ -42,18 +42,18 @@ module _ (d a b : ℕ) where
       let to_fixed = right_goes _ _ d to_links in
       let to_rivers = right_goes _ _ d to_fixed in
       let to_drains = right_goes _ _ d to_rivers in
-      let (flows, f) = choose (FlowOver (d * a) (d * b)) flow_den d flow e.flows (left_goes _ _ d g) in
-      let (links, l) = choose (LinkOver (d * a) (d * b)) link_den d link e.links (left_goes _ _ d to_links) in
-      let (fixeds, h) = choose (FixedOver (d * a) (d * b)) fixed_den d (λ x. entry x.conductance x.head x.head) e.fixed (left_goes _ _ d to_fixed) in
-      let (rivers, r) = choose (RiverOver (d * a) (d * b)) river_den d (λ x. entry x.conductance x.stage x.bottom) e.rivers (left_goes _ _ d to_rivers) in
-      let (drains, n) = choose (DrainOver (d * a) (d * b)) drain_den d (λ x. entry x.conductance x.elevation x.elevation) e.drains (left_goes _ _ d to_drains) in
-      let (evaps, v) = choose (EvapOver (d * a) (d * b)) evap_den d (λ x. entry x.conductance x.surface x.extinction) e.evaps (right_goes _ _ d to_drains) in (
+      let (flows, f) = all_over_product (FlowOver (d * a) (d * b)) flow_den d flow e.flows (left_goes _ _ d g) in
+      let (links, l) = all_over_product (LinkOver (d * a) (d * b)) link_den d link e.links (left_goes _ _ d to_links) in
+      let (fixeds, h) = all_over_product (FixedOver (d * a) (d * b)) fixed_den d (λ x. entry_over_denominator x.conductance x.head x.head) e.fixed (left_goes _ _ d to_fixed) in
+      let (rivers, r) = all_over_product (RiverOver (d * a) (d * b)) river_den d (λ x. entry_over_denominator x.conductance x.stage x.bottom) e.rivers (left_goes _ _ d to_rivers) in
+      let (drains, n) = all_over_product (DrainOver (d * a) (d * b)) drain_den d (λ x. entry_over_denominator x.conductance x.elevation x.elevation) e.drains (left_goes _ _ d to_drains) in
+      let (evaps, v) = all_over_product (EvapOver (d * a) (d * b)) evap_den d (λ x. entry_over_denominator x.conductance x.surface x.extinction) e.evaps (right_goes _ _ d to_drains) in (
         record { flows = flows; links = links; fixed = fixeds; rivers = rivers; drains = drains; evaps = evaps },
         record { flows = f; links = l; fixed = h; rivers = r; drains = n; evaps = v },
       )
 
   pub whole_step : (e : List ExactCell) → Goes (product cell_den e) d → (w : List WholeCell) × AllZip (CellOver (d * a) (d * b)) e w
-  whole_step e g = choose (CellOver (d * a) (d * b)) cell_den d whole_cell e g
+  whole_step e g = all_over_product (CellOver (d * a) (d * b)) cell_den d whole_cell e g
 
 -- a numerator over d, over a multiple of d
 pub share_is : (d j : ℕ) (z : ℤ) → 0 < d → IsOver (d * j) (share d z) (z *ℤ pos j)
@@ -92,7 +92,7 @@ whole_solution p s e d X problem encloses some solves =
         some = some_n;
         some_heads = mul-pos some_n some;
         within = step_within s n (n * d) (length p) p e w encloses.cells over (links_good p problem);
-        both = mutual_whole (n * 10 ^ s) (n * d * 10 ^ 9) e w (linked s p e problem encloses) over;
+        both = mutual_whole (n * 10 ^ s) (n * d * 10 ^ 9) e w (entries_are_linked s p e problem encloses) over;
         solves = whole_solves (n * 10 ^ s) (n * d * 10 ^ 9) e w d X (whole_head n X) over solves (λ c. heads_over n c);
       },
     )
@@ -113,7 +113,7 @@ whole_solution p s e d X problem encloses some solves =
 -- a bound over d is one over n * d, and back
 module _ (n d : ℕ) (a y : ℤ) where
   spread : a *ℤ pos (n * d) ≡ (a *ℤ pos d) *ℤ pos n
-  spread = sym (swap a (pos d) (pos n) ∙ mul_assoc a (pos n) (pos d))
+  spread = sym (last_factors_swap a (pos d) (pos n) ∙ mul_assoc a (pos n) (pos d))
 
   bound_over : (side : Side) → Bounds side (a *ℤ pos d) y → Bounds side (a *ℤ pos (n * d)) (y *ℤ pos n)
   bound_over Low h = rw spread (mul_mono_right n _ _ h)
@@ -136,8 +136,8 @@ module _ (p : List Entries) (l u : ℕ → ℤ) (s : ℕ) (e : List ExactCell) (
         high = λ c i. bound_back n d _ _ High whole.some (on u High (λ k j. elim (high k j) [ inl lies ↦ inl (bound_over n d _ _ High lies) | inr can ↦ inr can ]) c i);
       }
 
-pub compares : Compares
-compares p b l u s e d X given =
+pub certified_bounds_enclose : Compares
+certified_bounds_enclose p b l u s e d X given =
     bounds_enclose p l u s e d X given.problem given.held given.encloses given.some given.solves
     (λ c i. elim (given.certificate.low c i) [ inl under ↦ inl (le_trans_z _ _ _ (mul_mono_right d _ _ under) (given.barrier.low c i)) | inr can ↦ inr can ])
     (λ c i. elim (given.certificate.high c i) [ inl over ↦ inl (le_trans_z _ _ _ (given.barrier.high c i) (mul_mono_right d _ _ over)) | inr can ↦ inr can ])

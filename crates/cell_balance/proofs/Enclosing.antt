@@ -2,9 +2,10 @@
 use Rattle.cell_balance.proofs.Common.{◌≡◌, ℕ, zero, suc, ◌*◌, ◌^◌, ◌<◌, refl, arith, List, [], ◌∷◌, Bool, true, false, map, ℤ, pos, neg_ℤ, ◌+ℤ◌, mul-pos, ◌≤ℤ◌}
 use Rattle.cell_balance.proofs.Common.{sym, ap, ◌∙◌, ◌*ℤ◌, ◌<ℤ◌, filter, AllZip, int_max, ints, clamps, by_lt_z, Fraction, whole, opposite, fraction_total}
 use Rattle.cell_balance.proofs.Common.{EnclosesSigned, IsOver, den, plus, AtMost, Same, total, greater, sum_below, total_below, sum_inside, total_inside}
-use Rattle.cell_balance.proofs.Common.{IsBelow, le-add, le-antisym, le-of, negated_enclosed, cancel_right, mul_mono_right, swap, zero-*ℤ, mul_assoc, mul_comm}
+use Rattle.cell_balance.proofs.Common.{IsBelow, le-add, le-antisym, le-of, negated_enclosed, cancel_right, mul_mono_right, last_factors_swap, zero-*ℤ}
+use Rattle.cell_balance.proofs.Common.{mul_assoc, mul_comm}
 use Rattle.cell_balance.proofs.Deep.{add_mul}
-use Rattle.cell_balance.proofs.Scaling.{IsOver-plus, IsOver-greater, IsOver-none, max_times, crossed, crossed_back}
+use Rattle.cell_balance.proofs.Scaling.{IsOver-plus, IsOver-greater, IsOver-none, max_times, over_is_cross_product, crossed_back}
 use Rattle.cell_balance.proofs.Enclosed.{between_over}
 use Rattle.cell_balance.proofs.Denominators.{Goes, Goes-first, Goes-second, fraction_over}
 
@@ -12,11 +13,11 @@ use Rattle.cell_balance.proofs.Denominators.{Goes, Goes-first, Goes-second, frac
 pub over_le : (d : ℕ) (f g : Fraction) (a b : ℤ) → IsOver d f a → IsOver d g b → AtMost f g → a ≤ℤ b
 over_le d f g a b p q h =
     cancel_right (den f * den g) a b (omega arith)
-    (rw (crossed d f a (den g) p, crossed_back d f g b q) at (mul_mono_right d _ _ h.at_most))
+    (rw (over_is_cross_product d f a (den g) p, crossed_back d f g b q) at (mul_mono_right d _ _ h.at_most))
 
 pub le_over : (d : ℕ) (f g : Fraction) (a b : ℤ) → 0 < d → IsOver d f a → IsOver d g b → a ≤ℤ b → AtMost f g
 le_over d f g a b some p q h = record {
-  at_most = cancel_right d _ _ some (rw (crossed d f a (den g) p, crossed_back d f g b q) (mul_mono_right (den f * den g) a b h));
+  at_most = cancel_right d _ _ some (rw (over_is_cross_product d f a (den g) p, crossed_back d f g b q) (mul_mono_right (den f * den g) a b h));
 }
 
 pub IsOver-below : (d n : ℕ) (f : ℕ → Fraction) (g : ℕ → ℤ) → ((k : ℕ) → k < n → IsOver d (f k) (g k)) → IsOver d (total_below n f) (sum_below n g)
@@ -52,8 +53,8 @@ pub enclosed_over : (lo hi : ℤ) (s n : ℕ) (f : Fraction) (z : ℤ) → 0 < n
 enclosed_over lo hi s n f z some e low high =
     let both : (f.num *ℤ pos (10 ^ s)) *ℤ pos n ≡ z *ℤ pos (den f) = mul_assoc f.num (pos (10 ^ s)) (pos n) ∙ ap (λ (k : ℕ). f.num *ℤ pos k) (mul_comm (10 ^ s) n) ∙ e.is in
     record {
-      lower = cancel_right n _ _ some (rw (swap lo (pos (den f)) (pos n), both) (mul_mono_right (den f) _ _ low));
-      upper = cancel_right n _ _ some (rw (swap hi (pos (den f)) (pos n), both) (mul_mono_right (den f) _ _ high));
+      lower = cancel_right n _ _ some (rw (last_factors_swap lo (pos (den f)) (pos n), both) (mul_mono_right (den f) _ _ low));
+      upper = cancel_right n _ _ some (rw (last_factors_swap hi (pos (den f)) (pos n), both) (mul_mono_right (den f) _ _ high));
     }
 
 same : (a : ℕ) → Goes a a

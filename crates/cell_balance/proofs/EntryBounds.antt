@@ -12,7 +12,7 @@ use Rattle.cell_balance.proofs.EntryFlows.{difference_over}
 use Rattle.cell_balance.proofs.Denominators.{Goes, Goes-first, Goes-second, fraction_over, share_over, left_goes, right_goes, link_den, entry_den, some_entry}
 use Rattle.cell_balance.proofs.Zips.{WholeEntry}
 use Rattle.cell_balance.proofs.Over.{EntryOver, fixed_over, river_over, drain_over, evap_over}
-use Rattle.cell_balance.proofs.Encloses.{entry}
+use Rattle.cell_balance.proofs.Encloses.{entry_over_denominator}
 
 -- an entry's flow in whole numbers over d and d, with its head
 enclosed : (s d : ℕ) (f : Fraction) (z lo hi : ℤ) → 0 < d → IsOver (d * 10 ^ s * (d * 10 ^ 9)) f z → (lo *ℤ pos (d * d)) ≤ℤ z → z ≤ℤ (hi *ℤ pos (d * d)) → EnclosesSigned lo hi (s + 9) f
@@ -31,7 +31,7 @@ module _ (s : ℕ) (v : Fraction) (l u : ℤ) (own : EnclosesSigned l u 9 v) whe
   entry_holds k r top foot f bound seen =
       let d = den v * entry_den r top foot in
       let (y, over, between) = head d (Goes-first (den v) _) in
-      let (w, e) = entry d (10 ^ s) (10 ^ 9) r top foot (Goes-second (den v) _) in
+      let (w, e) = entry_over_denominator d (10 ^ s) (10 ^ 9) r top foot (Goes-second (den v) _) in
       let (is, by) = seen d y over w e in
       enclosed s d f (whole_flow k y w) _ _ (mul-pos (omega arith) (some_entry r top foot)) is
       (seen_bounds Low k d d (bound Low) w (by Low) u y between.upper) (seen_bounds High k d d (bound High) w (by High) l y between.lower)

@@ -7,7 +7,7 @@ use Rattle.cell_balance.proofs.Scaling.{IsOver-times, IsOver-minus, IsOver-negat
 use Rattle.cell_balance.proofs.Enclosing.{over_le, le_over, same_over, negative_over, negative_below, positive_above, below_over}
 use Rattle.cell_balance.proofs.Denominators.{Goes-second, fraction_over, entry_den, some_entry}
 use Rattle.cell_balance.proofs.Over.{EntryOver, FixedOver, RiverOver, DrainOver, EvapOver, fixed_over, river_over, drain_over, evap_over, full_over}
-use Rattle.cell_balance.proofs.Encloses.{entry}
+use Rattle.cell_balance.proofs.Encloses.{entry_over_denominator}
 use Rattle.cell_balance.proofs.Dry.{evap_within_full}
 use Rattle.cell_balance.proofs.Zips.{WholeEntry, whole_fixed, whole_river, whole_drain, whole_evap, whole_full}
 
@@ -114,7 +114,7 @@ module _ (v : Fraction) (r : Ratio) (top foot : Fraction) where
   by_wholes law =
       let d = den v * entry_den r top foot in
       let some : 0 < d = mul-pos (omega arith) (some_entry r top foot) in
-      let (w, over) = entry d 1 1 r top foot (Goes-second (den v) (entry_den r top foot)) in
+      let (w, over) = entry_over_denominator d 1 1 r top foot (Goes-second (den v) (entry_den r top foot)) in
       let (y, own) = fraction_over d 1 v (entry_den r top foot, refl) in
       law (d * 1) (d * 1) (omega (arith, some)) (omega (arith, some)) y own w over
 

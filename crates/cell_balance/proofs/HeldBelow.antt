@@ -73,11 +73,11 @@ module _ (m n : ℕ) (some_m : 0 < m) (some_n : 0 < n) (p : List Entries) (w : L
         (entries_at p c).links (whole_at w c).links (cell_within m n p w within c i).links
         (links_lead_to_weight (λ k. S k ≡ true) (length w) (whole_at w c).links (λ k k_in conducts. closed c k (omega (arith, i, as_many)) k_in inside conducts))
 
-    pub along : (S : ℕ → Bool) → IsClosed (length w) (a_of w) S → (j c k : ℕ) → c < length p → S c ≡ true → LeadsTo p j c k → (k < length p) × (S k ≡ true)
-    along S closed zero c k i inside way = (subst (λ (z : ℕ). z < length p) way i, subst (λ (z : ℕ). S z ≡ true) way inside)
-    along S closed (suc j) c k i inside (x, has, way) =
+    pub closed_set_holds_lead : (S : ℕ → Bool) → IsClosed (length w) (a_of w) S → (j c k : ℕ) → c < length p → S c ≡ true → LeadsTo p j c k → (k < length p) × (S k ≡ true)
+    closed_set_holds_lead S closed zero c k i inside way = (subst (λ (z : ℕ). z < length p) way i, subst (λ (z : ℕ). S z ≡ true) way inside)
+    closed_set_holds_lead S closed (suc j) c k i inside (x, has, way) =
         let (range, there) = All-contains (λ x. (x.cell < length p) × (S x.cell ≡ true)) (entries_at p c).links x (goes_on S closed c i inside) has in
-        along S closed j x.cell k range there way
+        closed_set_holds_lead S closed j x.cell k range there way
 
     -- what certainly conducts in the problem conducts
     pub some_conducts : (lo hi c : ℕ) → IsBetweenWhole lo hi m c → c ≡ 0 → 0 < lo → ⊥
@@ -93,7 +93,7 @@ module _ (m n : ℕ) (some_m : 0 < m) (some_n : 0 < n) (p : List Entries) (w : L
         let i : c < length p = omega (arith, h, as_many) in
         elim (held c i) [
           | inl (j, (a, way, (x, has, conducts))) ↦
-              let (a_in, there) = along S closed j c a i inside way in
+              let (a_in, there) = closed_set_holds_lead S closed j c a i inside way in
               absurd (All-contains (λ x. 0 < x.lo → ⊥) (entries_at p a).fixed x (no_fixed a a_in (none a (omega (arith, a_in, as_many)) there)) has conducts)
           | inr carried ↦ (
             carried.inside,
@@ -101,9 +101,9 @@ module _ (m n : ℕ) (some_m : 0 < m) (some_n : 0 < n) (p : List Entries) (w : L
               closed = λ k z k_in z_in k_inside conducts.
                   weight_is_of_links (λ y. carried.inside y ≡ true) (whole_at w k).links z
                   (closed_links m n p w within c carried.inside carried.component k (omega (arith, k_in, as_many)) k_inside) conducts;
-              within = λ k k_in k_inside. let (j, way) = carried.component.reached k k_inside in (along S closed j c k i inside way).1;
+              within = λ k k_in k_inside. let (j, way) = carried.component.reached k k_inside in (closed_set_holds_lead S closed j c k i inside way).1;
               carries = sums carried.inside carried.carries (λ k k_in k_inside.
-                  let (j, way) = carried.component.reached k k_inside in none k (omega (arith, k_in, as_many)) (along S closed j c k i inside way).1);
+                  let (j, way) = carried.component.reached k k_inside in none k (omega (arith, k_in, as_many)) (closed_set_holds_lead S closed j c k i inside way).1);
             },
           )
         ]

@@ -2,7 +2,7 @@
 use Rattle.cell_balance.proofs.Common.{◌≡◌, ℕ, zero, suc, ◌+◌, ◌*◌, ◌<◌, sym, ap, ◌∙◌, arith, ℤ, pos, neg_ℤ, ◌+ℤ◌, ◌-ℤ◌, ◌*ℤ◌, List, [], ◌∷◌, ◌≤◌, refl, negsuc}
 use Rattle.cell_balance.proofs.Common.{◌≤ℤ◌, ◌<ℤ◌, AllZip, int_max, int_min, ints, clamps, by_lt_z, zero-*ℤ, Ratio, Fraction, whole, as_fraction, opposite}
 use Rattle.cell_balance.proofs.Common.{fraction_total, IsOver, IsShare, den, plus, times, diffs, as_diff, same_diff, mul_mono, mul_add, neg_mul, total, minus}
-use Rattle.cell_balance.proofs.Common.{greater, lesser, mul_mono_right, swap, mul-le-mul_right, *ℤ_comm}
+use Rattle.cell_balance.proofs.Common.{greater, lesser, mul_mono_right, last_factors_swap, mul-le-mul_right, *ℤ_comm}
 
 -- Order laws of products with whole conductances, and what holds at a cell whose excess over its solution is the greatest, on either side.
 -- a product with a positive number is zero only where the other factor is
@@ -90,20 +90,20 @@ min_times k a b =
     (λ h. let e : int_min a b ≡ b = omega (arith, ints, clamps) in let m = mul_mono_right k b a h in ap (λ (z : ℤ). z *ℤ pos k) e ∙ omega (arith, ints, clamps))
 
 -- f crossed with the other denominator, over d
-pub crossed : (d : ℕ) (f : Fraction) (a : ℤ) (k : ℕ) → IsOver d f a → (f.num *ℤ pos k) *ℤ pos d ≡ a *ℤ (pos (den f) *ℤ pos k)
-crossed d f a k p = swap f.num (pos k) (pos d) ∙ ap (λ (z : ℤ). z *ℤ pos k) p.is ∙ assoc a (pos (den f)) (pos k)
+pub over_is_cross_product : (d : ℕ) (f : Fraction) (a : ℤ) (k : ℕ) → IsOver d f a → (f.num *ℤ pos k) *ℤ pos d ≡ a *ℤ (pos (den f) *ℤ pos k)
+over_is_cross_product d f a k p = last_factors_swap f.num (pos k) (pos d) ∙ ap (λ (z : ℤ). z *ℤ pos k) p.is ∙ assoc a (pos (den f)) (pos k)
   where
     assoc : (a b c : ℤ) → (a *ℤ b) *ℤ c ≡ a *ℤ (b *ℤ c)
     assoc a b c = rw (as_diff a, as_diff b, as_diff c) (simp diffs (same_diff _ _ _ _ (omega arith)))
 
 pub crossed_back : (d : ℕ) (f g : Fraction) (b : ℤ) → IsOver d g b → (g.num *ℤ pos (den f)) *ℤ pos d ≡ b *ℤ (pos (den f) *ℤ pos (den g))
-crossed_back d f g b q = crossed d g b (den f) q ∙ ap (λ (k : ℤ). b *ℤ k) (*ℤ_comm (pos (den g)) (pos (den f)))
+crossed_back d f g b q = over_is_cross_product d g b (den f) q ∙ ap (λ (k : ℤ). b *ℤ k) (*ℤ_comm (pos (den g)) (pos (den f)))
 
 pub IsOver-greater : (d : ℕ) (f g : Fraction) (a b : ℤ) → IsOver d f a → IsOver d g b → IsOver d (greater f g) (int_max a b)
-IsOver-greater d f g a b p q = grind (arith, max_times, crossed, crossed_back, den_product)
+IsOver-greater d f g a b p q = grind (arith, max_times, over_is_cross_product, crossed_back, den_product)
 
 pub IsOver-lesser : (d : ℕ) (f g : Fraction) (a b : ℤ) → IsOver d f a → IsOver d g b → IsOver d (lesser f g) (int_min a b)
-IsOver-lesser d f g a b p q = grind (arith, min_times, crossed, crossed_back, den_product)
+IsOver-lesser d f g a b p q = grind (arith, min_times, over_is_cross_product, crossed_back, den_product)
 
 pub IsOver-total : {X Y : Type 0} (R : X → Y → Type 0) (d : ℕ) (f : X → Fraction) (g : Y → ℤ) → ((x : X) (y : Y) → R x y → IsOver d (f x) (g y)) →
     (xs : List X) (ys : List Y) → AllZip R xs ys → IsOver d (fraction_total f xs) (total g ys)

@@ -34,7 +34,7 @@ pub fn dry_cells()
 {}
 
 /// Where each component is anchored or carried, a certificate over a barrier encloses every solution that the barrier encloses, on both sides.
-#[tactic(auto, using(crate::proofs::Encloses::compares))]
+#[tactic(auto, using(crate::proofs::Encloses::certified_bounds_enclose))]
 pub fn comparison()
     ensures { Compares }
 {}

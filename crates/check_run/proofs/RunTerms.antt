@@ -7,11 +7,11 @@ use Rattle.std.specs.Int.Signed.{lt_z}
 use Rattle.step_problem.specs.declared.place.Term.TheVariants.{Et}
 use Rattle.problem_builder.proofs.Joined.{AllZip-weaker}
 use Rattle.budget_bounds.proofs.Caps.{parts_lo, parts_hi}
-use Rattle.listing_io.proofs.Terms.{same_ok, goes, clash}
+use Rattle.listing_io.proofs.Terms.{same_ok, bind_goes_through, ok_is_not_err}
 
 tested : (test : Bool) (q x : TermPair) (e : NoBound) → (if test then Ok q else Err e) ≡ Ok x → (test ≡ true) × (x ≡ q)
 tested true q x e h = (refl, sym (same_ok q x (Ok q) refl h))
-tested false q x e h = absurd (clash e x (Err e) refl h)
+tested false q x e h = absurd (ok_is_not_err e x (Err e) refl h)
 
 -- a sum of flows
 none_below : (n : ℕ) (f : ℕ → ℤ) → ((c : ℕ) → pos 0 ≤ℤ f c) → pos 0 ≤ℤ sum_below n f
@@ -42,16 +42,16 @@ module _ (p : List Entries) (l u : ℕ → ℤ) where
   unfolding terms_of
   terms_are dir [] xs h = let P : List TermPair → Type 0 = AllZip (IsTermOf dir) [] in subst P (same_ok [] xs (Ok []) refl h) tt
   terms_are dir (t ∷ ts) xs h =
-      let a = goes (term_of p l u dir t) _ xs h in
-      let b = goes (terms_of p l u dir ts) _ xs a.then_ in
+      let a = bind_goes_through (term_of p l u dir t) _ xs h in
+      let b = bind_goes_through (terms_of p l u dir ts) _ xs a.then_ in
       let P : List TermPair → Type 0 = AllZip (IsTermOf dir) (t ∷ ts) in
       subst P (same_ok (a.item ∷ b.item) xs (Ok (a.item ∷ b.item)) refl b.then_) (term_is dir t a.item a.first, terms_are dir ts b.item b.first)
 
   pub budget_are : (b : Budget) → budget_of p l u ≡ Ok b → AllZip (IsTermOf In) all_terms b.into × AllZip (IsTermOf Out) all_terms b.out
   unfolding budget_of
   budget_are b h =
-      let i = goes (terms_of p l u In all_terms) _ b h in
-      let o = goes (terms_of p l u Out all_terms) _ b i.then_ in
+      let i = bind_goes_through (terms_of p l u In all_terms) _ b h in
+      let o = bind_goes_through (terms_of p l u Out all_terms) _ b i.then_ in
       let P : Budget → Type 0 = λ x. AllZip (IsTermOf In) all_terms x.into × AllZip (IsTermOf Out) all_terms x.out in
       let made : Budget = record { into = i.item; out = o.item } in
       subst P (same_ok made b (Ok made) refl o.then_) (terms_are In all_terms i.item i.first, terms_are Out all_terms o.item o.first)

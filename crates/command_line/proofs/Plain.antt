@@ -40,8 +40,8 @@ all_true a b c h = let p = and_parts (a && b) c h in let q = and_parts a b p.0 i
 joined_true : (a b c : Bool) → a ≡ true → b ≡ true → c ≡ true → (a && b && c) ≡ true
 joined_true a b c x y z = rw (x, y, z) refl
 
-pub plain : (low high n : ℕ) (text : List ℕ) → is_number low high text n ≡ true → (text ≡ decimal n) × (low ≤ n) × (n ≤ high)
-plain low high n text h =
+pub number_word_is_decimal : (low high n : ℕ) (text : List ℕ) → is_number low high text n ≡ true → (text ≡ decimal n) × (low ≤ n) × (n ≤ high)
+number_word_is_decimal low high n text h =
     let p = all_true (bytes_eq text (decimal n)) (nat_le low n) (nat_le n high) h in
     ((bytes_eq-Decides text (decimal n)).0 p.0, leb-true low n p.1, leb-true n high p.2)
 
@@ -50,14 +50,14 @@ tested low high n text is a b = joined_true (bytes_eq text (decimal n)) (nat_le 
 
 pub no_parse : {E : Type 0} (low high : ℕ) (text : List ℕ) (r : Result ℕ E) → ParsesUnsigned 32 10 text r → ((x : ℕ) → r ≡ Ok x → ⊥) → high < 2 ^ 32 → None ≡ number_in low high text
 no_parse low high text r parses none small = no_number low high text (λ t.
-    let p = plain low high (digits_value 10 text) text t in
+    let p = number_word_is_decimal low high (digits_value 10 text) text t in
     let within = p.2 in
     none (digits_value 10 text) (parse-decimal 32 (digits_value 10 text) text r (omega (arith, within, small)) (omega (arith, within, small)) p.0 parses))
 
 pub other_number : {E : Type 0} (low high n : ℕ) (text : List ℕ) (r : Result ℕ E) → ParsesUnsigned 32 10 text r → r ≡ Ok n → high < 2 ^ 32 →
     (is_number low high text n ≡ true → ⊥) → None ≡ number_in low high text
 other_number low high n text r parses is small none = no_number low high text (λ t.
-    let p = plain low high (digits_value 10 text) text t in
+    let p = number_word_is_decimal low high (digits_value 10 text) text t in
     let within = p.2 in
     let e = parse-decimal 32 (digits_value 10 text) text r (omega (arith, within, small)) (omega (arith, within, small)) p.0 parses in
     let same : digits_value 10 text ≡ n = cc in

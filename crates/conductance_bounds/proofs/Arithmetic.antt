@@ -27,14 +27,14 @@ unfolding reach
 reach_within x n h k = omega (arith, by_near x.lo.e n h, by_near x.hi.e n k)
 
 -- both decimals of two spans as operands, of one side and of both
-pub operands : (x y : Span) → IsOrdered x → IsOrdered y → reach x + reach y ≤ 10000 → AreOperands x.lo y.lo × AreOperands x.hi y.hi
-operands x y p q h = (
+pub spans_are_operands : (x y : Span) → IsOrdered x → IsOrdered y → reach x + reach y ≤ 10000 → AreOperands x.lo y.lo × AreOperands x.hi y.hi
+spans_are_operands x y p q h = (
   record { a_decimal = p.low; b_decimal = q.low; a_near = low_near x 10000 (omega (arith, h)); b_near = low_near y 10000 (omega (arith, h)) },
   record { a_decimal = p.high; b_decimal = q.high; a_near = high_near x 10000 (omega (arith, h)); b_near = high_near y 10000 (omega (arith, h)) },
 )
 
 pub cross_operands : (x y : Span) → IsOrdered x → IsOrdered y → reach x + reach y ≤ 10000 → AreOperands x.lo y.hi × AreOperands x.hi y.lo
-cross_operands x y p q h = let (l, r) = operands x y p q h in (
+cross_operands x y p q h = let (l, r) = spans_are_operands x y p q h in (
   record { a_decimal = l.a_decimal; b_decimal = r.b_decimal; a_near = l.a_near; b_near = r.b_near },
   record { a_decimal = r.a_decimal; b_decimal = l.b_decimal; a_near = r.a_near; b_near = l.b_near },
 )

@@ -21,7 +21,7 @@ pub use Rattle.conductance_bounds.specs.declared.pair.Pair.{Pair}
 pub use Rattle.conductance_bounds.specs.declared.part.Part.{Part}
 pub use Rattle.conductance_bounds.specs.declared.span.Span.{Span}
 pub use Rattle.decimal_input.proofs.Differences.{as_diff, diffs, same_diff}
-pub use Rattle.decimal_input.proofs.FloorLaws.{add_times, cancel_right, mul_mono_right, neg_times, swap}
+pub use Rattle.decimal_input.proofs.FloorLaws.{add_times, cancel_right, last_factors_swap, mul_mono_right, neg_times}
 pub use Rattle.decimal_input.proofs.Orders.{AtMost-refl, AtMost-trans, Same-AtMost, Same-back, Same-sym, Same-trans, den_over, den_plus, den_times, num_over}
 pub use Rattle.decimal_input.proofs.Orders.{num_plus, num_times, over-AtMost, plus-AtMost, times-AtMost}
 pub use Rattle.decimal_input.proofs.Powers.{cross_of, den_scaled, num_scaled, power_within, scaled-AtMost, scaled_shift, ten_pos}

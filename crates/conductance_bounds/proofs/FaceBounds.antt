@@ -6,9 +6,9 @@ use Rattle.conductance_bounds.proofs.Common.{column_conductance, vertical_half, 
 use Rattle.conductance_bounds.proofs.Common.{column_k_term, thick_term, span, stride, FacesEnclose, bed_span}
 use Rattle.model_types.specs.declared.face.Axis.{Axis}
 use Rattle.model_types.specs.declared.face.Axis.TheVariants.{Row, Column, Vertical}
-use Rattle.conductance_bounds.proofs.Sides.{exact_positive, product, size_positive, within}
+use Rattle.conductance_bounds.proofs.Sides.{exact_positive, product_is_factor, size_positive, within_is_factor}
 use Rattle.conductance_bounds.proofs.LayerBounds.{IsLayerHalf, IsBedded, layers_give, no_bed, some_bed}
-use Rattle.conductance_bounds.proofs.Manual.{Gives, encloses, row_gives}
+use Rattle.conductance_bounds.proofs.Manual.{Gives, term_pair_encloses, row_gives}
 use Rattle.conductance_bounds.proofs.Ready.{IsReady, is_ready}
 use Rattle.conductance_bounds.proofs.SpanBounds.{thick_positive}
 use Rattle.conductance_bounds.proofs.ThickBounds.{span_positive, thick_between}
@@ -20,10 +20,10 @@ pub no_gap : (f g : Fraction) → f ≡ g → (gap g f).num ≡ 0
 no_gap f g e = ap (λ h. (gap g h).num) e ∙ none_between (g.num *ℤ pos (suc g.less))
 
 -- two layers have a vertical conductivity
-pub layered : (layers size a : ℕ) → a + size < layers * size → 1 < layers
-layered zero size a h = absurd (omega (arith, h))
-layered (suc zero) size a h = absurd (omega (arith, h))
-layered (suc (suc k)) size a h = omega arith
+pub cell_below_means_layers : (layers size a : ℕ) → a + size < layers * size → 1 < layers
+cell_below_means_layers zero size a h = absurd (omega (arith, h))
+cell_below_means_layers (suc zero) size a h = absurd (omega (arith, h))
+cell_below_means_layers (suc (suc k)) size a h = omega arith
 
 module _ (m : FlowModel) where
   row_face : (a : ℕ) → IsReady m a → IsReady m (a + stride m.grid Row) → Gives (face_term m Row a) (conductance m Row a)
@@ -36,7 +36,7 @@ module _ (m : FlowModel) where
   unfolding column_conductance
   column_face a p q =
       row_gives _ _ (column_k_term m a) (thick_term m a) _ (column_k_term m (a + stride m.grid Column)) (thick_term m (a + stride m.grid Column))
-      p.delr p.delc q.delc (product p.hk p.hani) p.thick (product q.hk q.hani) q.thick
+      p.delr p.delc q.delc (product_is_factor p.hk p.hani) p.thick (product_is_factor q.hk q.hani) q.thick
 
   abbrev bed_thick_term : ℕ → Term
   bed_thick_term a = Within (bed_span m a).lo (bed_span m a).hi (bed_thickness m a)
@@ -62,7 +62,7 @@ module _ (m : FlowModel) where
           let above = bottom_at m a in
           let below = lowest m a in
           some_bed _ (bed_thick_term a) _ (thick_positive above below k.thick) (size_positive (vkcb_at m a) k.vkcb)
-          (within (span above below).lo (span above below).hi (bed_thickness m a) (span_positive above below k.thick) (thick_between above below k.thick))
+          (within_is_factor (span above below).lo (span above below).hi (bed_thickness m a) (span_positive above below k.thick) (thick_between above below k.thick))
     ])
     | inr e ↦
         let same = ap (λ b. number (cond b (dec_at m.grid.bed_bottom a) (dec_at m.grid.bottom a))) e in
@@ -76,11 +76,11 @@ module _ (m : FlowModel) where
   face_gives valid Row a lt x y = row_face a (is_ready m a valid (omega (arith, lt)) x) (is_ready m (a + 1) valid lt y)
   face_gives valid Column a lt x y = column_face a (is_ready m a valid (omega (arith, lt)) x) (is_ready m (a + m.grid.cols) valid lt y)
   face_gives valid Vertical a lt x y =
-      let two = layered m.grid.layers (layer_size m.grid) a lt in
+      let two = cell_below_means_layers m.grid.layers (layer_size m.grid) a lt in
       vertical_face a (is_ready m a valid (omega (arith, lt)) x) (is_ready m (a + layer_size m.grid) valid lt y)
       (size_positive (vka_at m a) ((valid.cells a (omega (arith, lt)) x).vka two))
       (size_positive (vka_at m (a + layer_size m.grid)) ((valid.cells (a + layer_size m.grid) lt y).vka two)) (bedded_at valid a lt x y)
 
   -- The pairs of the faces enclose its conductances.
   pub faces_enclose : IsModel m → FacesEnclose m
-  faces_enclose valid axis a s lt x y = encloses s (face_gives valid axis a lt x y)
+  faces_enclose valid axis a s lt x y = term_pair_encloses s (face_gives valid axis a lt x y)

@@ -1,8 +1,8 @@
 -- The pair of a given head contains it: the head is linear in the part of the period that has passed, so it lies between the heads at the ends of that part's bounds.
 use Rattle.conductance_bounds.proofs.Common.{◌≡◌, ℕ, suc, ◌+◌, ◌*◌, ◌-◌, ◌≤◌, ◌^◌, arith, ap, ◌∙◌, sym, subst, ℤ, pos, negsuc, neg_ℤ, ◌+ℤ◌, ◌-ℤ◌, ◌*ℤ◌, ◌≤ℤ◌}
 use Rattle.conductance_bounds.proofs.Common.{int_min, int_max, ints, clamps, by_lt_z, Dec, number, Ratio, den, EnclosesSigned, mul_mono_right, cancel_right}
-use Rattle.conductance_bounds.proofs.Common.{swap, diffs, as_diff, same_diff, between_heads, IsPassed, blend, given_pair, head_pair, add_times, IsSignedCeiling}
-use Rattle.conductance_bounds.proofs.Common.{IsSignedFloor, neg_times, HeadPair, ceiling_of, head_floor_of, Part}
+use Rattle.conductance_bounds.proofs.Common.{last_factors_swap, diffs, as_diff, same_diff, between_heads, IsPassed, blend, given_pair, head_pair, add_times}
+use Rattle.conductance_bounds.proofs.Common.{IsSignedCeiling, IsSignedFloor, neg_times, HeadPair, ceiling_of, head_floor_of, Part}
 use Rattle.model_types.specs.declared.entry.Given.{Given}
 use Rattle.conductance_bounds.proofs.Units.{IsCeilingOf, IsFloorOf, ceiling_is, floor_is, head_ceiling, head_floor, pair_of}
 use Rattle.decimal_input.specs.Fractions.{den as denominator}
@@ -53,7 +53,7 @@ step_low s e lo f g w u hf hg a b h =
         let right : (pos k +ℤ pos (unit - k)) *ℤ (s *ℤ pos w +ℤ e *ℤ pos u) ≡ (s *ℤ pos w +ℤ e *ℤ pos u) *ℤ pos unit =
         ap (λ (z : ℤ). z *ℤ (s *ℤ pos w +ℤ e *ℤ pos u)) whole ∙ commuted (pos unit) (s *ℤ pos w +ℤ e *ℤ pos u) in
         cancel_right unit (lo *ℤ pos (w + u)) (s *ℤ pos w +ℤ e *ℤ pos u) (omega arith)
-        (omega (arith, ints, swap lo (pos (w + u)) (pos unit), mul_mono_right (w + u) (lo *ℤ pos unit) (blend s e k) bound, below, right))
+        (omega (arith, ints, last_factors_swap lo (pos (w + u)) (pos unit), mul_mono_right (w + u) (lo *ℤ pos unit) (blend s e k) bound, below, right))
 
 one_part : (s x k : ℤ) (w : ℤ) → (s *ℤ w) *ℤ (x *ℤ k) ≡ (s *ℤ x) *ℤ (w *ℤ k)
 one_part s x k w = rw (as_diff s, as_diff x, as_diff k, as_diff w) (simp diffs (same_diff _ _ _ _ (omega arith)))
@@ -72,8 +72,8 @@ head_low : (a b l s e : ℤ) (x y w u T : ℕ) → (s *ℤ pos x) ≤ℤ (a *ℤ
     (l *ℤ (pos x *ℤ ((pos y *ℤ pos x) *ℤ (pos w +ℤ pos u)))) ≤ℤ ((a *ℤ pos (w * (y * x)) +ℤ b *ℤ pos (u * (x * x))) *ℤ pos T)
 head_low a b l s e x y w u T hs he h =
     let apart = add_times (a *ℤ pos (w * (y * x))) (b *ℤ pos (u * (x * x))) (pos T) in
-    let one = swap a (pos (w * (y * x))) (pos T) in
-    let two = swap b (pos (u * (x * x))) (pos T) in
+    let one = last_factors_swap a (pos (w * (y * x))) (pos T) in
+    let two = last_factors_swap b (pos (u * (x * x))) (pos T) in
     let first = mul_mono_right (w * (y * x)) (s *ℤ pos x) (a *ℤ pos T) hs in
     let second = mul_mono_right (u * (x * x)) (e *ℤ pos y) (b *ℤ pos T) he in
     let whole = mul_mono_right (x * (y * x)) (l *ℤ (pos w +ℤ pos u)) (s *ℤ pos w +ℤ e *ℤ pos u) h in

@@ -8,8 +8,8 @@ use Rattle.conductance_bounds.proofs.Common.{over-Same, plus-positive}
 use Rattle.std.proofs.lemmas.Bool.Decides.{nat_tests}
 use Rattle.conductance_bounds.specs.declared.vertical.VertHalf.{VertHalf}
 use Rattle.conductance_bounds.specs.declared.vertical.Bed.{Bed}
-use Rattle.conductance_bounds.proofs.Sides.{IsFactor, exact_positive, number, quotient, size_positive, sum, within}
-use Rattle.conductance_bounds.proofs.Manual.{half_of, plus_none, zero_times, Gives, encloses, below_units, pair_encloses}
+use Rattle.conductance_bounds.proofs.Sides.{IsFactor, exact_positive, number_is_factor, quotient_is_factor, size_positive, sum_is_factor, within_is_factor}
+use Rattle.conductance_bounds.proofs.Manual.{half_of, plus_none, zero_times, Gives, term_pair_encloses, below_units, pair_encloses}
 use Rattle.decimal_input.proofs.Cross.{le_cancel}
 
 -- the vertical conductivity as it is rounded, and exactly
@@ -18,8 +18,8 @@ k_is true h v = refl
 k_is false h v = refl
 
 k_factor : (b : Bool) (h v : Ratio) → 0 < h.num → 0 < v.num → IsFactor (vertical_k_term b h v)
-k_factor true h v p q = quotient (number h p) (number v q)
-k_factor false h v p q = number v q
+k_factor true h v p q = quotient_is_factor (number_is_factor h p) (number_is_factor v q)
+k_factor false h v p q = number_is_factor v q
 
 -- a cell's half: its conductivities and its thickness
 pub record IsLayerHalf (h v : Ratio) (t : Term) : Type 0 where
@@ -53,7 +53,7 @@ module _ (q : Bool) (h v : Ratio) (t : Term) (p : IsLayerHalf h v t) where
   half_is = subst (λ (k : Ratio). Same (exact half_term) (over (over (exact t) two) k)) (k_is q h v) (half_of (exact t) (exact (vertical_k_term q h v)) (exact_positive (k_factor q h v p.hk p.vka)))
 
   half_factor : IsFactor half_term
-  half_factor = quotient p.thick (sum (k_factor q h v p.hk p.vka) (k_factor q h v p.hk p.vka))
+  half_factor = quotient_is_factor p.thick (sum_is_factor (k_factor q h v p.hk p.vka) (k_factor q h v p.hk p.vka))
 
 -- The resistances of two halves x and y with the values f and g, and of the bed between them.
 module _ (b : Term) (v : Ratio) (x y : Term) where
@@ -65,8 +65,8 @@ module _ (b : Term) (v : Ratio) (x y : Term) where
   joined_is false f g bed p q = plus-Same (plus-Same p (Same-self (over (exact b) v))) q
 
   joined_factor : (bare : Bool) → IsBedded bare b v → IsFactor x → IsFactor y → IsFactor (joined bare)
-  joined_factor true none p q = sum p q
-  joined_factor false bed p q = sum (sum p (quotient bed.1 (number v bed.0))) q
+  joined_factor true none p q = sum_is_factor p q
+  joined_factor false bed p q = sum_is_factor (sum_is_factor p (quotient_is_factor bed.1 (number_is_factor v bed.0))) q
 
 pub layers_give : (r d : Ratio) (q₁ : Bool) (h₁ v₁ : Ratio) (t₁ : Term) (q₂ : Bool) (h₂ v₂ : Ratio) (t₂ b : Term) (v : Ratio) (bare : Bool) →
     IsLayerHalf h₁ v₁ t₁ → IsLayerHalf h₂ v₂ t₂ → IsBedded bare b v →
@@ -89,16 +89,16 @@ none_below f hi e h = grind (arith, num_scaled, zero)
 
 bedded : (bed : Bed) (h : Ratio) → IsBed bed → IsBetween bed.thick_lo bed.thick_hi h → IsBedded (bed.thick_lo.m == 0) (Within bed.thick_lo bed.thick_hi h) (size bed.vkcb)
 bedded bed h (inl z) b = no_bed bed.thick_lo.m _ (size bed.vkcb) z.0.0 (none_below h bed.thick_hi z.1.0 b.upper)
-bedded bed h (inr r) b = some_bed bed.thick_lo.m _ (size bed.vkcb) r.thick.low_size.positive (size_positive bed.vkcb r.vkcb) (within bed.thick_lo bed.thick_hi h r.thick.low_size.positive b)
+bedded bed h (inr r) b = some_bed bed.thick_lo.m _ (size bed.vkcb) r.thick.low_size.positive (size_positive bed.vkcb r.vkcb) (within_is_factor bed.thick_lo bed.thick_hi h r.thick.low_size.positive b)
 
 layer_half : (a : VertHalf) (f : Ratio) → IsVertHalf a → IsBetween a.thick_lo a.thick_hi f → IsLayerHalf (size a.hk) (size a.vka) (Within a.thick_lo a.thick_hi f)
-layer_half a f p b = record { hk = size_positive a.hk p.hk; vka = size_positive a.vka p.vka; thick = within a.thick_lo a.thick_hi f p.thick.low_size.positive b }
+layer_half a f p b = record { hk = size_positive a.hk p.hk; vka = size_positive a.vka p.vka; thick = within_is_factor a.thick_lo a.thick_hi f p.thick.low_size.positive b }
 
 pub branch_encloses : (a b : VertHalf) (bed : Bed) (delr delc : Dec) (s : ℕ) → IsVertHalf a → IsVertHalf b → IsBed bed → (f g h : Ratio) →
     IsBetween a.thick_lo a.thick_hi f → IsBetween b.thick_lo b.thick_hi g → IsBetween bed.thick_lo bed.thick_hi h →
     PairEncloses (vertical_of a b bed delr delc f g h) s (vertical_exact a b bed delr delc f g h)
 branch_encloses a b bed delr delc s p q w f g h x y z =
-    encloses s (layers_give (size delr) (size delc) a.ratio (size a.hk) (size a.vka) (Within a.thick_lo a.thick_hi f) b.ratio (size b.hk) (size b.vka) (Within b.thick_lo b.thick_hi g)
+    term_pair_encloses s (layers_give (size delr) (size delc) a.ratio (size a.hk) (size a.vka) (Within a.thick_lo a.thick_hi f) b.ratio (size b.hk) (size b.vka) (Within b.thick_lo b.thick_hi g)
     (Within bed.thick_lo bed.thick_hi h) (size bed.vkcb) (bed.thick_lo.m == 0) (layer_half a f p x) (layer_half b g q y) (bedded bed h w z))
 
 -- the bounds of VK where VKA is a ratio
@@ -134,4 +134,4 @@ pub ruleset pair_lemmas = (Passes-less, Reaches-passes, ceiling-passes, floor-ce
 
 -- The pair of an evapotranspiration contains its conductance.
 pub evap_encloses : (rate depth delr delc : Dec) (s : ℕ) → IsPositive depth → PairEncloses (evap_formula (size rate) (size delr) (size delc) (size depth)) s (evap_exact rate depth delr delc)
-evap_encloses rate depth delr delc s d = pair_encloses _ s ((tt, (tt, tt)), tt, (number (size depth) (size_positive depth d)).some)
+evap_encloses rate depth delr delc s d = pair_encloses _ s ((tt, (tt, tt)), tt, (number_is_factor (size depth) (size_positive depth d)).some)

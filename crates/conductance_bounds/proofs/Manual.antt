@@ -3,7 +3,8 @@ use Rattle.conductance_bounds.proofs.Common.{◌≡◌, ℕ, ◌+◌, ◌*◌, �
 use Rattle.conductance_bounds.proofs.Common.{den_plus, num_over, den_over, num_times, den_times, value, one, two, half, in_a_row, Term, exact, Holds}
 use Rattle.conductance_bounds.proofs.Common.{PairEncloses, bound, pair, row_term, Lower, Upper, plus-Same, over-Same, plus-positive, over-positive, Same-self}
 use Rattle.conductance_bounds.proofs.Common.{times-positive, mul-le-mul_right, le_of_mul-le-mul_right, is_ceiling, is_floor}
-use Rattle.conductance_bounds.proofs.Sides.{bound_on, IsFactor, exact_positive, number, number_one, sum, product, quotient}
+use Rattle.conductance_bounds.proofs.Sides.{bound_on, IsFactor, exact_positive, number_is_factor, number_one, sum_is_factor, product_is_factor}
+use Rattle.conductance_bounds.proofs.Sides.{quotient_is_factor}
 
 -- n / 10 ^ s ≤ a / x ≤ b / y, over plain numbers
 pub below_units : (n a x b y p : ℕ) → 0 < x → n * x ≤ a * p → a * y ≤ b * x → n * y ≤ b * p
@@ -38,8 +39,8 @@ pub record Gives (t : Term) (f : Ratio) : Type 0 where
   pub holds : Holds t
   pub same : Same (exact t) f
 
-pub encloses : {t : Term} {f : Ratio} (s : ℕ) → Gives t f → PairEncloses t s f
-encloses {t} {f} s g = Encloses-same _ _ s (exact t) f g.same (pair_encloses t s g.holds)
+pub term_pair_encloses : {t : Term} {f : Ratio} (s : ℕ) → Gives t f → PairEncloses t s f
+term_pair_encloses {t} {f} s g = Encloses-same _ _ s (exact t) f g.same (pair_encloses t s g.holds)
 
 -- Half of a cell: equal formulas of its resistance.
 -- 2 * w * k * t, in the two ways to group it
@@ -96,11 +97,11 @@ same_row w d₁ k₁ t₁ d₂ k₂ t₂ hw hd₁ hk₁ ht₁ hk₂ ht₂ =
 pub row_gives : (w d₁ : Ratio) (k₁ t₁ : Term) (d₂ : Ratio) (k₂ t₂ : Term) → 0 < w.num → 0 < d₁.num → 0 < d₂.num → IsFactor k₁ → IsFactor t₁ → IsFactor k₂ → IsFactor t₂ →
     Gives (row_term w d₁ k₁ t₁ d₂ k₂ t₂) (in_a_row (half d₁ w (exact k₁) (exact t₁)) (half d₂ w (exact k₂) (exact t₂)))
 row_gives w d₁ k₁ t₁ d₂ k₂ t₂ hw hd₁ hd₂ fk₁ ft₁ fk₂ ft₂ =
-    let wide = sum (number w hw) (number w hw) in
-    let first = quotient (number d₁ hd₁) (product wide (product fk₁ ft₁)) in
-    let second = quotient (number d₂ hd₂) (product wide (product fk₂ ft₂)) in
+    let wide = sum_is_factor (number_is_factor w hw) (number_is_factor w hw) in
+    let first = quotient_is_factor (number_is_factor d₁ hd₁) (product_is_factor wide (product_is_factor fk₁ ft₁)) in
+    let second = quotient_is_factor (number_is_factor d₂ hd₂) (product_is_factor wide (product_is_factor fk₂ ft₂)) in
     record {
-      holds = (quotient number_one (sum first second)).holds;
+      holds = (quotient_is_factor number_one (sum_is_factor first second)).holds;
       same = same_row w d₁ (exact k₁) (exact t₁) d₂ (exact k₂) (exact t₂) hw hd₁ (exact_positive fk₁) (exact_positive ft₁) (exact_positive fk₂) (exact_positive ft₂);
     }
 

@@ -3,9 +3,9 @@ use Rattle.conductance_bounds.proofs.Common.{◌≡◌, ℕ, ◌-◌, Bool, true
 use Rattle.conductance_bounds.proofs.Common.{delr_at, delc_at, thickness, geometric, power, IsModel, exact, Holds, storativity_term, thick_term, storage_term}
 use Rattle.conductance_bounds.proofs.Common.{storativity, storage, EvapsEnclose, HeadsEnclose, RechargesEnclose, StoragesEnclose, ◌<◌, Period, EvapSource}
 use Rattle.conductance_bounds.proofs.Common.{IsPositive, IsTimed, cell_count, is_active, FormulasHold, evap_term}
-use Rattle.conductance_bounds.proofs.Sides.{number, size_positive}
+use Rattle.conductance_bounds.proofs.Sides.{number_is_factor, size_positive}
 use Rattle.conductance_bounds.proofs.GivenHeads.{given_encloses}
-use Rattle.conductance_bounds.proofs.Manual.{Gives, encloses, pair_encloses}
+use Rattle.conductance_bounds.proofs.Manual.{Gives, term_pair_encloses, pair_encloses}
 use Rattle.conductance_bounds.proofs.PartBounds.{part_encloses, multiplier_positive}
 use Rattle.conductance_bounds.proofs.Ready.{is_ready}
 use Rattle.conductance_bounds.proofs.FaceBounds.{face_gives}
@@ -39,14 +39,14 @@ module _ (m : FlowModel) where
       timed.nstp.0 (size_positive p.perlen (timed.lasts transient)) (size_positive p.tsmult timed.tsmult) (storativity_holds c ready.thick.holds))
 
   pub storages_enclose : IsModel m → StoragesEnclose m
-  storages_enclose valid p n c s timed transient lt active = encloses s (storage_at valid p n c timed transient lt active)
+  storages_enclose valid p n c s timed transient lt active = term_pair_encloses s (storage_at valid p n c timed transient lt active)
 
   pub recharges_enclose : RechargesEnclose m
   unfolding area
   recharges_enclose rate c s = flow_encloses rate (size (delr_at m c)) (size (delc_at m c)) s
 
   pub evap_holds : (x : EvapSource) (c : ℕ) → IsPositive x.depth → Holds (evap_term m x.rate x.depth c)
-  evap_holds x c depth = ((tt, (tt, tt)), tt, (number (size x.depth) (size_positive x.depth depth)).some)
+  evap_holds x c depth = ((tt, (tt, tt)), tt, (number_is_factor (size x.depth) (size_positive x.depth depth)).some)
 
   pub evaps_enclose : EvapsEnclose m
   unfolding area

@@ -5,8 +5,8 @@ use Rattle.conductance_bounds.proofs.Common.{plus, times, AtMost-trans, AtMost-r
 use Rattle.conductance_bounds.proofs.Common.{value, IsTimed, number_one, one, power, geometric, multiplier, part_passed, Span, AreBounds, exact, bound, Lower}
 use Rattle.conductance_bounds.proofs.Common.{sum_term, part, pair, IsPassed, part_term, is_whole, power_term, over-Same, Same-self, plus-Same, times-Same}
 use Rattle.conductance_bounds.proofs.Common.{IsFloor, Sd, Upper, in_units, ◌∙◌, cond-false, cond-true, Part, one_floor, Period}
-use Rattle.model_types.proofs.Growth.{horner}
-use Rattle.conductance_bounds.proofs.Sides.{IsFactor, bound_on, exact_positive, more_positive, quotient, size_positive, sum_factor}
+use Rattle.model_types.proofs.Growth.{geometric_sum_steps}
+use Rattle.conductance_bounds.proofs.Sides.{IsFactor, bound_on, exact_positive, more_positive, quotient_is_factor, size_positive, sum_factor}
 use Rattle.conductance_bounds.proofs.Manual.{Encloses-same, pair_encloses}
 use Rattle.scaled_decimal.proofs.Products.{more_plus}
 
@@ -27,7 +27,7 @@ first_one t = Same-sym one_is
 pub sum_is : (t : Ratio) (n : ℕ) → Same (exact (sum_term t n)) (geometric t (suc n))
 unfolding sum_term
 sum_is t zero = Same-sym (first_one t)
-sum_is t (suc n) = Same-trans (plus-Same (times-Same (sum_is t n) (Same-self t)) (Same-self one)) (Same-sym (horner t (suc n)))
+sum_is t (suc n) = Same-trans (plus-Same (times-Same (sum_is t n) (Same-self t)) (Same-self one)) (Same-sym (geometric_sum_steps t (suc n)))
 
 pub sum_at : (t : Ratio) (k : ℕ) → 1 ≤ k → Same (exact (sum_term t (k - 1))) (geometric t k)
 sum_at t k h = subst (λ (m : ℕ). Same (exact (sum_term t (k - 1))) (geometric t m)) (let e : suc (k - 1) ≡ k = omega (arith, h) in e) (sum_is t (k - 1))
@@ -67,7 +67,7 @@ module _ (p : Period) (n : ℕ) (some : 1 ≤ n) (few : n ≤ p.nstp) (growth : 
   share = over (geometric (multiplier p) n) (geometric (multiplier p) p.nstp)
 
   part_factor : IsFactor (part_term p n)
-  part_factor = quotient (sum_factor (multiplier p) growth (n - 1)) (sum_factor (multiplier p) growth (p.nstp - 1))
+  part_factor = quotient_is_factor (sum_factor (multiplier p) growth (n - 1)) (sum_factor (multiplier p) growth (p.nstp - 1))
 
   whole : 0 < (geometric (multiplier p) p.nstp).num
   whole = more_positive _ _ (Same-AtMost (sum_at (multiplier p) p.nstp (omega arith))) (exact_positive (sum_factor (multiplier p) growth (p.nstp - 1)))

@@ -2,7 +2,7 @@
 use Rattle.conductance_bounds.proofs.Common.{◌≡◌, ℕ, ◌/◌, ◌<◌, true, arith, size, FlowModel, cell_count, column_of, row_of, no_number, dec_at, delr_at, delc_at}
 use Rattle.conductance_bounds.proofs.Common.{hk_at, hani_at, top_at, bottom_at, is_active, thickness, IsModel, IsPositive, Number, span, thick_term}
 use Rattle.std.proofs.lemmas.Nat.{mod_below}
-use Rattle.conductance_bounds.proofs.Sides.{IsFactor, input, size_positive, within}
+use Rattle.conductance_bounds.proofs.Sides.{IsFactor, input_is_factor, size_positive, within_is_factor}
 use Rattle.conductance_bounds.proofs.ThickBounds.{span_positive, thick_between}
 
 -- the numbers of an active cell
@@ -27,7 +27,7 @@ is_ready m c valid lt active =
     record {
       delr = size_positive (delr_at m c) (delr_positive m c valid);
       delc = size_positive (delc_at m c) (delc_positive m c valid);
-      hk = input (dec_at m.hk c) cell.hk;
-      hani = input (dec_at m.hani c) cell.hani;
-      thick = within (span top bottom).lo (span top bottom).hi (thickness m c) (span_positive top bottom cell.thick) (thick_between top bottom cell.thick);
+      hk = input_is_factor (dec_at m.hk c) cell.hk;
+      hani = input_is_factor (dec_at m.hani c) cell.hani;
+      thick = within_is_factor (span top bottom).lo (span top bottom).hi (thickness m c) (span_positive top bottom cell.thick) (thick_between top bottom cell.thick);
     }

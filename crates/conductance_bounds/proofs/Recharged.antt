@@ -34,8 +34,8 @@ both_encloses : (neg : Bool) (r a : Ratio) (p : Pair) (s : ℕ) → Encloses p.l
 both_encloses false r a p s k = gain_encloses r a p.lo p.hi s k
 both_encloses true r a p s k = loss_encloses r a p.lo p.hi s k
 
-pub assoc : (a b c : Ratio) → Same (times a (times b c)) (times (times a b) c)
-assoc a b c = record {
+pub times_is_associative : (a b c : Ratio) → Same (times a (times b c)) (times (times a b) c)
+times_is_associative a b c = record {
   cross = rw (
     num_times a (times b c),
     den_times a (times b c),
@@ -52,7 +52,7 @@ assoc a b c = record {
 pub flow_encloses : (rate : Dec) (r d : Ratio) (s : ℕ) → FlowEncloses (recharge_formula (size rate) r d) rate.neg s (with_area rate.neg (size rate) (times r d))
 flow_encloses rate r d s =
     both_encloses rate.neg (size rate) (times r d) (pair (recharge_formula (size rate) r d) s) s
-    (Encloses-same _ _ s _ _ (Same-sym (assoc (size rate) r d)) (pair_encloses (recharge_formula (size rate) r d) s ((tt, tt), tt)))
+    (Encloses-same _ _ s _ _ (Same-sym (times_is_associative (size rate) r d)) (pair_encloses (recharge_formula (size rate) r d) s ((tt, tt), tt)))
 
 pub recharge_encloses : (rate delr delc : Dec) (s : ℕ) → FlowEncloses (recharge_formula (size rate) (size delr) (size delc)) rate.neg s (recharge_exact rate delr delc)
 recharge_encloses rate delr delc s = flow_encloses rate (size delr) (size delc) s

@@ -50,43 +50,43 @@ pub record IsFactor (t : Term) : Type 0 where
 pub exact_positive : {t : Term} → IsFactor t → 0 < (exact t).num
 exact_positive {t} a = more_positive (value (bound t Lower)) (exact t) (bound_on t a.holds Lower) (positive_value (bound t Lower) a.some)
 
-pub number : (f : Ratio) → 0 < f.num → IsFactor (Number f)
+pub number_is_factor : (f : Ratio) → 0 < f.num → IsFactor (Number f)
 unfolding bound
-number f some = record { holds = tt; some = rounded_positive f some }
+number_is_factor f some = record { holds = tt; some = rounded_positive f some }
 
 pub size_positive : (d : Dec) → IsPositive d → 0 < (size d).num
 size_positive d h = rw num_scaled (mul-pos h.positive (ten_pos (up d.exp)))
 
-pub input : (d : Dec) → IsPositive d → IsFactor (Number (size d))
-input d h = number (size d) (size_positive d h)
+pub input_is_factor : (d : Dec) → IsPositive d → IsFactor (Number (size d))
+input_is_factor d h = number_is_factor (size d) (size_positive d h)
 
 pub number_one : IsFactor (Number one)
 unfolding ratio
-number_one = number one (omega arith)
+number_one = number_is_factor one (omega arith)
 
-pub within : (lo hi : Sd) (f : Ratio) → 0 < lo.m → IsBetween lo hi f → IsFactor (Within lo hi f)
+pub within_is_factor : (lo hi : Sd) (f : Ratio) → 0 < lo.m → IsBetween lo hi f → IsFactor (Within lo hi f)
 unfolding bound
-within lo hi f some between = record { holds = between; some = some }
+within_is_factor lo hi f some between = record { holds = between; some = some }
 
-pub sum : {t u : Term} → IsFactor t → IsFactor u → IsFactor (Sum t u)
+pub sum_is_factor : {t u : Term} → IsFactor t → IsFactor u → IsFactor (Sum t u)
 unfolding bound
-sum {t} {u} a b = record { holds = (a.holds, b.holds); some = rounded_positive _ (plus-positive _ (value (bound u Lower)) (positive_value (bound t Lower) a.some)) }
+sum_is_factor {t} {u} a b = record { holds = (a.holds, b.holds); some = rounded_positive _ (plus-positive _ (value (bound u Lower)) (positive_value (bound t Lower) a.some)) }
 
-pub product : {t u : Term} → IsFactor t → IsFactor u → IsFactor (Product t u)
+pub product_is_factor : {t u : Term} → IsFactor t → IsFactor u → IsFactor (Product t u)
 unfolding bound
-product {t} {u} a b = record { holds = (a.holds, b.holds); some = rounded_positive _ (times-positive _ _ (positive_value (bound t Lower) a.some) (positive_value (bound u Lower) b.some)) }
+product_is_factor {t} {u} a b = record { holds = (a.holds, b.holds); some = rounded_positive _ (times-positive _ _ (positive_value (bound t Lower) a.some) (positive_value (bound u Lower) b.some)) }
 
-pub quotient : {t u : Term} → IsFactor t → IsFactor u → IsFactor (Quotient t u)
+pub quotient_is_factor : {t u : Term} → IsFactor t → IsFactor u → IsFactor (Quotient t u)
 unfolding bound
-quotient {t} {u} a b = record { holds = (a.holds, b.holds, b.some); some = rounded_positive _ (over-positive _ (value (bound u Upper)) (positive_value (bound t Lower) a.some)) }
+quotient_is_factor {t} {u} a b = record { holds = (a.holds, b.holds, b.some); some = rounded_positive _ (over-positive _ (value (bound u Upper)) (positive_value (bound t Lower) a.some)) }
 
 -- the sums and the powers of growing time steps
 pub sum_factor : (t : Ratio) → 0 < t.num → (n : ℕ) → IsFactor (sum_term t n)
 unfolding sum_term
 sum_factor t h zero = number_one
-sum_factor t h (suc n) = sum (product (sum_factor t h n) (number t h)) number_one
+sum_factor t h (suc n) = sum_is_factor (product_is_factor (sum_factor t h n) (number_is_factor t h)) number_one
 
 pub power_factor : (t : Ratio) → 0 < t.num → (n : ℕ) → IsFactor (power_term t n)
 unfolding power_term
 power_factor t h zero = number_one
-power_factor t h (suc n) = product (power_factor t h n) (number t h)
+power_factor t h (suc n) = product_is_factor (power_factor t h n) (number_is_factor t h)

@@ -4,21 +4,21 @@ use Rattle.conductance_bounds.proofs.Common.{IsPositive, power, geometric, Span,
 use Rattle.conductance_bounds.proofs.Common.{area_formula, storativity_term, storage_formula, thickness_of, storativity_exact, storage_of, storage_exact}
 use Rattle.conductance_bounds.proofs.Common.{LiesWithin, PairEncloses, Same-self, times-Same, over-Same}
 use Rattle.conductance_bounds.specs.declared.storage.Factors.{Factors}
-use Rattle.conductance_bounds.proofs.Sides.{IsFactor, exact_positive, number, power_factor, product, size_positive, sum_factor}
-use Rattle.conductance_bounds.proofs.Manual.{Gives, encloses}
+use Rattle.conductance_bounds.proofs.Sides.{IsFactor, exact_positive, number_is_factor, power_factor, product_is_factor, size_positive, sum_factor}
+use Rattle.conductance_bounds.proofs.Manual.{Gives, term_pair_encloses}
 use Rattle.conductance_bounds.proofs.PartBounds.{power_is, sum_at}
-use Rattle.conductance_bounds.proofs.Recharged.{assoc}
+use Rattle.conductance_bounds.proofs.Recharged.{times_is_associative}
 
 -- of a storativity x, lengths r and d, a multiplier t and a period of length l
 pub storage_gives : (x : Term) (r d t l : Ratio) (steps n : ℕ) → 1 ≤ steps → 0 < l.num → 0 < t.num → Holds x →
     Gives (storage_formula x (area_formula r d) (sum_term t (steps - 1)) l (power_term t (n - 1))) (over (times (times (times (exact x) r) d) (geometric t steps)) (times l (power t (n - 1))))
 storage_gives x r d t l steps n some length growth holds =
-    let length_factor = number l length in
-    let divisor : IsFactor (Product (Number l) (power_term t (n - 1))) = product length_factor (power_factor t growth (n - 1)) in
+    let length_factor = number_is_factor l length in
+    let divisor : IsFactor (Product (Number l) (power_term t (n - 1))) = product_is_factor length_factor (power_factor t growth (n - 1)) in
     let formula = storage_formula x (area_formula r d) (sum_term t (steps - 1)) l (power_term t (n - 1)) in
     subst (λ k. Gives formula (over (times (times (times (exact x) r) d) (geometric t steps)) (times l k))) (power_is t (n - 1)) (record {
       holds = (((holds, (tt, tt)), (sum_factor t growth (steps - 1)).holds), divisor.holds, divisor.some);
-      same = over-Same (exact_positive divisor) (exact_positive divisor) (times-Same (assoc (exact x) r d) (sum_at t steps some)) (Same-self _);
+      same = over-Same (exact_positive divisor) (exact_positive divisor) (times-Same (times_is_associative (exact x) r d) (sum_at t steps some)) (Same-self _);
     })
 
 storativity_is : (ss : Dec) (thick : Option (Sd × Sd)) (f : Ratio) → exact (storativity_term (size ss) (thickness_of thick f)) ≡ storativity_exact ss thick f
@@ -35,7 +35,7 @@ pub branch_encloses : (ss : Dec) (thick : Option (Sd × Sd)) (delr delc : Dec) (
 branch_encloses ss thick delr delc t steps n perlen f s length some growth within =
     subst (λ k. PairEncloses (storage_of ss thick delr delc t steps n perlen f) s
     (over (times (times (times k (size delr)) (size delc)) (geometric t steps)) (times (size perlen) (power t (n - 1))))) (storativity_is ss thick f)
-    (encloses s (storage_gives (storativity_term (size ss) (thickness_of thick f)) (size delr) (size delc) t (size perlen) steps n some
+    (term_pair_encloses s (storage_gives (storativity_term (size ss) (thickness_of thick f)) (size delr) (size delc) t (size perlen) steps n some
     (size_positive perlen length) growth (storativity_holds ss thick f within)))
 
 -- the bounds of SS times a thickness

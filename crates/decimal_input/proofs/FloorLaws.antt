@@ -6,8 +6,8 @@ use Rattle.decimal_input.proofs.Differences.{diffs, as_diff, same_diff}
 pub mul_mono_right : (k : ℕ) (a b : ℤ) → a ≤ℤ b → (a *ℤ pos k) ≤ℤ (b *ℤ pos k)
 mul_mono_right k a b h = omega (arith, ints, mul-le-mul_right k (le_out a b h))
 
-pub swap : (a b c : ℤ) → (a *ℤ b) *ℤ c ≡ (a *ℤ c) *ℤ b
-swap a b c = rw (as_diff a, as_diff b, as_diff c) (simp diffs (same_diff _ _ _ _ (omega arith)))
+pub last_factors_swap : (a b c : ℤ) → (a *ℤ b) *ℤ c ≡ (a *ℤ c) *ℤ b
+last_factors_swap a b c = rw (as_diff a, as_diff b, as_diff c) (simp diffs (same_diff _ _ _ _ (omega arith)))
 
 pub add_times : (b o k : ℤ) → (b +ℤ o) *ℤ k ≡ b *ℤ k +ℤ o *ℤ k
 add_times b o k = rw (as_diff b, as_diff o, as_diff k) (simp diffs (same_diff _ _ _ _ (omega arith)))
@@ -49,8 +49,8 @@ le-add a b c d h k = omega (arith, ints)
 -- a / x ≤ b / y ≤ c / z
 pub cross_trans_signed : (a b c : ℤ) (x y z : ℕ) → 0 < y → (a *ℤ pos y) ≤ℤ (b *ℤ pos x) → (b *ℤ pos z) ≤ℤ (c *ℤ pos y) → (a *ℤ pos z) ≤ℤ (c *ℤ pos x)
 cross_trans_signed a b c x y z h p q =
-    let low : ((a *ℤ pos z) *ℤ pos y) ≤ℤ ((b *ℤ pos z) *ℤ pos x) = rw (swap a (pos z) (pos y), swap b (pos z) (pos x)) (mul_mono_right z _ _ p) in
-    let high : ((b *ℤ pos z) *ℤ pos x) ≤ℤ ((c *ℤ pos x) *ℤ pos y) = rw (swap c (pos x) (pos y)) (mul_mono_right x _ _ q) in
+    let low : ((a *ℤ pos z) *ℤ pos y) ≤ℤ ((b *ℤ pos z) *ℤ pos x) = rw (last_factors_swap a (pos z) (pos y), last_factors_swap b (pos z) (pos x)) (mul_mono_right z _ _ p) in
+    let high : ((b *ℤ pos z) *ℤ pos x) ≤ℤ ((c *ℤ pos x) *ℤ pos y) = rw (last_factors_swap c (pos x) (pos y)) (mul_mono_right x _ _ q) in
     cancel_right y _ _ h (le-trans _ _ _ low high)
 
 pub AtMost-trans : {f g h : Fraction} → AtMost f g → AtMost g h → AtMost f h
@@ -74,15 +74,15 @@ floor_ceiling_enclose f s lo hi l h = record { lower = l.at_most; upper = h.at_l
 
 -- a * z ≤ b * x, so what is at most a / x is at most b / z
 reaches : (v a b : ℤ) (x z : ℕ) → 0 < x → (v *ℤ pos x) ≤ℤ a → (a *ℤ pos z) ≤ℤ (b *ℤ pos x) → (v *ℤ pos z) ≤ℤ b
-reaches v a b x z h p q = cancel_right x _ _ h (le-trans _ _ _ (rw (swap v (pos z) (pos x)) (mul_mono_right z _ _ p)) q)
+reaches v a b x z h p q = cancel_right x _ _ h (le-trans _ _ _ (rw (last_factors_swap v (pos z) (pos x)) (mul_mono_right z _ _ p)) q)
 
 -- a * z ≤ b * x, so what is at least b / z is at least a / x
 covers : (v a b : ℤ) (x z : ℕ) → 0 < z → b ≤ℤ (v *ℤ pos z) → (a *ℤ pos z) ≤ℤ (b *ℤ pos x) → a ≤ℤ (v *ℤ pos x)
-covers v a b x z h p q = cancel_right z _ _ h (le-trans _ _ _ q (rw (swap v (pos x) (pos z)) (mul_mono_right x _ _ p)))
+covers v a b x z h p q = cancel_right z _ _ h (le-trans _ _ _ q (rw (last_factors_swap v (pos x) (pos z)) (mul_mono_right x _ _ p)))
 
 -- f * p is at most g * p
 moved : (f g : Fraction) (p : ℕ) → AtMost f g → ((f.num *ℤ pos p) *ℤ pos (den g)) ≤ℤ ((g.num *ℤ pos p) *ℤ pos (den f))
-moved f g p h = rw (swap f.num (pos p) (pos (den g)), swap g.num (pos p) (pos (den f))) (mul_mono_right p _ _ h.at_most)
+moved f g p h = rw (last_factors_swap f.num (pos p) (pos (den g)), last_factors_swap g.num (pos p) (pos (den f))) (mul_mono_right p _ _ h.at_most)
 
 -- The floor doesn't fall where the fraction grows.
 pub floor_monotone : (f g : Fraction) (s : ℕ) (x y : ℤ) → AtMost f g → IsSignedFloor x f s → IsSignedFloor y g s → x ≤ℤ y
@@ -114,10 +114,10 @@ one_ceiling f g s x y e a b = le-antisym x y (ceiling_monotone f g s x y (Same-A
 pub whole_signed : (lo hi : ℤ) (s D : ℕ) (f : Fraction) (z : ℤ) → EnclosesSigned lo hi s f → IsOver D f z → IsBetweenSigned lo hi D (z *ℤ pos (10 ^ s))
 whole_signed lo hi s D f z h e =
     let both : (f.num *ℤ pos (10 ^ s)) *ℤ pos D ≡ (z *ℤ pos (10 ^ s)) *ℤ pos (suc f.less) =
-    swap f.num (pos (10 ^ s)) (pos D) ∙ ap (λ (t : ℤ). t *ℤ pos (10 ^ s)) e.is ∙ swap z (pos (suc f.less)) (pos (10 ^ s)) in
+    last_factors_swap f.num (pos (10 ^ s)) (pos D) ∙ ap (λ (t : ℤ). t *ℤ pos (10 ^ s)) e.is ∙ last_factors_swap z (pos (suc f.less)) (pos (10 ^ s)) in
     record {
-      lower = cancel_right (suc f.less) _ _ (omega arith) (rw (swap lo (pos D) (pos (suc f.less)), ← both) (mul_mono_right D _ _ h.lower));
-      upper = cancel_right (suc f.less) _ _ (omega arith) (rw (swap hi (pos D) (pos (suc f.less)), ← both) (mul_mono_right D _ _ h.upper));
+      lower = cancel_right (suc f.less) _ _ (omega arith) (rw (last_factors_swap lo (pos D) (pos (suc f.less)), ← both) (mul_mono_right D _ _ h.lower));
+      upper = cancel_right (suc f.less) _ _ (omega arith) (rw (last_factors_swap hi (pos D) (pos (suc f.less)), ← both) (mul_mono_right D _ _ h.upper));
     }
 
 -- With the other sign the bounds change their signs and places.

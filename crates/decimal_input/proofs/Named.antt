@@ -90,9 +90,9 @@ named neg whole part (Some f) e r h aw ap_ some near can =
     let ok : nat_le 1 (length whole + length part) ≡ true = le-leb 1 (length whole + length part) some in
     rw ok (canonical_capped neg (number_from (number_from 0 whole) part) (length part) e f r (coefficient_below whole part h aw ap_) (omega arith) near can)
 
-pub joined : (w body whole tail part rest : List ℕ) (neg : Bool) → neg ≡ is_negative w → body ≡ without_sign w → whole ≡ digits_of body → tail ≡
+pub spelling_is_of_parts : (w body whole tail part rest : List ℕ) (neg : Bool) → neg ≡ is_negative w → body ≡ without_sign w → whole ≡ digits_of body → tail ≡
     after_digits body → part ≡ digits_after_point tail → rest ≡ behind_part tail → spelling neg whole part (exponent_of rest) ≡ spelling_of w
-joined w body whole tail part rest neg e₁ e₂ e₃ e₄ e₅ e₆ = rw (e₆, e₅, e₃, e₄, e₂, e₁) refl
+spelling_is_of_parts w body whole tail part rest neg e₁ e₂ e₃ e₄ e₅ e₆ = rw (e₆, e₅, e₃, e₄, e₂, e₁) refl
 
 -- no digits yet
 pub start : IsOf (record { digits = 0; zeros = 0; many = false }) 0

@@ -82,10 +82,10 @@ many_again k c n t hn (inr (inl h)) = absurd (let e : true ≡ false = sym t ∙
 many_again k c n t hn (inr (inr h)) = absurd (let e : true ≡ false = sym t ∙ h.0 in cc)
 
 -- a number with few digits, not 0, has them all in k
-pub trimmed : (k : Coefficient) (c : ℕ) → k.many ≡ false → (k.digits ≡ 0 → ⊥) → IsOf k c → IsTrimmed c k.digits k.zeros
-trimmed k c f ne (inl h) = absurd (let e : true ≡ false = sym h.0 ∙ f in cc)
-trimmed k c f ne (inr (inl h)) = absurd (ne h.1.1)
-trimmed k c f ne (inr (inr h)) = h.2
+pub coefficient_is_trimmed : (k : Coefficient) (c : ℕ) → k.many ≡ false → (k.digits ≡ 0 → ⊥) → IsOf k c → IsTrimmed c k.digits k.zeros
+coefficient_is_trimmed k c f ne (inl h) = absurd (let e : true ≡ false = sym h.0 ∙ f in cc)
+coefficient_is_trimmed k c f ne (inr (inl h)) = absurd (ne h.1.1)
+coefficient_is_trimmed k c f ne (inr (inr h)) = h.2
 
 pub zero_behind : (k r : Coefficient) (c : ℕ) → r.many ≡ false → r.digits ≡ k.digits → r.zeros ≡ k.zeros + 1 → k.digits < 10 ^ 18 → IsTrimmed c k.digits k.zeros → IsOf r (c * 10 + 0)
 zero_behind k r c m d z few h = inr (inr (m, omega arith, rw (d, z) (zero_more c k.digits k.zeros h)))
@@ -115,18 +115,18 @@ shifted c d z t n ht h =
 
 pub accepted : (k : Coefficient) (neg : Bool) (n : ℕ) (e g : ℤ) → k.many ≡ false → (k.digits ≡ 0 → ⊥) → k.digits < 10 ^ 18 → IsOf k n → g ≡ e +ℤ pos k.zeros →
     neg_ℤ (pos 40) ≤ℤ g → g ≤ℤ pos 40 → IsCanonical neg n e (Ok (record { neg = neg; digits = k.digits; exp = g }))
-accepted k neg n e g f ne few h hg low high = grind (arith, trimmed)
+accepted k neg n e g f ne few h hg low high = grind (arith, coefficient_is_trimmed)
 
 pub number : (k : Coefficient) (neg : Bool) (n : ℕ) (g : ℤ) → k.many ≡ false → (k.digits ≡ 0 → ⊥) → k.digits < 10 ^ 18 → IsOf k n → neg_ℤ (pos 40) ≤ℤ g →
     g ≤ℤ pos 40 → IsDec (record { neg = neg; digits = k.digits; exp = g })
-number k neg n g f ne few h low high = grind (arith, trimmed)
+number k neg n g f ne few h low high = grind (arith, coefficient_is_trimmed)
 
 pub zero_number : IsDec (record { neg = false; digits = 0; exp = pos 0 })
 zero_number = record { few = omega arith; form = inl (refl, refl, refl); above = omega (arith, ints); below = omega (arith, ints) }
 
 -- one more digit
-pub longer : (n d i : ℕ) → n < 10 ^ i → d ≤ 9 → n * 10 + d < 10 ^ (i + 1)
-longer n d i h small = rw (add-one, pow-suc 10 i) (omega (arith, h, small))
+pub one_digit_more_fits : (n d i : ℕ) → n < 10 ^ i → d ≤ 9 → n * 10 + d < 10 ^ (i + 1)
+one_digit_more_fits n d i h small = rw (add-one, pow-suc 10 i) (omega (arith, h, small))
 
-pub within : (n i : ℕ) → i ≤ 18 → n < 10 ^ i → n < 10 ^ 18
-within n i le h = omega (arith, h, power_within i 18 le)
+pub power_fits_18_digits : (n i : ℕ) → i ≤ 18 → n < 10 ^ i → n < 10 ^ 18
+power_fits_18_digits n i le h = omega (arith, h, power_within i 18 le)

@@ -2,7 +2,7 @@ use Rattle.decimal_input.proofs.Common.{◌≡◌, ℕ, ◌+◌, ◌-◌, ◌*�
 use Rattle.decimal_input.proofs.Common.{subst, ◌∙◌, ℤ, pos, ◌-ℤ◌, Option, Some, None, Result, Err, le-leb, lt-leb, leb-true, cases_Bool, Dec, NumFault}
 use Rattle.decimal_input.proofs.Common.{BadNumber, number_from, AreDigits, IsSign, IsPart, IsInteger, Spelling, Spells, is_negative, without_sign, digits_of}
 use Rattle.decimal_input.proofs.Common.{after_digits, digits_after_point, behind_part, exponent_of, integer_of, spelling, spelling_of, IsCapped, Names}
-use Rattle.decimal_input.proofs.Named.{IsNumber, joined}
+use Rattle.decimal_input.proofs.Named.{IsNumber, spelling_is_of_parts}
 use Rattle.decimal_input.proofs.Parts.{HasNoSign, digit_first, digits_front, behind_front, sign_read, part_read, exponent_read, whole_read, sign_cut}
 use Rattle.decimal_input.proofs.Parts.{front_digits, front_cut, part_cut, exponent_cut, spelling_cut, whole_cut}
 
@@ -29,7 +29,7 @@ reads_spelt w n s =
     let rest = part_read s.part s.point s.behind s.power s.is_part s.is_exponent in
     let neg_is : n.neg ≡ is_negative w = sym (ap is_negative s.cut ∙ sign.0) in
     let body_is : body ≡ without_sign w = sym (ap without_sign s.cut ∙ sign.1) in
-    let word = joined w body s.whole tail s.part s.behind n.neg neg_is body_is (sym (digits_front s.whole tail s.are_digits rest.0))
+    let word = spelling_is_of_parts w body s.whole tail s.part s.behind n.neg neg_is body_is (sym (digits_front s.whole tail s.are_digits rest.0))
     (sym (behind_front s.whole tail s.are_digits rest.0)) (sym rest.1.0) (sym rest.1.1) in
     sym word ∙ ap (λ (X : Option ℤ). spelling n.neg s.whole s.part X) (exponent_read s.power s.behind s.is_exponent) ∙ spelling_is n.neg s.whole s.part s.power n refl s.some s.coefficient s.exp
 

@@ -4,7 +4,7 @@ use Rattle.deck_span.proofs.Common.{Entry, Given, CellId, FlowModel, Period, All
 use Rattle.deck_span.proofs.Common.{IsSizeBetween, IsEntryBetween, IsGivenAtMost, IsGivenBetween, IsRateBetween, IsPeriodBetween, IsBetween, wells, rivers}
 use Rattle.deck_span.proofs.Common.{drains, generals, AreGivenAlike, ArePeriodsAlike, AreAlike, AreEntriesAlike, AreRatesAlike, LiesBetween, AtMost-refl}
 use Rattle.deck_span.proofs.Common.{by_lt_z}
-use Rattle.deck_span.proofs.HullBounds.{least}
+use Rattle.deck_span.proofs.HullBounds.{at_most_is_reflexive}
 use Rattle.decimal_input.specs.Ratios.{den as ratio_den, AtMost as IsRatioAtMost}
 use Rattle.model_types.specs.declared.entry.Entry.TheVariants.{Well, River, Drain, General}
 
@@ -17,7 +17,7 @@ both_between R itself x y (inl h) = (record { lies = inl (itself x, h) }, record
 both_between R itself x y (inr h) = (record { lies = inr (h, itself x) }, record { lies = inr (itself y, h) })
 
 fractions : (f g : Fraction) → Both IsFractionBetween f g
-fractions f g = grind (arith, both_between, least, by_lt_z)
+fractions f g = grind (arith, both_between, at_most_is_reflexive, by_lt_z)
 
 ratios : (f g : Ratio) → Both IsRatioBetween f g
 ratios f g = both_between IsRatioAtMost AtMost-refl f g
@@ -66,7 +66,7 @@ entries (General c s₁ k₁) (General d s₂ k₂) e =
 entries x y e = absurd (cc)
 
 at_most_itself : (x : Given) → IsGivenAtMost x x
-at_most_itself x = record { start = least (number x.shead); end = least (number x.ehead) }
+at_most_itself x = record { start = at_most_is_reflexive (number x.shead); end = at_most_is_reflexive (number x.ehead) }
 
 given_heads : (x y : Given) → AreGivenAlike x y → Both IsGivenBetween x y
 given_heads x y h = grind (arith, both_between, at_most_itself)

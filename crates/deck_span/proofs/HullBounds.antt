@@ -12,11 +12,11 @@ use Rattle.decimal_input.specs.Ratios.{den as ratio_den, AtMost as IsRatioAtMost
 use Rattle.cell_balance.proofs.Scaling.{IsOver-plus, IsOver-signed, IsOver-times}
 
 -- Numbers that are made from numbers between two others.
-pub least : (f : Fraction) → AtMost f f
-least f = record { at_most = omega (arith, ints) }
+pub at_most_is_reflexive : (f : Fraction) → AtMost f f
+at_most_is_reflexive f = record { at_most = omega (arith, ints) }
 
 pub number_itself : (f : Fraction) → IsFractionBetween f f f
-number_itself f = record { lies = inl (least f, least f) }
+number_itself f = record { lies = inl (at_most_is_reflexive f, at_most_is_reflexive f) }
 
 pub size_itself : (f : Ratio) → IsRatioBetween f f f
 size_itself f = record { lies = inl (AtMost-refl f, AtMost-refl f) }

@@ -27,9 +27,9 @@ pub use Rattle.number_limits.proofs.SignLemmas.{all_positive_of, one_of, positiv
 pub use Rattle.number_limits.specs.{is_at_least, is_at_most, is_one, is_positive, within}
 pub use Rattle.outside.specs.{FileSet, input_fault, refusal, words}
 pub use Rattle.outside.specs.declared.codes.Code.TheVariants.{BadGrid}
-pub use Rattle.record_lines.proofs.Forward.{begun_held, leaves, line_held}
+pub use Rattle.record_lines.proofs.Forward.{begun_held, line_held, rest_has_its_lines}
 pub use Rattle.record_lines.proofs.Loops.{ends_all, ends_text, is_done, step_goes_on, steps_done, steps_stop, with_front}
-pub use Rattle.record_lines.proofs.Readings.{counted_gives, done, goes_on, if_clear, if_passed, refused, repeated_are, repeated_gives, repeated_held, some_give}
-pub use Rattle.record_lines.proofs.Readings.{then_, weaker}
+pub use Rattle.record_lines.proofs.Readings.{counted_gives, err_gives_only, gives_only_less, goes_on, if_clear, if_passed, ok_gives_only, repeated_are}
+pub use Rattle.record_lines.proofs.Readings.{repeated_gives, repeated_held, some_give, then_}
 pub use Rattle.record_lines.specs.{GivesOnly, Left, LineMay, LinesMay, Numbered, Stops, StopsText, Taking, beginning, each_number, is_word, left_from, line_at}
 pub use Rattle.record_lines.specs.{repeated_reading, without_comments}

@@ -1,11 +1,11 @@
 -- What a file of the discretization gives.
 use Rattle.dis_package.proofs.Common.{◌≡◌, ℕ, ℤ, List, length, All, refl, ◌≤◌, sum_by, sym, subst, arith, suc, ◌+◌, nat_le, ◌&&◌, ◌∷◌, IsDec, FileSet, refusal}
-use Rattle.dis_package.proofs.Common.{words, Left, left_from, without_comments, line_at, number_at, number, FlowModel, item_is, GivesOnly, IsShort, done}
-use Rattle.dis_package.proofs.Common.{goes_on, then_, if_passed, weaker, repeated_gives, All-nil, All-cons, Period, model_of_grid, dis_of, IsNewPeriod}
-use Rattle.dis_package.proofs.Common.{periods_of, IsTime, kind_or_refusal, is_time, time_of, period_of, period_at, IsBegun, kind_of, Limits, and_parts}
-use Rattle.dis_package.proofs.Common.{leb-true, BadGrid, number_is, IsGridWithin, All-weaker, IsTimed, Bool, true, false, not, ◌||◌, ◌⊎◌, inl, inr, ◌∙◌}
-use Rattle.dis_package.proofs.Common.{if◌then◌else◌, size, is_growth, IsGrowing, number_one, not-true, is_at_most, is_at_least, is_one, is_positive}
-use Rattle.dis_package.proofs.Common.{positive_of, one_of}
+use Rattle.dis_package.proofs.Common.{words, Left, left_from, without_comments, line_at, number_at, number, FlowModel, item_is, GivesOnly, IsShort}
+use Rattle.dis_package.proofs.Common.{ok_gives_only, goes_on, then_, if_passed, gives_only_less, repeated_gives, All-nil, All-cons, Period, model_of_grid}
+use Rattle.dis_package.proofs.Common.{dis_of, IsNewPeriod, periods_of, IsTime, kind_or_refusal, is_time, time_of, period_of, period_at, IsBegun, kind_of}
+use Rattle.dis_package.proofs.Common.{Limits, and_parts, leb-true, BadGrid, number_is, IsGridWithin, All-weaker, IsTimed, Bool, true, false, not, ◌||◌, ◌⊎◌}
+use Rattle.dis_package.proofs.Common.{inl, inr, ◌∙◌, if◌then◌else◌, size, is_growth, IsGrowing, number_one, not-true, is_at_most, is_at_least, is_one}
+use Rattle.dis_package.proofs.Common.{is_positive, positive_of, one_of}
 use Rattle.std.proofs.lemmas.List.Sums.{sum_by-cons}
 use Rattle.dis_package.proofs.FrameForms.{head_is, count_is}
 use Rattle.dis_package.proofs.GridForms.{grid_is}
@@ -71,21 +71,21 @@ module _ (file : List ℕ) where
   unfolding time_of
   time_is line ws =
       then_ _ (number_at_is line ws) (λ perlen a. then_ _ (count_is file line 100000 perlen.1) (λ nstp b. then_ _ (number_at_is line nstp.1)
-      (λ tsmult c. goes_on (kind_or_refusal (kind_of tsmult.1) (refusal BadGrid file line)) _ (λ steady e. done (record { perlen = a; nstp = b; tsmult = c })))))
+      (λ tsmult c. goes_on (kind_or_refusal (kind_of tsmult.1) (refusal BadGrid file line)) _ (λ steady e. ok_gives_only (record { perlen = a; nstp = b; tsmult = c })))))
 
   period_is : (s : ℕ × Left) → GivesOnly (λ x. IsNewPeriod x.0 × (s.0 + x.0.nstp ≡ x.1.0) × (x.1.0 ≤ 100000)) (period_at file s)
   unfolding period_at
   period_is s =
       goes_on (line_at file s.1) _ (λ line e. then_ _ (time_is line.0.number (words line.0.bytes)) (λ time is. if_passed (is_time time && nat_le (s.0 + time.nstp) 100000) _ _ (λ passed.
       let p = and_parts (is_time time) (nat_le (s.0 + time.nstp) 100000) passed in
-      done (new_of (period_of time) time refl is p.0, refl, leb-true (s.0 + time.nstp) 100000 p.1))))
+      ok_gives_only (new_of (period_of time) time refl is p.0, refl, leb-true (s.0 + time.nstp) 100000 p.1))))
 
   -- from at most so many steps on
   abbrev AreNext : ℕ → ℕ × Left → List Period × (ℕ × Left) → Type 0
   AreNext count s x = s.0 ≤ 100000 → ArePeriods count s.0 x.1.0 x.0
 
   next_period : (n : ℕ) (s : ℕ × Left) → GivesOnly (λ x. (more : List Period × (ℕ × Left)) → AreNext n x.1 more → AreNext (suc n) s (x.0 ∷ more.0, more.1)) (period_at file s)
-  next_period n s = weaker (period_is s) (λ x one more rest few.
+  next_period n s = gives_only_less (period_is s) (λ x one more rest few.
       let steps : s.0 + x.0.nstp ≡ x.1.0 = one.1 in
       let are : ArePeriods n x.1.0 more.1.0 more.0 = rest one.2 in
       record {
@@ -103,7 +103,7 @@ module _ (file : List ℕ) where
       let are : ArePeriods count 0 x.1.0 x.0 = next (omega arith) in
       let sum : 0 + sum_by nstp x.0 ≡ x.1.0 = are.sum in
       let most : x.1.0 ≤ 100000 = are.few in
-      done (are.many, are.new, omega (arith, sum, most)))
+      ok_gives_only (are.many, are.new, omega (arith, sum, most)))
 
 -- a model that was begun by these limits
 pub record IsStarted (limits : Limits) (m : FlowModel) : Type 0 where
@@ -116,7 +116,7 @@ dis_is limits files file bytes =
     then_ _ (head_is file limits (without_comments (left_from 1 bytes))) (λ head a. then_ _ (grid_is files file head.0.0.size head.0.1 limits head.1 a.0.size a.3 a.2) (λ grid g.
     then_ _ (periods_are file head.0.0.periods grid.1) (λ periods ps.
     let many : length periods ≡ head.0.0.periods = ps.0 in
-    done (record {
+    ok_gives_only (record {
       begun = record {
         discretized = record {
           grid = g.grid;

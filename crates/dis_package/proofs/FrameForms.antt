@@ -3,8 +3,8 @@ use Rattle.dis_package.proofs.Common.{◌≡◌, ℕ, ◌-◌, ◌*◌, ◌<◌,
 use Rattle.dis_package.proofs.Common.{None, refl, arith, ℤ, pos, negsuc, if◌then◌else◌, and_parts, leb-true, ltb-true, eqb-true, not-false, All-push, refusal}
 use Rattle.dis_package.proofs.Common.{words, BadGrid, line_at, Left, Taking, beginning, number_at, value_at, value_alone, integer, zero_at, int_at, is_nonzero}
 use Rattle.dis_package.proofs.Common.{most_layers, most_in_row, most_cells, within, head_of, IsSize, IsFrame, count_at, size_at, frame_of, beds_of, inside}
-use Rattle.dis_package.proofs.Common.{Size, IsShort, GivesOnly, item_is, value_is, integer_is, done, refused, goes_on, then_, if_passed, if_clear, repeated_are}
-use Rattle.dis_package.proofs.Common.{Limits}
+use Rattle.dis_package.proofs.Common.{Size, IsShort, GivesOnly, item_is, value_is, integer_is, ok_gives_only, err_gives_only, goes_on, then_, if_passed}
+use Rattle.dis_package.proofs.Common.{if_clear, repeated_are, Limits}
 use Rattle.std.proofs.lemmas.List.{length-append}
 use Rattle.outside.specs.declared.inputs.Refusal.{Refusal}
 use Rattle.model_types.proofs.WideLimits.{layers_few, in_row_few, cells_few}
@@ -30,9 +30,9 @@ within_is (pos k) limit r = by_case (nat_lt 0 k && nat_le k limit) refl
         let p = and_parts (nat_lt 0 k) (nat_le k limit) e in
         let low : 0 < k = ltb-true 0 k p.0 in
         let high : k ≤ limit = leb-true k limit p.1 in
-        done (omega arith, omega arith)
-    by_case false e = refused
-within_is (negsuc k) limit r = refused
+        ok_gives_only (omega arith, omega arith)
+    by_case false e = err_gives_only
+within_is (negsuc k) limit r = err_gives_only
 
 below_wide : {a b c : ℕ} → a ≤ b → b ≤ c → a ≤ c
 below_wide h k = omega (arith, h, k)
@@ -61,7 +61,7 @@ module _ (file : List ℕ) where
   module _ (line : ℕ) where
     pub count_is : (limit : ℕ) (ws : List (List ℕ)) → GivesOnly (λ x. IsCount limit x.0) (count_at file line limit ws)
     unfolding count_at
-    count_is limit ws = goes_on (number_at integer file line ws) _ (λ z e. then_ _ (within_is z.0 limit (refusal BadGrid file line)) (λ n h. done h))
+    count_is limit ws = goes_on (number_at integer file line ws) _ (λ z e. then_ _ (within_is z.0 limit (refusal BadGrid file line)) (λ n h. ok_gives_only h))
 
     size_is : (limits : Limits) (ws : List (List ℕ)) → GivesOnly (λ x. IsSize x.0 × IsSizeWithin limits x.0) (size_at limits file line ws)
     unfolding size_at
@@ -69,7 +69,7 @@ module _ (file : List ℕ) where
         then_ _ (count_is (most_layers limits) ws) (λ k layers. then_ _ (count_is (most_in_row limits) k.1) (λ i rows. then_ _ (count_is (most_in_row limits) i.1)
         (λ j cols. if_passed (nat_le (k.0 * (i.0 * j.0)) (most_cells limits)) _ _ (λ few.
         let cells : k.0 * (i.0 * j.0) ≤ most_cells limits = leb-true (k.0 * (i.0 * j.0)) (most_cells limits) few in
-        done (
+        ok_gives_only (
           record {
             layers = (layers.0, below_wide layers.1 (layers_few limits));
             rows = (rows.0, below_wide rows.1 (in_row_few limits));
@@ -83,18 +83,18 @@ module _ (file : List ℕ) where
     unfolding frame_of
     frame_is limits ws =
         then_ _ (size_is limits ws) (λ s size. then_ _ (count_is 1000 s.1) (λ n periods. goes_on (number_at integer file line n.1) _ (λ t e. then_ _ (item_is integer IsShort integer_is file line t.1)
-        (λ u lenuni. done (record { size = size.0; periods = periods }, lenuni, size.1)))))
+        (λ u lenuni. ok_gives_only (record { size = size.0; periods = periods }, lenuni, size.1)))))
 
   zero_is : (s : Taking × Left) → GivesOnly (λ x. (x.0 ≡ pos 0) × IsShort x.0) (zero_at file s)
   unfolding zero_at
-  zero_is s = goes_on (value_at integer file s) _ (λ z e. if_clear (is_nonzero z.0.0) _ _ (λ none. done (zero_item z.0.0 none)))
+  zero_is s = goes_on (value_at integer file s) _ (λ z e. if_clear (is_nonzero z.0.0) _ _ (λ none. ok_gives_only (zero_item z.0.0 none)))
 
   beds_are : (layers : ℕ) (left : Left) → 1 ≤ layers → GivesOnly (λ x. AreBeds layers x.0) (beds_of file layers left)
   unfolding beds_of
   beds_are layers left some =
       then_ _ (repeated_are (value_alone integer file) IsShort (value_is integer IsShort integer_is file) (layers - 1) (beginning, left)) (λ above are. then_ _ (zero_is above.1) (λ last zero.
       let many : length above.0 ≡ layers - 1 = are.0 in
-      done (record {
+      ok_gives_only (record {
         count = omega (arith, length-append above.0 (last.0 ∷ []), some);
         short = All-push IsShort above.0 last.0 are.1 zero.1;
         last = last_of above.0 (above.0 ++ last.0 ∷ []) last.0 layers some many refl zero.0;
@@ -105,4 +105,4 @@ module _ (file : List ℕ) where
   unfolding head_of
   head_is limits left =
       goes_on (line_at file left) _ (λ line e. then_ _ (frame_is line.0.number limits (words line.0.bytes)) (λ frame f. then_ _ (beds_are frame.size.layers line.1 f.0.size.layers.0)
-      (λ beds b. done (f.0, f.1, b, f.2))))
+      (λ beds b. ok_gives_only (f.0, f.1, b, f.2))))

@@ -1,7 +1,7 @@
 -- What is read of widths and elevations.
 use Rattle.dis_package.proofs.Common.{◌≡◌, ℕ, ◌+◌, ◌*◌, false, List, length, replicate, All, refl, arith, ℤ, ◌-◌, All-nil, All-append, IsDec, FileSet, Left}
 use Rattle.dis_package.proofs.Common.{real, IsGrid, int_at, is_nonzero, no_number, IsPositive, is_positive, IsSize, widths, bottom_at, bottoms_of, grid_of}
-use Rattle.dis_package.proofs.Common.{Size, array_is, number_is, multiplied_is, GivesOnly, done, then_, if_passed, Grid, all_positive_of, IsGridWithin}
+use Rattle.dis_package.proofs.Common.{Size, array_is, number_is, multiplied_is, GivesOnly, ok_gives_only, then_, if_passed, Grid, all_positive_of, IsGridWithin}
 use Rattle.dis_package.proofs.Common.{IsOfBeds, Limits, counted_gives}
 use Rattle.std.specs.List.{list_all}
 use Rattle.decimal_input.specs.declared.dec.Dec.{Dec}
@@ -15,7 +15,7 @@ module _ (files : FileSet) (file : List ℕ) where
   unfolding widths
   widths_are count left =
       then_ _ (array_is real IsDec number_is multiplied_is files file 1 count left) (λ read are. if_passed (list_all is_positive read.0.0) _ _
-      (λ passed. done (omega (arith, are.0), all_positive_of read.0.0 are.1 passed)))
+      (λ passed. ok_gives_only (omega (arith, are.0), all_positive_of read.0.0 are.1 passed)))
 
 -- what is asked of the layer k of a list that is 0 where there is no bed
 abbrev pub IsBedLayer : List ℤ → ℕ → ℕ → List Dec → Type 0
@@ -40,7 +40,7 @@ module _ (files : FileSet) (file : List ℕ) (size : Size) (laycbd : List ℤ) w
   one_bottom i s so =
       let cells = size.rows * size.cols in
       then_ _ (layer_is files file size.rows size.cols s.1) (λ bottom a. then_ _ (layer_or_is files file size.rows size.cols (is_nonzero (int_at laycbd i)) no_number bottom.1 no_number_is)
-      (λ bed b. done (record {
+      (λ bed b. ok_gives_only (record {
         layers = one_more IsDec cells i s.0.layers bottom.0 so.layers a;
         decimals = All-append IsDec s.0.beds bed.0 so.decimals b.1;
         beds = one_more_layer cells (IsBedLayer laycbd cells) i s.0.beds bed.0 so.beds b.0 b.2;
@@ -57,7 +57,7 @@ module _ (files : FileSet) (file : List ℕ) (size : Size) (laycbd : List ℤ) w
   unfolding grid_of
   grid_is limits left sizes w beds =
       then_ _ (widths_are files file size.cols left) (λ delr a. then_ _ (widths_are files file size.rows delr.1) (λ delc b. then_ _ (layer_is files file size.rows size.cols delc.1)
-      (λ top c. then_ _ (bottoms_are size.layers top.1) (λ bottoms are. done (record {
+      (λ top c. then_ _ (bottoms_are size.layers top.1) (λ bottoms are. ok_gives_only (record {
         grid = record {
           size = record { layers = sizes.layers; rows = sizes.rows; cols = sizes.cols; cells = sizes.cells };
           delr = a;

@@ -1,8 +1,8 @@
 -- A run that puts a text first, and then what is due without it.
 use Rattle.engine.proofs.Common.{[], ◌≡◌, ◌++◌, ◌∷◌, Bool, true, false, List, None, Option, Some, inl, inr, refl, subst, sym, ◌∙◌, Put, Text, Status, whole_put}
 use Rattle.engine.proofs.Common.{After, Begins, Case, CutOf, Due, IsCutListing, IsFirstPut, IsListingBeside, IsListingOf, IsRun, IsRunOf, IsValid, Listing}
-use Rattle.engine.proofs.Common.{PutsMore, ReadsFolder, Task, after_text, all_due, broken_off, cut, defined, early, joined, lacks_at_first, left, listed}
-use Rattle.engine.proofs.Common.{nothing, put_not_ok, unread, wanting_not_ok, weaker, whole, ViewPutsOf, ℕ}
+use Rattle.engine.proofs.Common.{PutsMore, ReadsFolder, Task, after_text, all_due, broken_off, cut, defined, early, puts_are_joined, lacks_at_first, left}
+use Rattle.engine.proofs.Common.{listed, nothing, put_not_ok, unread, wanting_not_ok, run_of_less, whole, ViewPutsOf, ℕ}
 use Rattle.engine.proofs.DeckEnds.{run_map}
 use Rattle.run_puts.specs.declared.puts.Status.TheVariants as status
 
@@ -12,7 +12,7 @@ pub puts_then : {S : Type 0} {old mid new : S} {P Q R : List Put → Type 0} (le
 puts_then {S} {old} {mid} {new} leads first second joins = λ start puts h.
     let a = first start puts h in
     let b = second start (puts ++ a.0) a.1 in
-    (a.0 ++ b.0, joined (λ ps. leads start ps new) puts a.0 b.0 b.1, joins a.0 b.0 a.2 b.2)
+    (a.0 ++ b.0, puts_are_joined (λ ps. leads start ps new) puts a.0 b.0 b.1, joins a.0 b.0 a.2 b.2)
 
 -- a run of a listing beside which views were put, as one of its case
 pub listing_run : (beside : Type 0) (k : Task) (end : Status) (puts : List Put) → IsRun (IsListingBeside beside k) (IsCutListing k) end puts → IsRunOf ⊥ beside (Listing k) end puts
@@ -24,7 +24,7 @@ listing_run beside k = run_map due (λ pieces c. c)
 
 -- a run in which no read failed
 pub never_unread : (failed beside : Type 0) (c : Case) (end : Status) (puts : List Put) → IsRunOf ⊥ beside c end puts → IsRunOf failed beside c end puts
-never_unread failed beside c = weaker (Due ⊥ beside c) (Due failed beside c) (CutOf c) due
+never_unread failed beside c = run_of_less (Due ⊥ beside c) (Due failed beside c) (CutOf c) due
   where
     due : (end : Status) (pieces : List Text) → Due ⊥ beside c end pieces → Due failed beside c end pieces
     due end pieces (defined meant all d) = defined meant all d

@@ -1,7 +1,7 @@
 -- The result of a run beside which a side sink is led.
 use Rattle.engine.proofs.Common.{[], ◌≡◌, ℕ, true, List, Option, Some, None, IfSome, sym, subst, ◌∙◌, inl, inr, Rose, FileSet, Put, InputFault, Wanted, Text}
 use Rattle.engine.proofs.Common.{read_fault_line, Status, Task, wanting_not_ok, Case, Answers, AnswersBeside, IsReadingEnd, IsWatched, SidePuts, ViewPutsOf}
-use Rattle.engine.proofs.Common.{views_in, IsListingOf, CutOf, case_of, Due, IsRunOf, IsValid, broken_off, defined, unread, weaker, line_not_ok}
+use Rattle.engine.proofs.Common.{views_in, IsListingOf, CutOf, case_of, Due, IsRunOf, IsValid, broken_off, defined, unread, run_of_less, line_not_ok}
 use Rattle.outside.specs.declared.inputs.InputFault.TheVariants as input
 use Rattle.run_puts.specs.declared.puts.Status.TheVariants as status
 
@@ -23,7 +23,7 @@ reading_not_ok input.Memory end puts h = wanting_not_ok end puts h
 
 -- nothing failed beside
 run_alone : (read_failed beside : Type 0) (c : Case) (end : Status) (puts : List Put) → IsRunOf read_failed ⊥ c end puts → IsRunOf read_failed beside c end puts
-run_alone read_failed beside c = weaker (Due read_failed ⊥ c) (Due read_failed beside c) (CutOf c) due_alone
+run_alone read_failed beside c = run_of_less (Due read_failed ⊥ c) (Due read_failed beside c) (CutOf c) due_alone
   where
     due_alone : (end : Status) (pieces : List Text) → Due read_failed ⊥ c end pieces → Due read_failed beside c end pieces
     due_alone end pieces (defined meant all d) = defined meant all d

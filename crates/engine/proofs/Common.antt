@@ -48,7 +48,7 @@ pub use Rattle.listing_io.specs.{AreListed, IsListedAt, all_lines, ended_line, f
 pub use Rattle.listing_io.specs.{text_of, view_text}
 pub use Rattle.listing_io.specs.declared.listing.ListedStep.{ListedStep}
 pub use Rattle.listing_run.proofs.Lines.{ends_by}
-pub use Rattle.listing_run.proofs.Pieces.{alone, beside, beside_by, line_not_ok, put_not_ok, wanting_not_ok}
+pub use Rattle.listing_run.proofs.Pieces.{alone, beside_by, cut_listing_is_beside, line_not_ok, put_not_ok, wanting_not_ok}
 pub use Rattle.listing_run.proofs.Settled.{IsWhole, is_whole, whole_listing}
 pub use Rattle.listing_run.specs.{AllSteps, BoundAll, BoundBetween, Bounds, HasLargeFlow, IsCutListing, IsListing, IsListingBeside, IsSettledBy, IsStep, IsTask}
 pub use Rattle.listing_run.specs.{ListingExcludesRefusal, ListingIsOne, PairEncloses, Reaches, ReachesFirst, RefusalIsOne, RestsOrSettles, Steps, begun}
@@ -78,7 +78,7 @@ pub use Rattle.outside.specs.declared.traits.SinkError.{SinkError}
 pub use Rattle.record_lines.specs.{Has, Stops, StopsText, ◌>>=◌}
 pub use Rattle.run_puts.proofs.Batches.{batch_run, batch_settles, batches_agree, ends_of_jobs}
 pub use Rattle.run_puts.proofs.Makes.{all_written, early_rose}
-pub use Rattle.run_puts.proofs.Pieces.{IsLate, joined, lacks_at_first, late_not_read, lone, tail_late, weaker}
+pub use Rattle.run_puts.proofs.Pieces.{IsLate, lacks_at_first, late_not_read, lone_line_is_run, puts_are_joined, run_of_less, tail_late}
 pub use Rattle.run_puts.specs.{Agree, Begins, EndsOutOfMemory, IsBatch, IsEnd, IsLast, IsPut, IsRun, IsUnfinished, NeverCut, PutsMore, Text, all_due, code_of}
 pub use Rattle.run_puts.specs.{cut, early, end_line, failed, first_not_ok, memory_put, nothing, or_else, read_fault_line, status_after, texts, wanting, whole}
 pub use Rattle.run_puts.specs.declared.job_end.JobEnd.{JobEnd}

@@ -5,7 +5,7 @@ use Rattle.engine.proofs.Common.{Checking, Writing, read_by_name, Due, ReadsFold
 use Rattle.engine.proofs.Common.{Comparing, IsListingOf, Begins, all_due, cut, early, nothing, whole, Second, one_deck, Limits, of_both, of_first, of_second}
 use Rattle.engine.proofs.Common.{AreAlike, IfSome, option_map, is_some, unread, case_decks, IsDecksRefusal, listing_read, second_in, two, zones_read}
 use Rattle.engine.proofs.Common.{broken_off, case_named, case_read, case_listed, Defines, IsRunOf}
-use Rattle.engine.proofs.Ends.{ends_without_words, lone_defined, refused, unreadable, of_case, read_reads}
+use Rattle.engine.proofs.Ends.{ends_without_words, lone_defined, refused_line_answers, read_fault_line_answers, of_case, read_reads}
 use Rattle.outside.specs.declared.inputs.InputFault.TheVariants as input
 use Rattle.run_puts.specs.declared.puts.Status.TheVariants as status
 
@@ -95,8 +95,8 @@ module _ (limits : Limits) (name : Text) (to : Option Text) (files : FileSet) (c
     refused_by : (refusal : Refusal) → IsDecksRefusal (read_by_name name (reads limits files))
         (option_map (λ last. read_by_name last (second_in limits files)) to) refusal → IsEnd (refused_line refusal) (status.Refused refusal) end puts →
         Answers Here n m end puts
-    refused_by refusal (of_first h) e = of_case (Refuses refusal) (sym (ap (λ x. case_decks x (option_map (λ last. read_by_name last (second_in limits files)) to) come) h)) (refused refusal e)
-    refused_by refusal (of_second a h k) e = of_case (Refuses refusal) (sym (λ i. case_decks (h i) (k i) come)) (refused refusal e)
+    refused_by refusal (of_first h) e = of_case (Refuses refusal) (sym (ap (λ x. case_decks x (option_map (λ last. read_by_name last (second_in limits files)) to) come) h)) (refused_line_answers refusal e)
+    refused_by refusal (of_second a h k) e = of_case (Refuses refusal) (sym (λ i. case_decks (h i) (k i) come)) (refused_line_answers refusal e)
     refused_by refusal (of_both a b d h k first never same) e =
         of_case (Comparing a b (come (two a b.model))) (sym (λ i. case_decks (h i) (k i) come)) (lone_defined (refused_line refusal) (status.Refused refusal)
         (inl (record { difference = d; first = first; unlike = never; status = ap status.Refused same; are = ap (λ (x : Refusal). refused_line x ∷ []) same })) (inl never) e)
@@ -106,7 +106,7 @@ module _ (limits : Limits) (name : Text) (to : Option Text) (files : FileSet) (c
         InputCounts {T = Decks} n m (Err fault) → IsReadingEnd fault end puts → Answers Here n m end puts
     ends_undecked all (input.Refused refusal) p counts h = refused_by refusal p h
     ends_undecked all input.ReadFault p counts h =
-        unreadable (decks_reads (read_by_name name (reads limits files)) (option_map (λ last. read_by_name last (second_in limits files)) to) come all) counts h
+        read_fault_line_answers (decks_reads (read_by_name name (reads limits files)) (option_map (λ last. read_by_name last (second_in limits files)) to) come all) counts h
     ends_undecked all input.Memory p counts h = ends_without_words h
 
     -- decks were read

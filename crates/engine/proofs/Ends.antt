@@ -1,10 +1,10 @@
 -- The ends of a run, by its words, its reading and its listing.
 use Rattle.engine.proofs.Common.{[], ◌≡◌, ℕ, List, ◌∷◌, Ok, Err, Result, IfOk, subst, sym, ap, refl, inl, inr, FileSet, Rose, Put, IsReading, with_limit}
 use Rattle.engine.proofs.Common.{Refusal, usage_line, FlowModel, IsModel, most_bytes, refused_line, read_fault_line, IsEnd, IsLast, EndsOutOfMemory, wanting}
-use Rattle.engine.proofs.Common.{memory_put, status_after, Text, Status, tail_late, lone, lacks_at_first, weaker, Case, NoWords, Refuses, made_model, Due}
-use Rattle.engine.proofs.Common.{ReadsFolder, CutOf, IsMade, Answers, IsStopped, IsValid, defined, unread, read_by_name, made_task, summed_text, IsReadingEnd}
-use Rattle.engine.proofs.Common.{made_fault, InputFault, ListingEnd, last_line, listing, status_of, made_files, made_name, Plain, IsSummarized, reads, Defines}
-use Rattle.engine.proofs.Common.{InputCounts, IsRun, case_read, Making, PutsMore}
+use Rattle.engine.proofs.Common.{memory_put, status_after, Text, Status, tail_late, lone_line_is_run, lacks_at_first, run_of_less, Case, NoWords, Refuses}
+use Rattle.engine.proofs.Common.{made_model, Due, ReadsFolder, CutOf, IsMade, Answers, IsStopped, IsValid, defined, unread, read_by_name, made_task}
+use Rattle.engine.proofs.Common.{summed_text, IsReadingEnd, made_fault, InputFault, ListingEnd, last_line, listing, status_of, made_files, made_name, Plain}
+use Rattle.engine.proofs.Common.{IsSummarized, reads, Defines, InputCounts, IsRun, case_read, Making, PutsMore}
 use Rattle.engine.proofs.Dues.{late_stops}
 use Rattle.listing_summary.specs.declared.summary.Summary.{Summary}
 use Rattle.outside.specs.declared.inputs.InputFault.TheVariants as input
@@ -28,14 +28,14 @@ module _ {case : Case} {n m : ℕ} {end : Status} {puts : List Put} where
 
   -- one line, which the case defines
   pub lone_defined : (line : Text) (meant : Status) → Defines case meant (line ∷ []) → IsValid case → IsEnd line meant end puts → Answers case n m end puts
-  lone_defined line meant d valid h = record { run = lone (Due (Rose n m) ⊥ case) (CutOf case) line meant end puts (defined meant (line ∷ []) d) h; valid = inr valid }
+  lone_defined line meant d valid h = record { run = lone_line_is_run (Due (Rose n m) ⊥ case) (CutOf case) line meant end puts (defined meant (line ∷ []) d) h; valid = inr valid }
 
-  pub unreadable : ReadsFolder case → Rose n m → IsLast read_fault_line status.ReadFault end puts → Answers case n m end puts
-  unreadable worded rose h = record { run = lone (Due (Rose n m) ⊥ case) (CutOf case) read_fault_line status.ReadFault end puts (unread (rose, worded)) (inl h); valid = inl (read_stops end puts h) }
+  pub read_fault_line_answers : ReadsFolder case → Rose n m → IsLast read_fault_line status.ReadFault end puts → Answers case n m end puts
+  read_fault_line_answers worded rose h = record { run = lone_line_is_run (Due (Rose n m) ⊥ case) (CutOf case) read_fault_line status.ReadFault end puts (unread (rose, worded)) (inl h); valid = inl (read_stops end puts h) }
 
   -- as the case defines
   pub ends_defined : IsRun (Defines case) (CutOf case) end puts → IsValid case → Answers case n m end puts
-  ends_defined h valid = record { run = weaker (Defines case) (Due (Rose n m) ⊥ case) (CutOf case) (λ meant pieces d. defined meant pieces d) end puts h; valid = inr valid }
+  ends_defined h valid = record { run = run_of_less (Defines case) (Due (Rose n m) ⊥ case) (CutOf case) (λ meant pieces d. defined meant pieces d) end puts h; valid = inr valid }
 
   -- a case that is this one
   pub of_case : (other : Case) → other ≡ case → Answers other n m end puts → Answers case n m end puts
@@ -49,8 +49,8 @@ module _ {n m : ℕ} {end : Status} {puts : List Put} where
   pub ends_usage : IsLast usage_line status.Usage end puts → Answers NoWords n m end puts
   ends_usage h = lone_defined usage_line status.Usage (refl, refl) tt (inl h)
 
-  pub refused : (refusal : Refusal) → IsEnd (refused_line refusal) (status.Refused refusal) end puts → Answers (Refuses refusal) n m end puts
-  refused refusal h = lone_defined (refused_line refusal) (status.Refused refusal) (refl, refl) tt h
+  pub refused_line_answers : (refusal : Refusal) → IsEnd (refused_line refusal) (status.Refused refusal) end puts → Answers (Refuses refusal) n m end puts
+  refused_line_answers refusal h = lone_defined (refused_line refusal) (status.Refused refusal) (refl, refl) tt h
 
   -- A reading that comes to a case.
   module _ {T : Type 0} (r : Result T Refusal) (come : T → Case) where
@@ -59,8 +59,8 @@ module _ {n m : ℕ} {end : Status} {puts : List Put} where
 
     pub ends_unread : {V : Type 0} (view : V → T) → ((x : T) → ReadsFolder (come x)) → (fault : InputFault) → IsReading view r (Err fault) →
         InputCounts {T = V} n m (Err fault) → IsReadingEnd fault end puts → Answers (case_read r come) n m end puts
-    ends_unread view reads (input.Refused refusal) is counts h = let P : Result T Refusal → Type 0 = λ y. Answers (case_read y come) n m end puts in subst P (sym is) (refused refusal h)
-    ends_unread view reads input.ReadFault is counts h = unreadable (read_reads come reads r) counts h
+    ends_unread view reads (input.Refused refusal) is counts h = let P : Result T Refusal → Type 0 = λ y. Answers (case_read y come) n m end puts in subst P (sym is) (refused_line_answers refusal h)
+    ends_unread view reads input.ReadFault is counts h = read_fault_line_answers (read_reads come reads r) counts h
     ends_unread view reads input.Memory is counts h = ends_without_words h
 
 -- The ends of the run of a made model, which reads no folder.

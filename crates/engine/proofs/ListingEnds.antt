@@ -28,8 +28,8 @@ module _ (laws : Laws) (k : Task) (valid : AreDecks k.decks) (plain : k.quick �
   ends_agree (ends.Unfinished at) end values others x y = inl tt
   ends_agree meant (ends.Unfinished at) values others x y = inr (inr tt)
 
-  pub agree : (meant end : Status) (p q : List Text) → IsListing k meant p → IsListing k end q → Agree meant end
-  agree meant end p q x y =
+  pub statuses_agree : (meant end : Status) (p q : List Text) → IsListing k meant p → IsListing k end q → Agree meant end
+  statuses_agree meant end p q x y =
       let P : Status → Type 0 = λ s. Agree s end in
       let Q : Status → Type 0 = λ s. Agree (status_of x.last) s in
       subst P (sym x.status) (subst Q (sym y.status) (ends_agree x.last y.last x.values y.values x.steps y.steps))
@@ -74,7 +74,7 @@ IsPlainEnd job e = IsPlainJob job × (IsValidJob job × IsJobEnd job e)
 module _ (laws : Laws) where
   read_agree : (read : Result Task Refusal) (line : Text) (a c : JobEnd) → IfOk read (λ k. k.quick ≡ false) → IfOk read (λ k. AreDecks k.decks) →
       IsRunText read line a → IsRunText read line c → Agree a.status c.status
-  read_agree (Ok k) line a c plain valid x y = agree laws k valid plain a.status c.status x.pieces y.pieces x.defined y.defined
+  read_agree (Ok k) line a c plain valid x y = statuses_agree laws k valid plain a.status c.status x.pieces y.pieces x.defined y.defined
   read_agree (Err refusal) line a c plain valid x y = inr (inl (y.defined.0 ∙ sym x.defined.0))
 
   job_agree : (job : Job) (a c : JobEnd) → IsPlainEnd job a → IsPlainEnd job c → Agree a.status c.status

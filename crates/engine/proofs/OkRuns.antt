@@ -18,8 +18,8 @@ use Rattle.engine.proofs.Readings.{named_read}
 use Rattle.engine.proofs.Spans.{span_checked, span_listed}
 use Rattle.engine.proofs.DeckEnds.{to_check, to_list, to_write}
 use Rattle.engine.proofs.Afters.{valid_after}
-use Rattle.engine.proofs.Texts.{ended, ended_after, said, steps_stated}
-use Rattle.stated_text.proofs.Stands.{stands}
+use Rattle.engine.proofs.Texts.{lines_are_text, ended_after, said, steps_stated}
+use Rattle.stated_text.proofs.Stands.{parts_stand_in_text}
 use Rattle.engine.proofs.Stating.{first_part, grown, last_part, span_stated, stated}
 unfoldable use Rattle.stated_text.specs.{parts_in}
 unfoldable use Rattle.listing_io.specs.{listing as rows_of}
@@ -236,7 +236,7 @@ module _ (laws : Laws) (old new : Seen) (puts : List Put) (pieces : List Text) (
               bytes = bytes;
               read = named_read asked.text (file_at files) bytes read;
               text = text;
-              is = subst B (sym is) (ended_after (decks_text d zones) rest (text_of rows) (subst R lines_are (ended rest)));
+              is = subst B (sym is) (ended_after (decks_text d zones) rest (text_of rows) (subst R lines_are (lines_are_text rest)));
               stated = said asked.digits zones d.first steps d.second text refl valid.0 valid.1.steps (c.encloses holds) (c.history holds);
               written = appended (certified_line ∷ []) (subst L holds c.are);
             };
@@ -276,7 +276,7 @@ module _ (laws : Laws) (old new : Seen) (puts : List Put) (pieces : List Text) (
     one_by (Some (CheckText asked)) end batched =
         of_read (read_by_name asked.text (file_at files)) _ (λ bytes read.
         of_read (parts_in asked.limits asked.text bytes) (λ p. case_parts asked p.first p.second) (λ p parts.
-        of_parts asked bytes read p.first p.second (stands asked.limits asked.text bytes p parts)))
+        of_parts asked bytes read p.first p.second (parts_stand_in_text asked.limits asked.text bytes p parts)))
     one_by (Some Words) end batched = λ valid d. of_words d
     one_by (Some (Write limits name)) end batched = of_one (read_by_name name (reads limits files)) to_write (λ m read valid d. of_deck limits name m read valid d)
 

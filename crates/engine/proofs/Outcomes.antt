@@ -3,7 +3,7 @@ use Rattle.engine.proofs.Common.{◌≡◌, List, Option, Ok, subst, sym, ◌∙
 use Rattle.engine.proofs.Common.{After, Saying, one_valid, Case, Listing, Making, Checking, Writing, CutOf, Defines, made_task, GoesWell, IsRunOf, IsStopped}
 use Rattle.engine.proofs.Common.{IsValid, Difference, Comparing, IsPlain, ReadsFolder, EndsOk, EndIsDefined, Wanted, Jobs, case_of}
 use Rattle.engine.proofs.Certifying.{IsFault, certifies, check_is_no_fault, one_end, stopped_by_fault}
-use Rattle.engine.proofs.ListingEnds.{agree, goes_through, jobs_agree, jobs_end_ok, jobs_no_fault, listing_is_no_fault}
+use Rattle.engine.proofs.ListingEnds.{statuses_agree, goes_through, jobs_agree, jobs_end_ok, jobs_no_fault, listing_is_no_fault}
 use Rattle.engine.proofs.OkRuns.{Laws, valid_of}
 use Rattle.engine.proofs.Dues.{Ended, read_failed, write_failed, run_ended, end_decided, end_comes}
 use Rattle.run_puts.specs.declared.puts.Status.TheVariants as status
@@ -21,8 +21,8 @@ defines_no_fault (After text c) end pieces d h = defines_no_fault c end d.others
 defines_no_fault other end pieces d h = subst IsFault d.0 h
 
 decides : (laws : Laws) (case : Case) (meant end : Status) (p q : List Text) → IsPlain case → IsValid case → Defines case meant p → Defines case end q → Agree meant end
-decides laws (Listing k) meant end p q plain valid x y = agree laws k valid plain meant end p q x y
-decides laws (Making seed size (Ok m)) meant end p q plain valid x y = agree laws (made_task m) (one_valid m valid) refl meant end x.all y.all x.listed y.listed
+decides laws (Listing k) meant end p q plain valid x y = statuses_agree laws k valid plain meant end p q x y
+decides laws (Making seed size (Ok m)) meant end p q plain valid x y = statuses_agree laws (made_task m) (one_valid m valid) refl meant end x.all y.all x.listed y.listed
 decides laws (Checking limits m s steps) meant end p q plain (model, listed) x y = inr (inl (one_end limits m s steps laws.verdict model listed meant end p q x y))
 decides laws (Jobs jobs) meant end p q plain valid x y = jobs_agree laws jobs meant end p q plain valid x y
 decides laws (Comparing a b c) meant end p q plain valid (inl x) (inl y) =

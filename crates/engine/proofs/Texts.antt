@@ -30,10 +30,10 @@ more_text : (c : ℕ) (t : List ℕ) → AreText t (text (lines t)) → (b : Boo
 more_text c t rest true e = let is : c ≡ 10 = eqb-true c 10 e in subst (λ (x : ℕ). AreText (x ∷ t) (10 ∷ text (lines t))) (sym is) (feed_first 10 t (text (lines t)) rest)
 more_text c t rest false e = onto_text c t (lines t) refl rest
 
-pub ended : (t : List ℕ) → AreText t (text (lines t))
+pub lines_are_text : (t : List ℕ) → AreText t (text (lines t))
 unfolding lines
-ended [] = inl refl
-ended (c ∷ t) = more_text c t (ended t) (c == 10) refl
+lines_are_text [] = inl refl
+lines_are_text (c ∷ t) = more_text c t (lines_are_text t) (c == 10) refl
 
 -- text after other bytes
 pub ended_after : (front t u : List ℕ) → AreText t u → AreText (front ++ t) (front ++ u)

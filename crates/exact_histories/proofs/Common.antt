@@ -6,7 +6,7 @@ pub use Rattle.std.proofs.lemmas.List.Elements.{All-cons, All-head, All-nil, All
 pub use Rattle.std.specs.Prelude.{None, Some}
 pub use Rattle.cell_balance.specs.{AreLinked, EnclosesStep, ExactCell, ExactFixed, ExactLink, SolvesStep, balance, cell_at, drain_flow, evap_flow, fixed_flow}
 pub use Rattle.cell_balance.specs.{link_flow, minus, no_cell, river_flow, share}
-pub use Rattle.decimal_input.proofs.FloorLaws.{Same-sym, Same-trans, swap}
+pub use Rattle.decimal_input.proofs.FloorLaws.{Same-sym, Same-trans, last_factors_swap}
 pub use Rattle.decimal_input.specs.{Fraction, IsOver, as_fraction, fraction_total}
 pub use Rattle.decimal_input.specs.Fractions.{Same, den, plus}
 pub use Rattle.deck_problems.proofs.Enclosing.{pair_encloses, pair_fits, problem_encloses, problem_fits}

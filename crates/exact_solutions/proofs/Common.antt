@@ -7,7 +7,7 @@ pub use Rattle.std.proofs.lemmas.Int.{by_lt_z, clamps, ints}
 pub use Rattle.std.proofs.lemmas.List.Elements.{All-cons, All-contains, All-head, All-nil, All-tail}
 pub use Rattle.std.specs.Int.{int_max, int_min}
 pub use Rattle.std.specs.List.{AllZip}
-pub use Rattle.cell_balance.proofs.Comparison.{comparison, sum_below-tight}
+pub use Rattle.cell_balance.proofs.Comparison.{heads_compare, sum_below-tight}
 pub use Rattle.cell_balance.proofs.Conducting.{All-back, both_ways, closed_cancel, none_conduct, total_positive}
 pub use Rattle.cell_balance.proofs.Deep.{add_mul, sub_mul, total-same}
 pub use Rattle.cell_balance.proofs.Denominators.{step_common}
@@ -28,7 +28,7 @@ pub use Rattle.cell_balance.proofs.Zips.{whole_at, whole_balance, whole_deep, wh
 pub use Rattle.cell_balance.proofs.Zips.{whole_river}
 pub use Rattle.cell_balance.specs.{AreLinked, CellEncloses, ExactCell, ExactLink, HasLinkBack, SolvesStep, balance, cell_at, deep_flow, no_cell, share}
 pub use Rattle.cell_balance.specs.{sum_below, sum_inside}
-pub use Rattle.decimal_input.proofs.FloorLaws.{cancel_right, le-trans, mul_mono_right, swap}
+pub use Rattle.decimal_input.proofs.FloorLaws.{cancel_right, last_factors_swap, le-trans, mul_mono_right}
 pub use Rattle.decimal_input.specs.{Fraction, IsOver, Ratio, whole}
 pub use Rattle.decimal_input.specs.Fractions.{Same, den}
 pub use Rattle.exact_solutions.specs.{AfloatHaveAnother, DrainedHaveAnother, HasNoKnownHead, HasNoneOrMany, HeldHaveASolution, HeldHaveAtMostOne}

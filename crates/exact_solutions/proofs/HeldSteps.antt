@@ -1,16 +1,16 @@
 -- Each exact step that a problem encloses has a solution where its components are held below and above, and one alone where they are held below.
 use Rattle.exact_solutions.proofs.Common.{step_common, ◌*◌, ◌^◌, ◌∙◌, arith, length, pos, mul-pos, ◌+ℤ◌, ◌<◌, ◌≡◌, ◌≤ℤ◌, List, inl, inr, ℕ, ℤ, ◌*ℤ◌, ap, sym}
-use Rattle.exact_solutions.proofs.Common.{mutual_whole, whole_step, AllZip-length, WholeCell, WholeEntry, whole_at, CellWithin, DrainWithin, RiverWithin, swap}
-use Rattle.exact_solutions.proofs.Common.{AllZip, ints, All-contains, total, entries_at, HeldHaveASolution, HeldHaveAtMostOne, IsAnchoredAbove, IsHeldAbove}
-use Rattle.exact_solutions.proofs.Common.{ramps_from, a_of, b_of, q_of, ramps_at_cell, open_conductance, open_conductance_at, IsHeldFromAbove, both_ways}
-use Rattle.exact_solutions.proofs.Common.{All-back, none_conduct, total_positive, CellEncloses, share, Fraction, IsOver, Same, den}
+use Rattle.exact_solutions.proofs.Common.{mutual_whole, whole_step, AllZip-length, WholeCell, WholeEntry, whole_at, CellWithin, DrainWithin, RiverWithin}
+use Rattle.exact_solutions.proofs.Common.{last_factors_swap, AllZip, ints, All-contains, total, entries_at, HeldHaveASolution, HeldHaveAtMostOne}
+use Rattle.exact_solutions.proofs.Common.{IsAnchoredAbove, IsHeldAbove, ramps_from, a_of, b_of, q_of, ramps_at_cell, open_conductance, open_conductance_at}
+use Rattle.exact_solutions.proofs.Common.{IsHeldFromAbove, both_ways, All-back, none_conduct, total_positive, CellEncloses, share, Fraction, IsOver, Same, den}
 use Rattle.decimal_input.proofs.Powers.{ten_pos}
-use Rattle.cell_balance.proofs.Enclosed.{step_within, linked, links_good}
+use Rattle.cell_balance.proofs.Enclosed.{step_within, entries_are_linked, links_good}
 use Rattle.exact_solutions.proofs.LinearSteps.{cancel_same, one_whole_solution}
 use Rattle.exact_solutions.proofs.OneRamp.{whole_solution_exists}
 use Rattle.exact_solutions.proofs.WholeSolutions.{solves_step, solves_whole}
 use Rattle.step_problem.specs.Entries.{Entries}
-use Rattle.cell_balance.proofs.HeldBelow.{held_below, along, no_fixed, some_conducts, cell_within}
+use Rattle.cell_balance.proofs.HeldBelow.{held_below, closed_set_holds_lead, no_fixed, some_conducts, cell_within}
 
 -- Heads over two denominators are the same number where they are the same over the product.
 pub share_den : (d : ℕ) (z : ℤ) → 0 < d → den (share d z) ≡ d
@@ -36,7 +36,7 @@ module _ (m n : ℕ) (some_m : 0 < m) (some_n : 0 < n) (p : List Entries) (w : L
     held_above held S closed none c h inside =
         let i : c < length p = omega (arith, h, same_length) in
         let (j, k, way, anchored) = held c i in
-        let (k_in, there) = along m n some_m some_n p w within S closed j c k i inside way in
+        let (k_in, there) = closed_set_holds_lead m n some_m some_n p w within S closed j c k i inside way in
         no_highest k k_in (none k (omega (arith, k_in, same_length)) there) anchored
       where
         first : (b : ℕ) (r d e : ℤ) → pos 0 ≤ℤ r → pos 0 ≤ℤ d → pos 0 ≤ℤ e → pos b +ℤ (r +ℤ (d +ℤ e)) ≡ pos 0 → (b ≡ 0) × (r ≡ pos 0) × (d ≡ pos 0)
@@ -65,7 +65,7 @@ solution_exists p fits held above s e encloses =
     let (n, some_n, common) = step_common e in
     let (w, over) = whole_step n (10 ^ s) (10 ^ 9) e common in
     let within = step_within s n n (length p) p e w encloses.cells over (links_good p fits) in
-    let both = mutual_whole (n * 10 ^ s) (n * 10 ^ 9) e w (linked s p e fits encloses) over in
+    let both = mutual_whole (n * 10 ^ s) (n * 10 ^ 9) e w (entries_are_linked s p e fits encloses) over in
     let (d, X, is) = whole_solution_exists (length w) (a_of w) (both_ways w both) (b_of w) (q_of w) (ramps_from 0 w)
     (held_below n n some_n some_n p w within held) (held_above n n some_n some_n p w within above) in (
       n * 10 ^ 9 * d,
@@ -79,7 +79,7 @@ solution_is_one p fits held s e encloses d k X Y some_d some_k solves_x solves_y
     let (n, some_n, common) = step_common e in
     let (w, over) = whole_step n (10 ^ s) (10 ^ 9) e common in
     let within = step_within s n n (length p) p e w encloses.cells over (links_good p fits) in
-    let both = mutual_whole (n * 10 ^ s) (n * 10 ^ 9) e w (linked s p e fits encloses) over in
+    let both = mutual_whole (n * 10 ^ s) (n * 10 ^ 9) e w (entries_are_linked s p e fits encloses) over in
     let some_k' = mul-pos some_n (ten_pos s) in
     let some_m = mul-pos some_n (ten_pos 9) in
     let x = solves_whole (n * 10 ^ s) (n * 10 ^ 9) some_k' some_m e w over both d X some_d solves_x in
@@ -87,4 +87,4 @@ solution_is_one p fits held s e encloses d k X Y some_d some_k solves_x solves_y
     let same = one_whole_solution (length w) (a_of w) (b_of w) (q_of w) (ramps_from 0 w) (both_ways w both)
     (held_below n n some_n some_n p w within held) d k _ _ x y c
     (omega (arith, i, AllZip-length (CellEncloses s) p e encloses.cells, AllZip-length (CellWithin n n (length p)) p w within)) in
-    crossed_same d k (X c) (Y c) some_d some_k (cancel_same (n * 10 ^ 9) _ _ some_m (swap (X c) (pos k) (pos (n * 10 ^ 9)) ∙ same ∙ swap (Y c) (pos (n * 10 ^ 9)) (pos d)))
+    crossed_same d k (X c) (Y c) some_d some_k (cancel_same (n * 10 ^ 9) _ _ some_m (last_factors_swap (X c) (pos k) (pos (n * 10 ^ 9)) ∙ same ∙ last_factors_swap (Y c) (pos (n * 10 ^ 9)) (pos d)))

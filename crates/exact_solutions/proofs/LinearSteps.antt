@@ -4,7 +4,7 @@ use Rattle.exact_solutions.proofs.Common.{[], ◌*ℤ◌, ◌+ℤ◌, ◌-ℤ◌
 use Rattle.exact_solutions.proofs.Common.{diffs, same_diff, sum_below, sum_nonneg, add_mul, cancel_right, le_anti, ◌*◌, ◌∙◌, ◌∷◌, List, None, Option, Some}
 use Rattle.exact_solutions.proofs.Common.{cond, false, nat_eq, neg_ℤ, subst, sym, mul-pos, int_min, total, mul_assoc, max_times, min_times, sum-same, sum-times}
 use Rattle.exact_solutions.proofs.Common.{sub_mul, mul_mono_right, IsClosed, AreMutual, net_flow, IsHeldFromBelow, IsSolution, Ramp, rise, ramp_flow, link_flow}
-use Rattle.exact_solutions.proofs.Common.{carried_gain, comparison}
+use Rattle.exact_solutions.proofs.Common.{carried_gain, heads_compare}
 use Rattle.exact_solutions.proofs.Elimination.{IsInversePositive, inverse_positive_solved}
 
 -- no closed set of cells is without a conductance to a known head
@@ -25,7 +25,7 @@ sum_below-differences (suc n) f X v = rw (sum_below-differences n f X v) (ring (
 module _ (n : ℕ) (a : ℕ → ℕ → ℤ) (b : ℕ → ℕ) (both : AreMutual n a) (known : IsNowhereLoose n a b) where
   inverse_positive : IsInversePositive n a (total_conductance n a b)
   inverse_positive X draws i h =
-      comparison n a b (λ k. pos 0) [] both (λ S closed none c g inside. absurd (known S closed none c g inside)) 1 X (λ k. pos 0) (omega arith)
+      heads_compare n a b (λ k. pos 0) [] both (λ S closed none c g inside. absurd (known S closed none c g inside)) 1 X (λ k. pos 0) (omega arith)
       (λ k g more. omega (arith, ints, sum_below-differences n (a k) X (X k), add_mul (sum_below n (a k)) (pos (b k)) (X k), draws k g))
       (λ k g more. (omega (arith, ints, sum_nonneg n (λ j. a k j *ℤ (pos 0 -ℤ pos 0)) (λ j j_in. nothing (a k j)), *ℤ-zero (pos (b k)))))
       i h
@@ -110,7 +110,7 @@ module _ (n : ℕ) (a : ℕ → ℕ → ℤ) where
       ((i : ℕ) → i < n → net_flow n a b q rs d X i ≤ℤ pos 0) → ((i : ℕ) → i < n → pos 0 ≤ℤ net_flow n a b q rs e Y i) → (i : ℕ) → i < n →
       (Y i *ℤ pos d) ≤ℤ (X i *ℤ pos e)
   comparison_over b q rs both held d e X Y some_d some_e loses gains i h =
-      comparison n a b q rs both held (d * e) (λ j. X j *ℤ pos e) (λ j. Y j *ℤ pos d) (mul-pos some_d some_e)
+      heads_compare n a b q rs both held (d * e) (λ j. X j *ℤ pos e) (λ j. Y j *ℤ pos d) (mul-pos some_d some_e)
       (λ k j up. rw (net_flow-scaled b q rs d e X k) (less e _ (loses k j)))
       (λ k j up. subst (λ (z : ℕ). pos 0 ≤ℤ net_flow n a b q rs z (λ j. Y j *ℤ pos d) k) (turn e d) (rw (net_flow-scaled b q rs e d Y k) (more d _ (gains k j))))
       i h

@@ -1,9 +1,9 @@
 -- One ramp more: solve with it as a conductance to its foot; where that head lies on the ramp it is the solution, else solve without the ramp, or with its full rate.
 use Rattle.exact_solutions.proofs.Common.{◌*ℤ◌, ◌+ℤ◌, ◌-ℤ◌, ◌<◌, ◌∙◌, ◌∷◌, ◌≡◌, ◌≤ℤ◌, List, Option, Some, ap, arith, cond, nat_eq, neg_ℤ, pos, refl, subst, sym}
-use Rattle.exact_solutions.proofs.Common.{ℕ, ℤ, [], ◌<ℤ◌, None, inl, inr, suc, zero, *ℤ-zero, zero-*ℤ, ints, by_lt_z, cancel_right, mul_mono_right, swap}
-use Rattle.exact_solutions.proofs.Common.{loss_falls, as_diff, diffs, mul_mono, same_diff, sub_mul, Ramp, rise, ramp_flow, AreMutual, net_flow, IsHeldFromBelow}
-use Rattle.exact_solutions.proofs.Common.{IsSolution, HasWholeSolution, IsSinking, HasSinking, rise_within_extent, rise-below_foot, rise-above_top}
-use Rattle.exact_solutions.proofs.Common.{extent-between, IsHeldFromAbove, rise-no_extent, rise-no_top, rise-between, cases_lt}
+use Rattle.exact_solutions.proofs.Common.{ℕ, ℤ, [], ◌<ℤ◌, None, inl, inr, suc, zero, *ℤ-zero, zero-*ℤ, ints, by_lt_z, cancel_right, mul_mono_right}
+use Rattle.exact_solutions.proofs.Common.{last_factors_swap, loss_falls, as_diff, diffs, mul_mono, same_diff, sub_mul, Ramp, rise, ramp_flow, AreMutual}
+use Rattle.exact_solutions.proofs.Common.{net_flow, IsHeldFromBelow, IsSolution, HasWholeSolution, IsSinking, HasSinking, rise_within_extent, rise-below_foot}
+use Rattle.exact_solutions.proofs.Common.{rise-above_top, extent-between, IsHeldFromAbove, rise-no_extent, rise-no_top, rise-between, cases_lt}
 use Rattle.exact_solutions.proofs.LinearSteps.{same_at_most, same_at_least, comparison_over, linear_solution, not_loose}
 use Rattle.exact_solutions.proofs.Added.{net_flow-cons, conductance_added, flow_added, net_flow-added}
 use Rattle.exact_solutions.proofs.Regimes.{cond_same, cond_less, cond_nonneg, cond_none, ramp, flow-middle, flow-full, held_without, held_full, held_middle}
@@ -11,10 +11,10 @@ use Rattle.exact_solutions.proofs.Regimes.{sinking_middle, sinking_exists}
 
 -- (y * e ≤ x * d), and x at most t * e
 below_over : (e d : ℕ) (x y t : ℤ) → 0 < e → (y *ℤ pos e) ≤ℤ (x *ℤ pos d) → x ≤ℤ (t *ℤ pos e) → y ≤ℤ (t *ℤ pos d)
-below_over e d x y t some h k = cancel_right e y (t *ℤ pos d) some (omega (arith, ints, swap t (pos e) (pos d), mul_mono_right d x (t *ℤ pos e) k))
+below_over e d x y t some h k = cancel_right e y (t *ℤ pos d) some (omega (arith, ints, last_factors_swap t (pos e) (pos d), mul_mono_right d x (t *ℤ pos e) k))
 
 above_over : (e d : ℕ) (x y u : ℤ) → 0 < e → (x *ℤ pos d) ≤ℤ (y *ℤ pos e) → (u *ℤ pos e) ≤ℤ x → (u *ℤ pos d) ≤ℤ y
-above_over e d x y u some h k = cancel_right e (u *ℤ pos d) y some (omega (arith, ints, swap u (pos e) (pos d), mul_mono_right d (u *ℤ pos e) x k))
+above_over e d x y u some h k = cancel_right e (u *ℤ pos d) y some (omega (arith, ints, last_factors_swap u (pos e) (pos d), mul_mono_right d (u *ℤ pos e) x k))
 
 -- the other ramps, with whatever known heads and flows, have a solution where they are held and some heads let no cell gain water
 abbrev pub OthersSolved : ℕ → (ℕ → ℕ → ℤ) → List Ramp → Type 0

@@ -3,9 +3,9 @@ use Rattle.exact_solutions.proofs.Common.{[], ◌*ℤ◌, ◌*◌, ◌<◌, ◌�
 use Rattle.exact_solutions.proofs.Common.{◌+ℤ◌, ◌-ℤ◌, inl, inr, All, Bool, true, false, cond, AllZip, Fraction, IsOver, Ratio, den, mul_assoc, SolvesStep}
 use Rattle.exact_solutions.proofs.Common.{share, ExactCell, cell_at, no_cell, balance, HasLinkBack, AreLinked, ExactLink, IsMutual, whole_solves, CellOver}
 use Rattle.exact_solutions.proofs.Common.{DrainOver, EvapOver, FixedOver, FlowOver, LinkOver, RiverOver, balance_over, EntryOver, over_zero, WholeCell}
-use Rattle.exact_solutions.proofs.Common.{WholeEntry, no_whole, whole_at, whole_balance, AllZip-at, AllZip-length, WholeLink, whole_link, All-zip, swap}
-use Rattle.exact_solutions.proofs.Common.{IsSolution, ramps_from, a_of, b_of, q_of, scaled, scaled_entry, scaled_balance, true≢false, cases_Bool, ints, All-nil}
-use Rattle.exact_solutions.proofs.Common.{All-cons, All-head, All-tail, All-contains, total, total-same, heads_over}
+use Rattle.exact_solutions.proofs.Common.{WholeEntry, no_whole, whole_at, whole_balance, AllZip-at, AllZip-length, WholeLink, whole_link, All-zip}
+use Rattle.exact_solutions.proofs.Common.{last_factors_swap, IsSolution, ramps_from, a_of, b_of, q_of, scaled, scaled_entry, scaled_balance, true≢false}
+use Rattle.exact_solutions.proofs.Common.{cases_Bool, ints, All-nil, All-cons, All-head, All-tail, All-contains, total, total-same, heads_over}
 use Rattle.cell_balance.specs.{IsClosed}
 
 AllZip-map : {X Y Z : Type 0} (R : X → Y → Type 0) (S : X → Z → Type 0) (f : Y → Z) → ((x : X) (y : Y) → R x y → S x (f y)) → (xs : List X) (ys : List Y) → AllZip R xs ys → AllZip S xs (map f ys)
@@ -14,7 +14,7 @@ AllZip-map R S f each (x ∷ xs) (y ∷ ys) h = (each x y h.0, AllZip-map R S f 
 AllZip-map _ _ f each _ _ h = absurd h
 
 pub IsOver-scaled : (m d : ℕ) (f : Fraction) (z : ℤ) → IsOver m f z → IsOver (m * d) f (z *ℤ pos d)
-IsOver-scaled m d f z h = record { is = sym (mul_assoc f.num (pos m) (pos d)) ∙ ap (λ (y : ℤ). y *ℤ pos d) h.is ∙ swap z (pos (den f)) (pos d) }
+IsOver-scaled m d f z h = record { is = sym (mul_assoc f.num (pos m) (pos d)) ∙ ap (λ (y : ℤ). y *ℤ pos d) h.is ∙ last_factors_swap z (pos (den f)) (pos d) }
 
 module _ (k m d : ℕ) where
   entry_scaled : (r : Ratio) (top foot : Fraction) (w : WholeEntry) → EntryOver k m r top foot w → EntryOver k (m * d) r top foot (scaled_entry d w)

@@ -1,8 +1,8 @@
 -- The worked steps: the balance of a cell with a river and a well, and of two linked cells, and the heads at which they are zero.
 use Rattle.exact_solutions.proofs.Common.{◌≡◌, ◌*◌, ◌<◌, ◌∙◌, ◌+ℤ◌, ◌-ℤ◌, ◌*ℤ◌, ◌≤ℤ◌, [], ◌∷◌, ℕ, zero, suc, refl, sym, ap, arith, ℤ, pos, neg_ℤ, List, int_max}
 use Rattle.exact_solutions.proofs.Common.{AllZip, ints, clamps, Same, whole, IsOver, share, SolvesStep, whole_solves, CellOver, add_mul, sub_mul, WholeCell}
-use Rattle.exact_solutions.proofs.Common.{whole_at, whole_balance, mul_mono_right, swap, HasNoneOrMany, river_and_well, two_cells, WellPastDeepFlow}
-use Rattle.exact_solutions.proofs.Common.{WellWithinDeepFlow, WellOfDeepFlow, TwoLooseCells, neg_mul}
+use Rattle.exact_solutions.proofs.Common.{whole_at, whole_balance, mul_mono_right, last_factors_swap, HasNoneOrMany, river_and_well, two_cells}
+use Rattle.exact_solutions.proofs.Common.{WellPastDeepFlow, WellWithinDeepFlow, WellOfDeepFlow, TwoLooseCells, neg_mul}
 use Rattle.exact_solutions.proofs.HeldSteps.{crossed_same, same_crossed}
 use Rattle.exact_solutions.proofs.WholeSolutions.{share_is_over, whole_balances_solve}
 
@@ -78,7 +78,7 @@ well_within_deep_flow taken less = (
         (head_is k Y some_k solves_y))
       where
         crossed : (h d k x y : ℤ) → x ≡ h *ℤ d → y ≡ h *ℤ k → x *ℤ k ≡ y *ℤ d
-        crossed h d k x y e f = rw (e, f) (swap h d k)
+        crossed h d k x y e f = rw (e, f) (last_factors_swap h d k)
     one d k X Y some_d some_k solves_x solves_y (suc c) h = absurd (omega (arith, h))
 
 -- where the well takes the deep flow, every head at or below the bottom is a solution

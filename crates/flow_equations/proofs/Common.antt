@@ -14,7 +14,7 @@ pub use Rattle.cell_balance.proofs.Enclosing.{same_over}
 pub use Rattle.cell_balance.proofs.Scaling.{IsOver-greater, IsOver-minus, IsOver-negated, IsOver-none, IsOver-plus, IsOver-signed, IsOver-times}
 pub use Rattle.cell_balance.specs.{AreLinked, ExactCell, ExactFlow, ExactLink, HasLinkBack, SolvesStep, cell_at, greater, minus, no_cell, no_link, share}
 pub use Rattle.decimal_input.proofs.Differences.{as_diff, diffs, same_diff}
-pub use Rattle.decimal_input.proofs.FloorLaws.{AtMost-trans, neg_times, swap}
+pub use Rattle.decimal_input.proofs.FloorLaws.{AtMost-trans, last_factors_swap, neg_times}
 pub use Rattle.decimal_input.proofs.Orders.{Same-trans, den_over, den_plus, den_times, num_over, num_plus, num_times}
 pub use Rattle.decimal_input.proofs.SameNumbers.{Same-of, Same-self, over-Same, plus-Same, plus-comm, times-Same}
 pub use Rattle.decimal_input.specs.{Fraction, IsDec, IsOver, IsShare, Ratio, as_fraction, number, opposite, size, up, whole, with_sign}

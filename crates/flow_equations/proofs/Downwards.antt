@@ -12,8 +12,8 @@ pub record IsValue (f : Ratio) (n d : ℕ) : Type 0 where
   pub num : f.num ≡ n
   pub bottom : den f ≡ d
 
-pub itself : (f : Ratio) → IsValue f f.num (den f)
-itself f = record { num = refl; bottom = refl }
+pub own_value : (f : Ratio) → IsValue f f.num (den f)
+own_value f = record { num = refl; bottom = refl }
 
 pub value_one : IsValue one 1 1
 unfolding ratio
@@ -55,14 +55,14 @@ join : (a x b y k z : ℕ) → ((a * z) * (y * k) + (b * z) * (x * k)) * ((x * y
 join a x b y k z = omega arith
 
 joined : (k f g : Ratio) → 0 < k.num → Same (plus (over f k) (over g k)) (over (plus f g) k)
-joined k f g some = same_by (value_plus (value_over some (itself f) (itself k)) (value_over some (itself g) (itself k)))
-    (value_over some (value_plus (itself f) (itself g)) (itself k)) (join f.num (den f) g.num (den g) k.num (den k))
+joined k f g some = same_by (value_plus (value_over some (own_value f) (own_value k)) (value_over some (own_value g) (own_value k)))
+    (value_over some (value_plus (own_value f) (own_value g)) (own_value k)) (join f.num (den f) g.num (den g) k.num (den k))
 
 -- A / (D / k) = k A / D
 turned_over : (k A D : Ratio) → 0 < k.num → 0 < D.num → Same (over A (over D k)) (over (times k A) D)
 turned_over k A D some room =
-    let inner = value_over some (itself D) (itself k) in
-    same_by (value_over (mul-pos room (omega arith)) (itself A) inner) (value_over room (value_times (itself k) (itself A)) (itself D)) (omega arith)
+    let inner = value_over some (own_value D) (own_value k) in
+    same_by (value_over (mul-pos room (omega arith)) (own_value A) inner) (value_over room (value_times (own_value k) (own_value A)) (own_value D)) (omega arith)
 
 nothing_over : (f g h : Ratio) → f.num ≡ 0 → Same (over f g) (over f h)
 nothing_over f g h e = record { cross = rw (num_over, num_over, e) (omega arith) }
@@ -88,8 +88,8 @@ module _ (m : FlowModel) (k : Ratio) (a b : ℕ) (h : IsOneMaterial m k a b) whe
 
   room : 0 < (distance m a b).num
   room =
-      let upper = value_over (omega (arith, value_two.num)) (itself (thickness m a)) value_two in
-      let whole = value_plus (value_plus upper (itself (bed_thickness m a))) (value_over (omega (arith, value_two.num)) (itself (thickness m b)) value_two) in
+      let upper = value_over (omega (arith, value_two.num)) (own_value (thickness m a)) value_two in
+      let whole = value_plus (value_plus upper (own_value (bed_thickness m a))) (value_over (omega (arith, value_two.num)) (own_value (thickness m b)) value_two) in
       omega (
         arith,
         whole.num,
@@ -109,7 +109,7 @@ module _ (m : FlowModel) (k : Ratio) (a b : ℕ) (h : IsOneMaterial m k a b) whe
   meets_darcy_downwards =
       let sum = resistance in
       let across : 0 < (distance m a b).num * den k = mul-pos room (omega arith) in
-      let above : 0 < (over (distance m a b) k).num = omega (arith, (value_over h.positive (itself (distance m a b)) (itself k)).num, across) in
+      let above : 0 < (over (distance m a b) k).num = omega (arith, (value_over h.positive (own_value (distance m a b)) (own_value k)).num, across) in
       Same-trans (over-Same (above_zero (over (distance m a b) k).num _
       (den (plus (plus (vertical_half m a) (over (bed_thickness m a) (size (vkcb_at m a)))) (vertical_half m b))) (den (over (distance m a b) k)) above
       (omega arith) sum.cross) above (Same-self (area m a)) sum) (turned_over k (area m a) (distance m a b) h.positive room)
@@ -121,5 +121,5 @@ vertical_conductivity_of m c = record {
       let hk = size (hk_at m c) in
       let vka = size (vka_at m c) in
       let same = ap (λ b. times (cond b (over hk vka) vka) vka) e in
-      Same-trans (Same-of same) (same_by (value_times (value_over (size_positive (vka_at m c) h) (itself hk) (itself vka)) (itself vka)) (itself hk) (omega arith)));
+      Same-trans (Same-of same) (same_by (value_times (value_over (size_positive (vka_at m c) h) (own_value hk) (own_value vka)) (own_value vka)) (own_value hk) (omega arith)));
 }

@@ -2,25 +2,25 @@
 use Rattle.flow_equations.proofs.Common.{◌≡◌, ℕ, zero, suc, ◌+◌, ◌*◌, ◌-◌, ◌<◌, ◌≤◌, inl, inr, true, false, cond, ◌||◌, Option, Some, None, List, [], ◌∷◌, ◌++◌}
 use Rattle.flow_equations.proofs.Common.{length, take, get_or, refl, sym, ap, ◌∙◌, subst, arith, ℤ, pos, neg_ℤ, ◌+ℤ◌, ◌*ℤ◌, mul-pos, reverse, ◌==◌, find}
 use Rattle.flow_equations.proofs.Common.{flat_map, ne_eqb, cases_lt, ints, reverse-append, take_all, take_more, append-nil, number, size, Ratio, ratio, over}
-use Rattle.flow_equations.proofs.Common.{Fraction, den, as_fraction, opposite, IsOver, IsShare, diffs, as_diff, same_diff, swap, mul_assoc, IsOver-plus}
-use Rattle.flow_equations.proofs.Common.{IsOver-times, IsOver-negated, IsOver-signed, same_over, FlowModel, Period, one, period_at, no_period, part_passed}
-use Rattle.flow_equations.proofs.Common.{geometric, multiplier, given_in, last_given, between_heads, head_or_kept, kept_head, constant_head, Lasts}
+use Rattle.flow_equations.proofs.Common.{Fraction, den, as_fraction, opposite, IsOver, IsShare, diffs, as_diff, same_diff, last_factors_swap, mul_assoc}
+use Rattle.flow_equations.proofs.Common.{IsOver-plus, IsOver-times, IsOver-negated, IsOver-signed, same_over, FlowModel, Period, one, period_at, no_period}
+use Rattle.flow_equations.proofs.Common.{part_passed, geometric, multiplier, given_in, last_given, between_heads, head_or_kept, kept_head, constant_head, Lasts}
 use Rattle.flow_equations.proofs.Common.{HasEqualSteps, HasGivenHead, find-append, option_or}
 use Rattle.std.proofs.lemmas.List.Concat.{flat_map-append}
 use Rattle.decimal_input.specs.Ratios.{den as ratio_den, Same as SameRatio}
 use Rattle.decimal_input.specs.Fractions.{plus, times, Same}
 use Rattle.model_types.specs.declared.entry.Given.{Given}
-use Rattle.flow_equations.proofs.Downwards.{value_one, itself, value_over, cross_by}
+use Rattle.flow_equations.proofs.Downwards.{value_one, own_value, value_over, cross_by}
 use Rattle.flow_equations.proofs.StepSums.{geometric_one, value_ratio}
 use Rattle.flow_equations.proofs.TurnedFlows.{over_first, over_second}
 
-pub wider : (m k : ℕ) (g : Fraction) (z : ℤ) → IsOver m g z → IsOver (m * k) g (z *ℤ pos k)
-wider m k g z p = record { is = sym (mul_assoc g.num (pos m) (pos k)) ∙ ap (λ (y : ℤ). y *ℤ pos k) p.is ∙ swap z (pos (den g)) (pos k) }
+pub over_multiple : (m k : ℕ) (g : Fraction) (z : ℤ) → IsOver m g z → IsOver (m * k) g (z *ℤ pos k)
+over_multiple m k g z p = record { is = sym (mul_assoc g.num (pos m) (pos k)) ∙ ap (λ (y : ℤ). y *ℤ pos k) p.is ∙ last_factors_swap z (pos (den g)) (pos k) }
 
 -- Shead + (Ehead - Shead) * f, where f is n over k
 pub between_over : (x : Given) (f : Ratio) (m k n : ℕ) (a b : ℤ) → IsShare k f n → IsOver m (number x.shead) a → IsOver m (number x.ehead) b →
     IsOver (m * k) (between_heads x f) (a *ℤ pos k +ℤ (b +ℤ neg_ℤ a) *ℤ pos n)
-between_over x f m k n a b share s e = IsOver-plus (m * k) (number x.shead) (times (plus (number x.ehead) (opposite (number x.shead))) (as_fraction f)) _ _ (wider m k (number x.shead) a s)
+between_over x f m k n a b share s e = IsOver-plus (m * k) (number x.shead) (times (plus (number x.ehead) (opposite (number x.shead))) (as_fraction f)) _ _ (over_multiple m k (number x.shead) a s)
     (IsOver-times m k (plus (number x.ehead) (opposite (number x.shead))) (as_fraction f) (b +ℤ neg_ℤ a) (pos n)
     (IsOver-plus m (number x.ehead) (opposite (number x.shead)) b (neg_ℤ a) e (IsOver-negated m (number x.shead) a s)) (IsOver-signed k f n share))
 
@@ -48,7 +48,7 @@ module _ (x : Given) (f : Ratio) (k n : ℕ) (some : 0 < k) (share : IsShare k f
 
   -- the whole of the way
   at_end : n ≡ k → Same (between_heads x f) e
-  at_end same = same_over (m * k) _ _ _ _ some_over between (wider m k e b (over_second s e)) (ap (λ (j : ℕ). a *ℤ pos k +ℤ (b +ℤ neg_ℤ a) *ℤ pos j) same ∙ all_the_way a b (pos k))
+  at_end same = same_over (m * k) _ _ _ _ some_over between (over_multiple m k e b (over_second s e)) (ap (λ (j : ℕ). a *ℤ pos k +ℤ (b +ℤ neg_ℤ a) *ℤ pos j) same ∙ all_the_way a b (pos k))
     where
       all_the_way : (u v w : ℤ) → u *ℤ w +ℤ (v +ℤ neg_ℤ u) *ℤ w ≡ v *ℤ w
       all_the_way u v w = rw (as_diff u, as_diff v, as_diff w) (simp diffs (same_diff _ _ _ _ (omega arith)))
@@ -56,7 +56,7 @@ module _ (x : Given) (f : Ratio) (k n : ℕ) (some : 0 < k) (share : IsShare k f
   -- half of it
   half_way : 2 * n ≡ k → Same (plus (between_heads x f) (between_heads x f)) (plus s e)
   half_way twice = same_over (m * k) _ _ _ _ some_over (IsOver-plus (m * k) _ _ _ _ between between)
-      (IsOver-plus (m * k) s e _ _ (wider m k s a (over_first s e)) (wider m k e b (over_second s e))) (half a b (pos n) (pos k) (omega (arith, ints)))
+      (IsOver-plus (m * k) s e _ _ (over_multiple m k s a (over_first s e)) (over_multiple m k e b (over_second s e))) (half a b (pos n) (pos k) (omega (arith, ints)))
     where
       halves : (u v w : ℤ) → (u *ℤ (w +ℤ w) +ℤ (v +ℤ neg_ℤ u) *ℤ w) +ℤ (u *ℤ (w +ℤ w) +ℤ (v +ℤ neg_ℤ u) *ℤ w) ≡ u *ℤ (w +ℤ w) +ℤ v *ℤ (w +ℤ w)
       halves u v w = rw (as_diff u, as_diff v, as_diff w) (simp diffs (same_diff _ _ _ _ (omega arith)))
@@ -85,10 +85,10 @@ passed_half p h equal two =
     half_of : (T : Ratio) (n : ℕ) → n ≡ 2 → SameRatio (geometric T 1) (ratio 1 1) → SameRatio (geometric T n) (ratio n 1) →
         2 * (over (geometric T 1) (geometric T n)).num ≡ ratio_den (over (geometric T 1) (geometric T n))
     half_of T n two e f =
-        let sum : (geometric T n).num * 1 ≡ n * ratio_den (geometric T n) = cross_by (itself (geometric T n)) (value_ratio n) f in
-        let first : (geometric T 1).num * 1 ≡ 1 * ratio_den (geometric T 1) = cross_by (itself (geometric T 1)) (value_ratio 1) e in
+        let sum : (geometric T n).num * 1 ≡ n * ratio_den (geometric T n) = cross_by (own_value (geometric T n)) (value_ratio n) f in
+        let first : (geometric T 1).num * 1 ≡ 1 * ratio_den (geometric T 1) = cross_by (own_value (geometric T 1)) (value_ratio 1) e in
         let some : 0 < (geometric T n).num = omega (arith, sum, two, twice_some n (ratio_den (geometric T n)) two (omega arith)) in
-        let value = value_over some (itself (geometric T 1)) (itself (geometric T n)) in
+        let value = value_over some (own_value (geometric T 1)) (own_value (geometric T n)) in
         ap (λ j. 2 * j) value.num ∙ meet (geometric T 1).num (ratio_den (geometric T 1)) (geometric T n).num (ratio_den (geometric T n)) n two first sum ∙ sym value.bottom
       where
         twice_some : (n d : ℕ) → n ≡ 2 → 0 < d → 0 < n * d

@@ -12,7 +12,7 @@ use Rattle.decimal_input.specs.Fractions.{plus, times as product, Same}
 use Rattle.decimal_input.proofs.FloorLaws.{Same-trans}
 use Rattle.step_problem.specs.declared.entry.FlowKind.TheVariants.{Wells, Recharge}
 use Rattle.cell_balance.proofs.EntryFlows.{flows_are_right}
-use Rattle.flow_equations.proofs.Downwards.{IsValue, itself, value_over, size_positive}
+use Rattle.flow_equations.proofs.Downwards.{IsValue, own_value, value_over, size_positive}
 use Rattle.flow_equations.proofs.TurnedFlows.{over_first, own_share}
 
 module _ (m : FlowModel) (p n : ℕ) (old : ℕ → Fraction) (c : ℕ) where
@@ -60,7 +60,7 @@ module _ (m : FlowModel) (c : ℕ) (x : EvapSource) (h : IsPositive x.depth) whe
   C = evap_conductance m c x
 
   value : IsValue C (rates.num * ratio_den deep) (ratio_den rates * deep.num)
-  value = value_over (size_positive x.depth h) (itself rates) (itself deep)
+  value = value_over (size_positive x.depth h) (own_value rates) (own_value deep)
 
   abbrev D : ℕ
   D = den s * ratio_den deep

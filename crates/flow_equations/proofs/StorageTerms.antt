@@ -1,12 +1,12 @@
 -- Storage by the option STORAGECOEFFICIENT.
 use Rattle.flow_equations.proofs.Common.{◌≡◌, ℕ, Bool, true, false, cond, ap, arith, size, Ratio, times, Same, Same-trans, Same-of, FlowModel, Period, dec_at}
 use Rattle.flow_equations.proofs.Common.{delr_at, delc_at, area, thickness, storage, step_length, Lasts, StoresByOption}
-use Rattle.flow_equations.proofs.StepSums.{stores}
-use Rattle.flow_equations.proofs.Downwards.{itself, value_times, same_by}
+use Rattle.flow_equations.proofs.StepSums.{storage_times_length}
+use Rattle.flow_equations.proofs.Downwards.{own_value, value_times, same_by}
 
 -- a storativity times a length and a width
 by_area : (s a b : Ratio) → Same (times (times s a) b) (times s (times a b))
-by_area s a b = same_by (value_times (value_times (itself s) (itself a)) (itself b)) (value_times (itself s) (value_times (itself a) (itself b))) (omega arith)
+by_area s a b = same_by (value_times (value_times (own_value s) (own_value a)) (own_value b)) (value_times (own_value s) (value_times (own_value a) (own_value b))) (omega arith)
 
 module _ (m : FlowModel) (c : ℕ) where
   abbrev storativity_by : Bool → Ratio
@@ -14,7 +14,7 @@ module _ (m : FlowModel) (c : ℕ) where
 
   by_option : (p : Period) (n : ℕ) → Lasts p → (b : Bool) → m.coefficient ≡ b → Same (times (storage m p n c) (step_length p n)) (times (storativity_by b) (area m c))
   unfolding area
-  by_option p n h b e = Same-trans (stores p h m n c)
+  by_option p n h b e = Same-trans (storage_times_length p h m n c)
       (Same-trans (Same-of (ap (λ (o : Bool). times (times (storativity_by o) (size (delr_at m c))) (size (delc_at m c))) e)) (by_area (storativity_by b) (size (delr_at m c)) (size (delc_at m c))))
 
 pub stores_by_option : (m : FlowModel) (p : Period) (n c : ℕ) → Lasts p → StoresByOption m p n c

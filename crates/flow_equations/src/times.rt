@@ -8,7 +8,7 @@ pub fn steps_of_a_period()
 
 /// The storage of a step is the storage capacity over the step's length. With the option STORAGECOEFFICIENT it is Ss times
 /// the area over that length; without, the thickness is a factor.
-#[tactic(auto, using(crate::proofs::StepSums::stores, crate::proofs::StorageTerms::stores_by_option))]
+#[tactic(auto, using(crate::proofs::StepSums::storage_times_length, crate::proofs::StorageTerms::stores_by_option))]
 pub fn storage_over_a_step()
     ensures length { StoresOverTheStep }
     ensures option { StoresByTheOption }

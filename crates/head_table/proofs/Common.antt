@@ -15,7 +15,7 @@ pub use Rattle.head_table.specs.declared.known.Known.{Known}
 pub use Rattle.relax_core.proofs.Keeping.{other_seen, seen_else, seen_here, seen_length, way_on}
 pub use Rattle.relax_core.specs.{OnTheWay, WereSeen, edge_on, with_head}
 pub use Rattle.step_problem.proofs.Sides.{relaxed_head, same_on_the_way}
-pub use Rattle.step_problem.proofs.SidesTurns.{same_seen, seen_itself, sees, still_seen, tighter, turn_keeps}
+pub use Rattle.step_problem.proofs.SidesTurns.{exchange_is_as_tight, own_turn_keeps_seen, same_seen, seen_itself, still_seen, turn_keeps}
 pub use Rattle.step_problem.specs.{AreOnTheWay, Edges, IsExchange, IsHead, IsProblem, head_at, lower_at, no_bound, upper_at}
 pub use Rattle.step_problem.specs.Entries.{Entries}
 pub use Rattle.step_problem.specs.declared.heads.Bound.{Bound}

@@ -1,10 +1,10 @@
 -- A look at a word, and an exchange of a word for the tighter of itself and a relaxed head, keep the rule.
 -- What a seat has seen after either is sound, and it is a seat of the same table.
 use Rattle.head_table.proofs.Common.{◌≡◌, ℕ, ◌≢◌, List, get_or, set, true, sym, ap, ◌∙◌, subst, ⊎_elim, some, get_elem?, State, Me, keeps, stepped, at_set}
-use Rattle.head_table.proofs.Common.{Entries, Edges, Known, IsKnown, IsTableKept, ◌<◌, length, refl, arith, none, step, Allows, Side, IsHead, IsProblem, sees}
-use Rattle.head_table.proofs.Common.{IsAsTight, other, heads_on, is_side, each_side, head_of_word, word_of, words_on, edge_on, WereSeen, IsNoTighterThanSettled}
-use Rattle.head_table.proofs.Common.{SeesHead, load_play, ℤ, length-set, turn_keeps, tighter, still_seen, IsRelaxedOn, tighter_word, OnTheWay, exchange_play}
-use Rattle.head_table.proofs.Common.{IsSound, seen_length, seen_here, seen_else, other_seen, with_head, IsExchange}
+use Rattle.head_table.proofs.Common.{Entries, Edges, Known, IsKnown, IsTableKept, ◌<◌, length, refl, arith, none, step, Allows, Side, IsHead, IsProblem}
+use Rattle.head_table.proofs.Common.{own_turn_keeps_seen, IsAsTight, other, heads_on, is_side, each_side, head_of_word, word_of, words_on, edge_on, WereSeen}
+use Rattle.head_table.proofs.Common.{IsNoTighterThanSettled, SeesHead, load_play, ℤ, length-set, turn_keeps, exchange_is_as_tight, still_seen, IsRelaxedOn}
+use Rattle.head_table.proofs.Common.{tighter_word, OnTheWay, exchange_play, IsSound, seen_length, seen_here, seen_else, other_seen, with_head, IsExchange}
 use lib.Seq.{set-get_or}
 use Rattle.head_table.proofs.WordReads.{at_word, word_within, word_here, word_else, other_words, tighter_old, tighter_new, tighter_one}
 
@@ -47,7 +47,7 @@ module _ (cells : List Entries) (edges : Edges) where
       barrier_is = mine.barrier_is;
       whole = seen_length side me.0.seen c _ ∙ mine.whole;
       heads = each_side side (λ t. WereSeen t cells (words_on t ws) (heads_on t (now_seen side me c h).seen))
-          (sees (is_side side cells ok) (words_on side ws) (heads_on side me.0.seen) (heads_on side (now_seen side me c h).seen) c range
+          (own_turn_keeps_seen (is_side side cells ok) (words_on side ws) (heads_on side me.0.seen) (heads_on side (now_seen side me c h).seen) c range
           (seen_here side me.0.seen c h long ∙ here) (seen_else side me.0.seen c h) (mine.heads side))
           (subst (WereSeen (other side) cells (words_on (other side) ws)) (λ i d. sym (other_seen side me.0.seen c h long d) i) (mine.heads (other side)));
     }
@@ -96,7 +96,7 @@ module _ (cells : List Entries) (edges : Edges) where
           whole = f.whole;
           heads = each_side side (λ t. WereSeen t cells (words_on t ws) (heads_on t v.seen))
               (still_seen (is_side side cells ok) (words_on side s.words) (words_on side ws) (heads_on side v.seen)
-              (tighter (is_side side cells ok) (words_on side s.words) c (head_of_word k) (head_of_word y) (words_on side ws) exchange) (f.heads side))
+              (exchange_is_as_tight (is_side side cells ok) (words_on side s.words) c (head_of_word k) (head_of_word y) (words_on side ws) exchange) (f.heads side))
               (subst (λ (g : ℕ → ℤ). WereSeen (other side) cells g (heads_on (other side) v.seen)) (sym (other_words side s.words c y)) (f.heads (other side)));
         } in
         let w : Known = now_seen side me c (head_of_word y) in (

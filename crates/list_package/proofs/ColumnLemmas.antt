@@ -2,7 +2,7 @@
 use Rattle.list_package.proofs.Common.{◌≡◌, ℕ, ◌<◌, Bool, true, false, List, [], ◌∷◌, length, All, Option, Some, None, refl, sym, subst, arith, All-weaker}
 use Rattle.list_package.proofs.Common.{if◌then◌else◌, All-head, All-tail, IsDec, HeadTooLarge, column_fault, first_fault, or_later, IsHeadNumber, IsNotNegative}
 use Rattle.list_package.proofs.Common.{IsEntryList, IsEntryValid, IsGivenList, IsGivenValid, IsEntry, IsListOf, given_heads, kind_of, AllZip, Dec, Code}
-use Rattle.list_package.proofs.Common.{columns_of, entry_with, CellId, Limits, Period, weaker, ListsKeepLimits, entries_in, with_entries, cell_count}
+use Rattle.list_package.proofs.Common.{columns_of, entry_with, CellId, Limits, Period, gives_only_less, ListsKeepLimits, entries_in, with_entries, cell_count}
 use Rattle.number_limits.specs.{is_head}
 use Rattle.number_limits.proofs.HeadLemmas.{head_of}
 use Rattle.list_package.specs.declared.columns.Column.{Column}
@@ -68,9 +68,9 @@ pub given_list : (limits : Limits) (cells : ℕ) (p : Period) (xs : List Given) 
 given_list limits cells p xs h = grind (arith, entries_few, given_valid)
 
 -- So are the lists that a file gives.
-pub placed : (k : ListKind) (c : CellId) (xs : List Dec) → (kind_of k).place ((kind_of k).entry c xs) ≡ c.0
-placed Wells c xs = refl
-placed k c xs = refl
+pub entry_place_is_cell : (k : ListKind) (c : CellId) (xs : List Dec) → (kind_of k).place ((kind_of k).entry c xs) ≡ c.0
+entry_place_is_cell Wells c xs = refl
+entry_place_is_cell k c xs = refl
 
 entries_put : (k : ListKind) (s : Stresses) (xs : List Entry) → entries_in k (with_entries k s xs) ≡ xs
 entries_put Wells s xs = refl
@@ -78,8 +78,8 @@ entries_put k s xs = refl
 
 pub lists_keep_limits : ListsKeepLimits
 lists_keep_limits = record {
-  entries = λ limits k file bytes g ps size. weaker (lists_are limits (kind_of k) (placed k) file g size (λ p. Unit {0}) (λ p. IsEntryList (cell_count g) (entries_in k p.stresses))
+  entries = λ limits k file bytes g ps size. gives_only_less (lists_are limits (kind_of k) (entry_place_is_cell k) file g size (λ p. Unit {0}) (λ p. IsEntryList (cell_count g) (entries_in k p.stresses))
       (λ p xs known is. rw (entries_put k p.stresses xs) (entry_list limits k (cell_count g) p xs is)) bytes ps (λ i d lt. tt)) (λ qs is. is.0);
-  given = λ limits file bytes g ps size. weaker (lists_are limits given_heads (λ c xs. refl) file g size (λ p. Unit {0}) (λ p. IsGivenList (cell_count g) p.stresses.given)
+  given = λ limits file bytes g ps size. gives_only_less (lists_are limits given_heads (λ c xs. refl) file g size (λ p. Unit {0}) (λ p. IsGivenList (cell_count g) p.stresses.given)
       (λ p xs known is. given_list limits (cell_count g) p xs is) bytes ps (λ i d lt. tt)) (λ qs is. is.0);
 }

@@ -23,6 +23,6 @@ pub use Rattle.outside.specs.declared.codes.Code.{Code}
 pub use Rattle.outside.specs.declared.codes.Code.TheVariants.{CellOutside, HeadTooLarge, TooManyEntries}
 pub use Rattle.outside.specs.declared.inputs.Refusal.{Refusal}
 pub use Rattle.record_lines.proofs.Loops.{each_done, each_goes_on, ends_all, ends_text, is_done, stops_all, with_front}
-pub use Rattle.record_lines.proofs.Readings.{done, goes_on, if_clear, if_passed, refused, repeated_are, repeated_gives, then_, weaker}
+pub use Rattle.record_lines.proofs.Readings.{err_gives_only, gives_only_less, goes_on, if_clear, if_passed, ok_gives_only, repeated_are, repeated_gives, then_}
 pub use Rattle.record_lines.specs.{GivesOnly, Left, Numbered, Stops, StopsText, begins_with, left_from, line_at, repeated_reading, without_comments}
 unfoldable pub use Rattle.record_lines.specs.{for_each}

@@ -1,9 +1,10 @@
 -- What is read of the entries of a list.
-use Rattle.list_package.proofs.Common.{integer, number, number_at, done, goes_on, if_clear, refused, repeated_are, repeated_gives, then_, weaker, GivesOnly}
-use Rattle.list_package.proofs.Common.{IsDec, Dec, Differ, IsEntry, Kind, cell_at, entry_at, entry_of, first_fault, is_left_out, new_list, no_marks}
-use Rattle.list_package.proofs.Common.{test_result, HasSize, cell_count, most_entries, CellId, Grid, Limits, refusal, words, Code, CellOutside, Left, line_at}
-use Rattle.list_package.proofs.Common.{All, Bool, List, None, Option, Some, [], ap, arith, cond, false, get_or, length, refl, set, suc, sym, true, ℕ, ℤ, ◌-◌}
-use Rattle.list_package.proofs.Common.{◌<◌, ◌∙◌, ◌∷◌, ◌≡◌, ◌≤◌, All-cons, All-nil, AllPairs, get_or-set_other, get_or-set_same, length-replicate, length-set}
+use Rattle.list_package.proofs.Common.{integer, number, number_at, ok_gives_only, goes_on, if_clear, err_gives_only, repeated_are, repeated_gives, then_}
+use Rattle.list_package.proofs.Common.{gives_only_less, GivesOnly, IsDec, Dec, Differ, IsEntry, Kind, cell_at, entry_at, entry_of, first_fault, is_left_out}
+use Rattle.list_package.proofs.Common.{new_list, no_marks, test_result, HasSize, cell_count, most_entries, CellId, Grid, Limits, refusal, words, Code}
+use Rattle.list_package.proofs.Common.{CellOutside, Left, line_at, All, Bool, List, None, Option, Some, [], ap, arith, cond, false, get_or, length, refl, set}
+use Rattle.list_package.proofs.Common.{suc, sym, true, ℕ, ℤ, ◌-◌, ◌<◌, ◌∙◌, ◌∷◌, ◌≡◌, ◌≤◌, All-cons, All-nil, AllPairs, get_or-set_other, get_or-set_same}
+use Rattle.list_package.proofs.Common.{length-replicate, length-set}
 use Rattle.array_text.proofs.ArrayForms.{item_is}
 use Rattle.array_text.proofs.NumberForms.{number_is}
 use Rattle.std.proofs.lemmas.List.Kept.{AllPairs-cons}
@@ -11,8 +12,8 @@ use Rattle.model_types.proofs.Numbering.{cell_within}
 use Rattle.dis_package.proofs.FrameForms.{within_is}
 
 passed_is : (o : Option Code) (file : List ℕ) (line : ℕ) → GivesOnly (λ u. o ≡ None) (test_result o file line)
-passed_is None file line = done refl
-passed_is (Some code) file line = refused
+passed_is None file line = ok_gives_only refl
+passed_is (Some code) file line = err_gives_only
 
 below : (n k : ℕ) → (1 ≤ k) × (k ≤ n) → k - 1 < n
 below n k h = let low : 1 ≤ k = h.0 in let high : k ≤ n = h.1 in omega arith
@@ -23,7 +24,7 @@ module _ (file : List ℕ) (g : Grid) (size : HasSize g) where
   cell_is line layer row col =
       let r = refusal CellOutside file line in
       then_ _ (within_is layer g.layers r) (λ k a. then_ _ (within_is row g.rows r) (λ i b. then_ _ (within_is col g.cols r)
-      (λ j c. done (cell_within g size (k - 1) (i - 1) (j - 1) (below g.layers k a) (below g.rows i b) (below g.cols j c)))))
+      (λ j c. ok_gives_only (cell_within g size (k - 1) (i - 1) (j - 1) (below g.layers k a) (below g.rows i b) (below g.cols j c)))))
 
 module _ {E : Type 0} (kind : Kind E) (cells : ℕ) where
   -- an entry of a cell that wasn't marked and is marked now
@@ -61,13 +62,13 @@ module _ {E : Type 0} (kind : Kind E) (placed : (c : CellId) (ds : List Dec) →
       (λ col c. then_ _ (repeated_are (number_at number file line) IsDec (item_is number IsDec number_is file line) (length kind.columns) col.1)
       (λ numbers are. then_ _ (cell_is file g size line layer.0 row.0 col.0) (λ cell low. then_ _ (passed_is (first_fault kind.columns numbers.0) file line)
       (λ tested passes. if_clear (get_or marks cell.0 false) _ _ (λ free.
-      done (record { cell = cell; numbers = numbers.0; inside = low; count = are.0; canonical = are.1; passes = passes; is = refl }, placed cell numbers.0, low, free))))))))
+      ok_gives_only (record { cell = cell; numbers = numbers.0; inside = low; count = are.0; canonical = are.1; passes = passes; is = refl }, placed cell numbers.0, low, free))))))))
 
   entry_at_is : (s : List Bool × Left) → GivesOnly (λ x. IsNewAt kind (cell_count g) s.0 x.1.0 x.0) (entry_at kind file g s)
   unfolding entry_at
   entry_at_is s =
       goes_on (line_at file s.1) _ (λ line a. if_clear (is_left_out (words line.0.bytes)) _ _ (λ b. then_ _ (entry_is line.0.number s.0 (words line.0.bytes))
-      (λ e new. done (record { entry = new.0; inside = rw new.1 new.2; free = rw new.1 new.3; marked = rw new.1 refl }))))
+      (λ e new. ok_gives_only (record { entry = new.0; inside = rw new.1 new.2; free = rw new.1 new.3; marked = rw new.1 refl }))))
 
   -- a cell that isn't marked after x is another one, which wasn't marked before
   apart : (before after : List Bool) (x y : E) → length before ≡ cell_count g → IsNewAt kind (cell_count g) before after x → get_or after (kind.place y) false ≡ false → Differ kind x y
@@ -100,7 +101,7 @@ module _ {E : Type 0} (kind : Kind E) (placed : (c : CellId) (ds : List Dec) →
   }
 
   one_entry : (n : ℕ) (s : List Bool × Left) → GivesOnly (λ x. (more : List E × (List Bool × Left)) → Are n x.1 more → Are (suc n) s (x.0 ∷ more.0, more.1)) (entry_at kind file g s)
-  one_entry n s = weaker (entry_at_is s) (λ x new more rest. record {
+  one_entry n s = gives_only_less (entry_at_is s) (λ x new more rest. record {
     count = let counted : length more.0 ≡ n = rest.count in omega (arith, counted);
     entries = All-cons (IsEntry kind (cell_count g)) x.0 more.0 new.entry rest.entries;
     free = λ many. All-cons (λ y. get_or s.0 (kind.place y) false ≡ false) x.0 more.0 new.free
@@ -116,4 +117,4 @@ module _ {E : Type 0} (kind : Kind E) (placed : (c : CellId) (ds : List Dec) →
       let marks : kind.once ≡ true → length (no_marks kind g) ≡ cell_count g = λ e. length-replicate (cond kind.once (cell_count g) 0) false ∙ ap (λ (b : Bool). cond b (cell_count g) 0) e in
       then_ _ (repeated_gives (entry_at kind file g) Are no_entries one_entry n (no_marks kind g, left)) (λ x are.
       let counted : length x.0 ≡ n = are.count in
-      done (record { few = omega (arith, few, counted); entries = are.entries; once = λ e. are.once (marks e) }))
+      ok_gives_only (record { few = omega (arith, few, counted); entries = are.entries; once = λ e. are.once (marks e) }))

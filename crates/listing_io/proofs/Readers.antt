@@ -9,25 +9,25 @@ use Rattle.listing_io.proofs.Common.{IsHead, head_limit, HasDigits, form_of, IsP
 use Rattle.std.proofs.lemmas.Int.{ints}
 use Rattle.listing_io.specs.declared.pair_lines.Row.{Row}
 use Rattle.listing_io.proofs.Exactly.{line_sound, line_whole}
-use Rattle.listing_io.proofs.Terms.{IsReader, all_read, clash, goes, same_ok, left_of, line_if, term_rows, IsTermPair, cell_lines}
+use Rattle.listing_io.proofs.Terms.{IsReader, all_read, ok_is_not_err, bind_goes_through, same_ok, left_of, line_if, term_rows, IsTermPair, cell_lines}
 use Rattle.listing_io.specs.declared.pair_lines.Row.TheVariants as row
 
 -- The next line.
 
 first_row : (n : ℕ) (rows : List Line) (got : Line × Left) → first_of n rows ≡ Ok got → rows ≡ got.0 ∷ got.1.lines
-first_row n [] got h = absurd (clash n got (first_of n []) refl h)
+first_row n [] got h = absurd (ok_is_not_err n got (first_of n []) refl h)
 first_row n (row ∷ rows) got h = grind (arith, same_ok)
 
 pub line_row : (left : Left) (got : Line × Left) → line_at left ≡ Ok got → left.lines ≡ got.0 ∷ got.1.lines
 line_row left got h = first_row left.number left.lines got h
 
 some_row : {X : Type 0} (n : ℕ) (o : Option X) (x : X) → or_refused n o ≡ Ok x → o ≡ Some x
-some_row n None x h = absurd (clash n x (or_refused n None) refl h)
+some_row n None x h = absurd (ok_is_not_err n x (or_refused n None) refl h)
 some_row n (Some y) x h = ap (λ z. Some z) (same_ok y x (or_refused n (Some y)) refl h)
 
-pub chosen : {X : Type 0} (b : Bool) (n : ℕ) (x y : X) → cond b (Ok x) (Err n) ≡ Ok y → (b ≡ true) × (x ≡ y)
-chosen true n x y h = (refl, same_ok x y (Ok x) refl h)
-chosen false n x y h = absurd (clash n y (Err n) refl h)
+pub choice_is_ok : {X : Type 0} (b : Bool) (n : ℕ) (x y : X) → cond b (Ok x) (Err n) ≡ Ok y → (b ≡ true) × (x ≡ y)
+choice_is_ok true n x y h = (refl, same_ok x y (Ok x) refl h)
+choice_is_ok false n x y h = absurd (ok_is_not_err n y (Err n) refl h)
 
 pub text_again : (text : Line) (rest : List Line) (n : ℕ) → text_at text (left_of (text ∷ rest) n) ≡ Ok (left_of rest (next_number n))
 unfolding text_at
@@ -36,8 +36,8 @@ text_again text rest n = rw ((bytes_eq-Decides text text).1 refl) refl
 pub text_row : (text : Line) (left after : Left) → text_at text left ≡ Ok after → left.lines ≡ text ∷ after.lines
 unfolding text_at
 text_row text left after h =
-    let line = goes (line_at left) _ after h in
-    let (test, same) = chosen (bytes_eq text line.item.0) left.number line.item.1 after line.then_ in
+    let line = bind_goes_through (line_at left) _ after h in
+    let (test, same) = choice_is_ok (bytes_eq text line.item.0) left.number line.item.1 after line.then_ in
     let e : text ≡ line.item.0 = (bytes_eq-Decides text line.item.0).0 test in
     line_row left line.item line.first ∙ ap (λ (t : List ℕ). t ∷ line.item.1.lines) (sym e) ∙ ap (λ (x : Left). text ∷ x.lines) same
 
@@ -53,8 +53,8 @@ pair_again front f p rest n form h = rw (line_whole front f p form h.0 h.1) refl
 pair_was : (front : List ℕ) (f : Form) (left : Left) (got : TermPair × Left) → pair_at front f left ≡ Ok got → IsInLimit f got.0 × (left.lines ≡ pair_line front f got.0 ∷ got.1.lines)
 unfolding pair_at
 pair_was front f left got h =
-    let line = goes (line_at left) _ got h in
-    let number = goes (or_refused left.number (pair_in front f line.item.0)) _ got line.then_ in
+    let line = bind_goes_through (line_at left) _ got h in
+    let number = bind_goes_through (or_refused left.number (pair_in front f line.item.0)) _ got line.then_ in
     let is = line_sound front f line.item.0 number.item (some_row left.number (pair_in front f line.item.0) number.item number.first) in
     let P : TermPair × Left → Type 0 = λ x. IsInLimit f x.0 × (left.lines ≡ pair_line front f x.0 ∷ x.1.lines) in
     subst P (same_ok (number.item, line.item.1) got _ refl number.then_) ((is.lo, is.hi), line_row left line.item line.first ∙ ap (λ (t : List ℕ). t ∷ line.item.1.lines) is.text)
@@ -81,7 +81,7 @@ module _ (m : FlowModel) (s : ℕ) where
   cell_read c true is = record {
     again = λ few b rest n h. (next_number n, rw (pair_again (head_front m.grid c) head_form (head_pair b) rest n head_is_form (head_small b.low h.low, head_small b.high h.high)) refl);
     was = λ left got h.
-        let p = goes (pair_at (head_front m.grid c) head_form left) _ got h in
+        let p = bind_goes_through (pair_at (head_front m.grid c) head_form left) _ got h in
         let (small, row) = pair_was (head_front m.grid c) head_form left p.item p.first in
         let P : Bound × Left → Type 0 = λ x. IsCellBound m c x.0 × (left.lines ≡ head_line m.grid c x.0 ∷ x.1.lines) in
         subst P (same_ok (bound_of p.item.0, p.item.1) got _ refl p.then_) (
@@ -166,7 +166,7 @@ flow_read s z = record {
       let P : ZonePair → Type 0 = λ y. flow_at s y (left_of (zone_line s v ∷ rest) n) ≡ Ok (v, left_of rest (next_number n)) in
       (next_number n, subst P h.pair (rw (pair_again (zone_front v.from v.to) (flow_form s []) (zone_pair v) rest n (flow_is_form s few) (in_limit s [] (zone_pair v) h.small)) refl));
   was = λ left got h.
-      let p = goes (pair_at (zone_front z.from z.to) (flow_form s []) left) _ got h in
+      let p = bind_goes_through (pair_at (zone_front z.from z.to) (flow_form s []) left) _ got h in
       let (small, row) = pair_was (zone_front z.from z.to) (flow_form s []) left p.item p.first in
       let P : ZoneFlow × Left → Type 0 = λ x. IsFlowOf z x.0 × (left.lines ≡ zone_line s x.0 ∷ x.1.lines) in
       subst P (same_ok (flow_of z p.item.0, p.item.1) got _ refl p.then_) (record { pair = refl; small = is_flow_pair s [] p.item.0 small }, row);

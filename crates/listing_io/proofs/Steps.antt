@@ -7,8 +7,8 @@ use Rattle.listing_io.proofs.Common.{line_at, text_at, heads_at, terms_at, flow_
 use Rattle.listing_io.proofs.Common.{listing_at, IsListing, ListingsWereWritten, is_first, Budget, each_lines, IsCellBound, IsFlowPair, AreFlows, IsListedAt}
 use Rattle.listing_io.proofs.Common.{IsListedStep, AreListed, range_with_len, AllZip-length, AllZip-right}
 use Rattle.std.proofs.lemmas.List.FromFn.{length-range_with_len}
-use Rattle.listing_io.proofs.Terms.{IsReader, all_read, clash, goes, same_ok, left_of, lines_in, lines_out}
-use Rattle.listing_io.proofs.Readers.{IsFlowOf, chosen, flow_rows, flows_read, heads_read, line_row, terms_read, text_again, text_row}
+use Rattle.listing_io.proofs.Terms.{IsReader, all_read, ok_is_not_err, bind_goes_through, same_ok, left_of, lines_in, lines_out}
+use Rattle.listing_io.proofs.Readers.{IsFlowOf, choice_is_ok, flow_rows, flows_read, heads_read, line_row, terms_read, text_again, text_row}
 
 -- flows between pairs of zones
 abbrev pub IsSmall : ZoneFlow → Type 0
@@ -78,11 +78,11 @@ step_was : (m : FlowModel) (s : ℕ) (zs : List ZonePair) (at : TimeStep) (left 
 unfolding step_with step_lines
 step_was m s zs at left got h =
     let evt = has_evt m in
-    let title = goes (text_at (step_line at) left) _ got h in
-    let heads = goes (heads_at m title.item) _ got title.then_ in
-    let into = goes (terms_at evt s In heads.item.1) _ got heads.then_ in
-    let out = goes (terms_at evt s Out into.item.1) _ got into.then_ in
-    let flows = goes (for_each (flow_at s) zs out.item.1) _ got out.then_ in
+    let title = bind_goes_through (text_at (step_line at) left) _ got h in
+    let heads = bind_goes_through (heads_at m title.item) _ got title.then_ in
+    let into = bind_goes_through (terms_at evt s In heads.item.1) _ got heads.then_ in
+    let out = bind_goes_through (terms_at evt s Out into.item.1) _ got into.then_ in
+    let flows = bind_goes_through (for_each (flow_at s) zs out.item.1) _ got out.then_ in
     let (bounds, head_rows) = (heads_read m s).was title.item heads.item heads.first in
     let (pairs_in, in_rows) = (terms_read s In evt).was heads.item.1 into.item into.first in
     let (pairs_out, out_rows) = (terms_read s Out evt).was into.item.1 out.item out.first in
@@ -144,13 +144,13 @@ first_known false m s row h = elim (either (bytes_eq (first_line false m s) row)
 first_was : (between : Bool) (m : FlowModel) (s : ℕ) (left after : Left) → first_at between m s left ≡ Ok after → (row : Line) × IsKnown between m s row × (left.lines ≡ row ∷ after.lines)
 unfolding first_at
 first_was between m s left after h =
-    let line = goes (line_at left) _ after h in
-    let (test, same) = chosen (is_first between m s line.item.0) left.number line.item.1 after line.then_ in
+    let line = bind_goes_through (line_at left) _ after h in
+    let (test, same) = choice_is_ok (is_first between m s line.item.0) left.number line.item.1 after line.then_ in
     (line.item.0, first_known between m s line.item.0 test, line_row left line.item line.first ∙ ap (λ (x : Left). line.item.0 ∷ x.lines) same)
 
 none_over : (n : ℕ) (rows : List Line) (u : Unit {0}) → none_of n rows ≡ Ok u → rows ≡ []
 none_over n [] u h = refl
-none_over n (row ∷ rows) u h = absurd (clash n u (none_of n (row ∷ rows)) refl h)
+none_over n (row ∷ rows) u h = absurd (ok_is_not_err n u (none_of n (row ∷ rows)) refl h)
 
 -- a first line and the further lines of a listing are the listing's lines
 whole_listing : (between : Bool) (m : FlowModel) (s : ℕ) (steps : List ListedStep) (row : Line) (rows : List Line) → IsKnown between m s row → rows ≡
@@ -163,10 +163,10 @@ listing_was : (between : Bool) (m : FlowModel) (s : ℕ) (pairs : ℕ → List Z
     Ok steps → AreListed m pairs steps × IsListing between m s steps left.lines
 unfolding listing_at
 listing_was between m s pairs left steps h =
-    let first = goes (first_at between m s left) _ steps h in
-    let all = goes (for_each (step_at m s pairs) (times m) first.item) _ steps first.then_ in
-    let end = goes (text_at end_line all.item.1) _ steps all.then_ in
-    let over = goes (over_at end.item) _ steps end.then_ in
+    let first = bind_goes_through (first_at between m s left) _ steps h in
+    let all = bind_goes_through (for_each (step_at m s pairs) (times m) first.item) _ steps first.then_ in
+    let end = bind_goes_through (text_at end_line all.item.1) _ steps all.then_ in
+    let over = bind_goes_through (over_at end.item) _ steps end.then_ in
     let (row, known, title) = first_was between m s left first.item first.first in
     let (are, rows) = (steps_read m s pairs).was first.item all.item all.first in
     let end_rows = text_row end_line all.item.1 end.item end.first ∙ ap (λ (t : List Line). end_line ∷ t) (none_over end.item.number end.item.lines over.item over.first) in

@@ -11,15 +11,15 @@ pub record Goes {A B E : Type 0} (r : Result A E) (f : A → Result B E) (y : B)
   pub first : r ≡ Ok item
   pub then_ : f item ≡ Ok y
 
-pub clash : {B E : Type 0} (e : E) (y : B) (r : Result B E) → r ≡ Err e → r ≡ Ok y → ⊥
-clash e y r h k = cc
+pub ok_is_not_err : {B E : Type 0} (e : E) (y : B) (r : Result B E) → r ≡ Err e → r ≡ Ok y → ⊥
+ok_is_not_err e y r h k = cc
 
 pub same_ok : {B E : Type 0} (x y : B) (r : Result B E) → r ≡ Ok x → r ≡ Ok y → x ≡ y
 same_ok x y r h k = cc
 
-pub goes : {A B E : Type 0} (r : Result A E) (f : A → Result B E) (y : B) → (r >>= f) ≡ Ok y → Goes r f y
-goes (Ok x) f y h = record { item = x; first = refl; then_ = h }
-goes {A = A} {B = B} {E = E} (Err e) f y h = absurd (clash e y (Err e) refl h)
+pub bind_goes_through : {A B E : Type 0} (r : Result A E) (f : A → Result B E) (y : B) → (r >>= f) ≡ Ok y → Goes r f y
+bind_goes_through (Ok x) f y h = record { item = x; first = refl; then_ = h }
+bind_goes_through {A = A} {B = B} {E = E} (Err e) f y h = absurd (ok_is_not_err e y (Err e) refl h)
 
 abbrev pub left_of : List Line → ℕ → Left
 left_of rows n = record { lines = rows; number = n }
@@ -47,8 +47,8 @@ module _ {T X : Type 0} (s : ℕ) (read : T → Left → Result (X × Left) ℕ)
       let P : List X × Left → Type 0 = λ x. AllZip Sound [] x.0 × (left.lines ≡ each_lines rows [] x.0 ++ x.1.lines) in
       subst P (same_ok ([], left) got (for_each read [] left) refl h) (tt, refl)
   all_was (t ∷ ts) left got h =
-      let first = goes (read t left) _ got h in
-      let more = goes (for_each read ts first.item.1) _ got first.then_ in
+      let first = bind_goes_through (read t left) _ got h in
+      let more = bind_goes_through (for_each read ts first.item.1) _ got first.then_ in
       let here = (each t).was left first.item first.first in
       let others = all_was ts first.item.1 more.item more.first in
       let P : List X × Left → Type 0 = λ x. AllZip Sound (t ∷ ts) x.0 × (left.lines ≡ each_lines rows (t ∷ ts) x.0 ++ x.1.lines) in

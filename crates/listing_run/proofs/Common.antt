@@ -29,8 +29,8 @@ pub use Rattle.outside.specs.{Put, whole_put}
 pub use Rattle.outside.specs.declared.traits.SinkError.{SinkError}
 pub use Rattle.outside.specs.declared.traits.SinkError.TheVariants.{Write}
 pub use Rattle.problem_builder.specs.{AreGridHeads, HeadsEnclose, IsActive, IsCellNamed}
-pub use Rattle.run_puts.proofs.Pieces.{IsAt, IsLate, at_more, ends_or_lacks, joined, joined_thrice, lacks_after, lacks_at_first, late_not_ok, put_was, stops_at}
-pub use Rattle.run_puts.proofs.Pieces.{tail_late, weaker}
+pub use Rattle.run_puts.proofs.Pieces.{IsAt, IsLate, at_more, ends_or_lacks, joined_thrice, lacks_after, lacks_at_first, late_not_ok, put_was, puts_are_joined}
+pub use Rattle.run_puts.proofs.Pieces.{run_of_less, stops_at, tail_late}
 pub use Rattle.run_puts.specs.{EndsOutOfMemory, IsEnd, IsLast, IsPut, IsRun, Text, end_line, memory_put, status_after, wanting, whole}
 pub use Rattle.run_puts.specs.declared.puts.Status.{Status}
 pub use Rattle.step_chain.proofs.Histories.{first_in, lies_encloses}

@@ -3,11 +3,11 @@ use Rattle.listing_run.proofs.Common.{◌≡◌, ◌∙◌, List, [], ◌∷◌,
 use Rattle.listing_run.proofs.Common.{Put, whole_put, Entries, Edges, Text, IsRun, IsEnd, IsPut, EndsOutOfMemory, Status, IsAt, at_more, ends_or_lacks}
 use Rattle.listing_run.proofs.Common.{lacks_after, stops_at, ListingEnd, Step, Steps, Task, IsCutListing, IsListing, IsPushed, first_pieces, last_line, listing}
 use Rattle.listing_run.proofs.Common.{status_of, text_of, EndsAt, IsAtFirst, IsNextText, IsWalk, times_left, is_between, first_text, map, inl, inr, SinkError}
-use Rattle.listing_run.proofs.Common.{TimeStep, whole, IsLate, late_not_ok, tail_late, weaker, IsStopEnd, IsListingBeside, left, listed, memory_put}
+use Rattle.listing_run.proofs.Common.{TimeStep, whole, IsLate, late_not_ok, tail_late, run_of_less, IsStopEnd, IsListingBeside, left, listed, memory_put}
 use Rattle.listing_run.proofs.Common.{status_after, wanting}
 use Rattle.std.proofs.Common.{IfOk}
 use Rattle.std.specs.List.{concat}
-use Rattle.listing_run.proofs.UnderWay.{IsSolved, cut_listing, encloses_if_whole, ended, is_listing, none_solved, one_more_solved}
+use Rattle.listing_run.proofs.UnderWay.{IsSolved, cut_listing, encloses_if_whole, solved_steps_are_all, is_listing, none_solved, one_more_solved}
 use Rattle.outside.specs.declared.traits.SinkError.TheVariants as error
 use Rattle.run_puts.specs.declared.puts.Status.TheVariants as status
 use Rattle.listing_run.specs.declared.text.ListingEnd.TheVariants as ends
@@ -104,7 +104,7 @@ module _ (k : Task) (start : Text) where
       last = last;
       status = meant;
       values = so.values;
-      steps = ended k s.heads (times_left s) so.values last so.solved here;
+      steps = solved_steps_are_all k s.heads (times_left s) so.values last so.solved here;
       encloses = encloses_if_whole k s.heads (times_left s) so.values last so.solved here;
       are = refl;
     };
@@ -141,8 +141,8 @@ stop_end_not_ok error.Write end tail (same, t) e = let bad : status.WriteFault �
 stop_end_not_ok error.Memory end tail h e = wanting_not_ok end tail h e
 
 module _ (failed : Type 0) (k : Task) where
-  pub beside : (end : Status) (puts : List Put) → IsRun (IsListing k) (IsCutListing k) end puts → IsRun (IsListingBeside failed k) (IsCutListing k) end puts
-  beside end puts h = weaker (IsListing k) (IsListingBeside failed k) (IsCutListing k) (λ meant pieces d. listed meant pieces d) end puts h
+  pub cut_listing_is_beside : (end : Status) (puts : List Put) → IsRun (IsListing k) (IsCutListing k) end puts → IsRun (IsListingBeside failed k) (IsCutListing k) end puts
+  cut_listing_is_beside end puts h = run_of_less (IsListing k) (IsListingBeside failed k) (IsCutListing k) (λ meant pieces d. listed meant pieces d) end puts h
 
   pub ends_stopped : (fault : SinkError) (s : Steps) (pending : Text) (puts tail rest : List Put) (end : Status) → IsUnderWay k s pending puts → tail ≡
       whole_put pending ∷ [] → (fault ≡ error.Write → failed) → IsStopEnd fault end rest →
@@ -155,7 +155,7 @@ module _ (failed : Type 0) (k : Task) where
       let cut = cut_listing k s.heads (times_left s) u.values u.solved in
       let ran : Q (puts ++ tail) = subst Q (sym all) (whole status.WriteFault (first_pieces k u.values) (left (first_pieces k u.values) (why refl) cut)) in
       rw (same, none) (subst Q (sym (append-nil (puts ++ tail))) ran)
-  ends_stopped error.Memory s pending puts tail rest end u e why h = beside end (puts ++ tail ++ rest) (ends_wanting k s pending puts tail end u rest e h)
+  ends_stopped error.Memory s pending puts tail rest end u e why h = cut_listing_is_beside end (puts ++ tail ++ rest) (ends_wanting k s pending puts tail end u rest e h)
 
 -- a write failed beside by another account
 beside_taken : (failed other : Type 0) (k : Task) → (failed → other) → (end : Status) (pieces : List Text) → IsListingBeside failed k end pieces → IsListingBeside other k end pieces
@@ -164,7 +164,7 @@ beside_taken failed other k takes end pieces (left all f c) = left all (takes f)
 
 pub beside_by : (failed other : Type 0) (k : Task) → (failed → other) → (end : Status) (puts : List Put) →
     IsRun (IsListingBeside failed k) (IsCutListing k) end puts → IsRun (IsListingBeside other k) (IsCutListing k) end puts
-beside_by failed other k takes end puts h = weaker (IsListingBeside failed k) (IsListingBeside other k) (IsCutListing k) (beside_taken failed other k takes) end puts h
+beside_by failed other k takes end puts h = run_of_less (IsListingBeside failed k) (IsListingBeside other k) (IsCutListing k) (beside_taken failed other k takes) end puts h
 
 -- nothing beside can fail to be written
 listed_alone : (failed : Type 0) (k : Task) → (failed → ⊥) → (end : Status) (pieces : List Text) → IsListingBeside failed k end pieces → IsListing k end pieces
@@ -172,4 +172,4 @@ listed_alone failed k never end pieces (listed meant all d) = d
 listed_alone failed k never end pieces (left all f c) = absurd (never f)
 
 pub alone : (failed : Type 0) (k : Task) → (failed → ⊥) → (end : Status) (puts : List Put) → IsRun (IsListingBeside failed k) (IsCutListing k) end puts → IsRun (IsListing k) (IsCutListing k) end puts
-alone failed k never end puts h = weaker (IsListingBeside failed k) (IsListing k) (IsCutListing k) (listed_alone failed k never) end puts h
+alone failed k never end puts h = run_of_less (IsListingBeside failed k) (IsListing k) (IsCutListing k) (listed_alone failed k never) end puts h

@@ -35,8 +35,8 @@ module _ (k : Task) (s : ℕ) (at : TimeStep) (old : List Bound) (digits : s ≡
 
   module _ {S : Type 0} (leads : S → List Entries → Edges → Bool → S → Type 0) (before after : S) where
     -- a step's problem, ended with heads or without
-    pub settles : (ended : Bool) (p : List Entries) → IsProblemFor k.decks s at old p → LeadsBy leads k.limits k.decks at old p ended before after → IsSettledBy leads k at old ended before after
-    settles ended p is l =
+    pub led_problem_settles : (ended : Bool) (p : List Entries) → IsProblemFor k.decks s at old p → LeadsBy leads k.limits k.decks at old p ended before after → IsSettledBy leads k at old ended before after
+    led_problem_settles ended p is l =
         let P : ℕ → Type 0 = λ n. IsPosed k.limits k.decks n at old p l.barrier in
         record {
           problem = p;
@@ -49,7 +49,7 @@ module _ (k : Task) (s : ℕ) (at : TimeStep) (old : List Bound) (digits : s ≡
     -- a step without heads
     pub rests_or_settles : LeadsOrRests leads k.limits k.decks s at old before after → RestsOrSettles leads k at old before after
     rests_or_settles (inl e) = inl e
-    rests_or_settles (inr (p, is, ended, plain, l)) = inr (ended, settles ended p is l)
+    rests_or_settles (inr (p, is, ended, plain, l)) = inr (ended, led_problem_settles ended p is l)
 
 module _ {S : Type 0} (begins : S → ℕ → ℕ → S → Type 0) (leads : S → List Entries → Edges → Bool → S → Type 0) (stop : S → Option SinkError) where
   module _ (k : Task) where

@@ -67,8 +67,8 @@ module _ (k : Task) where
       subst P (sym left.0) (subst R (sym left.1) h) in
       record { start = s.steps.start; is_start = s.steps.is_start; steps = then_also (AreLeft old rest) Q takes s.steps.start (times k.decks.first) values s.steps.steps }
 
-  pub ended : (old : List Bound) (rest : List TimeStep) (values : List Step) (last : ListingEnd) → IsSolved old rest values → EndsAt k last old rest → AllSteps k values last
-  ended old rest values last = steps_end (EndsAt k last) old rest values
+  pub solved_steps_are_all : (old : List Bound) (rest : List TimeStep) (values : List Step) (last : ListingEnd) → IsSolved old rest values → EndsAt k last old rest → AllSteps k values last
+  solved_steps_are_all old rest values last = steps_end (EndsAt k last) old rest values
 
   pub cut_listing : (old : List Bound) (rest : List TimeStep) (values : List Step) → IsSolved old rest values → IsCutListing k (first_pieces k values)
   cut_listing old rest values s = record { values = values; steps = steps_end (λ heads times. Unit {0}) old rest values s tt; are = refl }
@@ -97,7 +97,7 @@ module _ (k : Task) where
     last = last;
     status = refl;
     values = values;
-    steps = ended old rest values last s h;
+    steps = solved_steps_are_all old rest values last s h;
     encloses =
         encloses_if_whole old rest values last s h;
     are = refl;

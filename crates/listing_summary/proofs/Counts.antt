@@ -12,7 +12,7 @@ use Rattle.step_problem.specs.Entries.{Entries}
 use Rattle.listing_run.specs.declared.text.ListingEnd.{ListingEnd}
 use Rattle.listing_run.specs.declared.steps.Steps.{Steps}
 use Rattle.listing_run.specs.declared.steps.Task.{Task}
-use Rattle.listing_run.proofs.UnderWay.{IsSolved, encloses_if_whole, ended, none_solved, one_more_solved}
+use Rattle.listing_run.proofs.UnderWay.{IsSolved, encloses_if_whole, solved_steps_are_all, none_solved, one_more_solved}
 
 -- the cells that are left
 pub one_cell : (m : FlowModel) (bs : List Bound) (c : ℕ) (d : Bound) (s t whole : Summary) → c < length bs → t ≡
@@ -122,7 +122,7 @@ module _ (k : Task) where
   pub all_counted_to_end : (s : Steps) (n : Summary) (last : ListingEnd) → EndsAt k last s.heads (times_left s) → IsCounted s n → IsSummarized k n last
   all_counted_to_end s n last here so = record {
     values = so.values;
-    steps = ended k s.heads (times_left s) so.values last so.solved here;
+    steps = solved_steps_are_all k s.heads (times_left s) so.values last so.solved here;
     encloses = encloses_if_whole k s.heads (times_left s) so.values last so.solved here;
     is = so.counts ∙ all_counted_is k.decks.first so.values;
   }

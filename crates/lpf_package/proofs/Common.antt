@@ -5,6 +5,6 @@ pub use Rattle.array_reader.specs.{integer, number, number_at, real_layer, zero_
 pub use Rattle.lpf_package.specs.{HasFlow, SameBut, is_transient, nth_layer, with_contents}
 unfoldable pub use Rattle.lpf_package.specs.{contents_of, layer_at, layers_of, lpf_of, option_line, properties_of, settings_of, storage_layer}
 pub use Rattle.outside.specs.{FileSet, words}
-pub use Rattle.record_lines.proofs.Forward.{begun_held, leaves, line_held}
-pub use Rattle.record_lines.proofs.Readings.{counted_gives, done, goes_on, if_clear, some_give, then_, weaker}
+pub use Rattle.record_lines.proofs.Forward.{begun_held, line_held, rest_has_its_lines}
+pub use Rattle.record_lines.proofs.Readings.{counted_gives, gives_only_less, goes_on, if_clear, ok_gives_only, some_give, then_}
 pub use Rattle.record_lines.specs.{GivesOnly, Left, LineMay, LinesMay, Numbered, each_number, left_from, without_comments}

@@ -1,13 +1,13 @@
 -- What a file of the layer-property flow package gives.
 use Rattle.lpf_package.proofs.Common.{◌≡◌, ℕ, ◌*◌, Bool, true, false, cond, List, length, All, Ok, refl, arith, ◌+◌, not, [], replicate, FileSet, Left}
 use Rattle.lpf_package.proofs.Common.{left_from, without_comments, zero_list, real_layer, is_transient, contents_of, with_contents, lpf_of, SameBut, layers_of}
-use Rattle.lpf_package.proofs.Common.{storage_layer, properties_of, nth_layer, layer_at, settings_of, HasFlow, option_line, if◌then◌else◌, done, goes_on, then_}
-use Rattle.lpf_package.proofs.Common.{weaker, GivesOnly, counted_gives}
+use Rattle.lpf_package.proofs.Common.{storage_layer, properties_of, nth_layer, layer_at, settings_of, HasFlow, option_line, if◌then◌else◌, ok_gives_only}
+use Rattle.lpf_package.proofs.Common.{goes_on, then_, gives_only_less, GivesOnly, counted_gives}
 use Rattle.decimal_input.specs.{IsDec}
 use Rattle.model_types.specs.declared.grid.Grid.{Grid}
 use Rattle.model_types.specs.declared.model.FlowModel.{FlowModel}
 use Rattle.model_types.specs.{cell_count, layer_size, no_number}
-use Rattle.array_text.proofs.ArrayForms.{lists}
+use Rattle.array_text.proofs.ArrayForms.{list_files_have_form}
 use Rattle.array_text.specs.{IsShort}
 use Rattle.std.proofs.lemmas.List.Elements.{All-nil, All-append}
 use Rattle.decimal_input.specs.declared.dec.Dec.{Dec}
@@ -33,7 +33,7 @@ module _ (files : FileSet) (file : List ℕ) where
   storage_by : (stores : Bool) (rows cols : ℕ) (left : Left) →
       GivesOnly (λ y. (length y.0 ≡ cond stores (rows * cols) 0) × All IsDec y.0) (if stores then real_layer files file rows cols left else Ok ([], left))
   storage_by true rows cols left = layer_is files file rows cols left
-  storage_by false rows cols left = done (refl, All-nil IsDec)
+  storage_by false rows cols left = ok_gives_only (refl, All-nil IsDec)
 
   storage_is : (x : Layer) (left : Left) → GivesOnly (λ y. (length y.0 ≡ cond x.stores (x.rows * x.cols) 0) × All IsDec y.0) (storage_layer files file x left)
   unfolding storage_layer
@@ -44,7 +44,7 @@ module _ (files : FileSet) (file : List ℕ) where
   properties_are x left chani =
       then_ _ (layer_is files file x.rows x.cols left) (λ hk a. then_ _ (layer_or_is files file x.rows x.cols (not (is_positive x.chani)) x.chani hk.1 chani)
       (λ hani b. then_ _ (layer_is files file x.rows x.cols hani.1) (λ vka c. then_ _ (storage_is x vka.1) (λ ss d. then_ _ (layer_or_is files file x.rows x.cols x.has_bed no_number ss.1 no_number_is)
-      (λ vkcb e. done (record { hk = a; hani = (b.0, b.1); vka = c; ss = d; vkcb = (e.0, e.1); bed = e.2 }))))))
+      (λ vkcb e. ok_gives_only (record { hk = a; hani = (b.0, b.1); vka = c; ss = d; vkcb = (e.0, e.1); bed = e.2 }))))))
 
 -- the properties of i layers
 pub record AreProperties (g : Grid) (stores : Bool) (i : ℕ) (p : Properties) : Type 0 where
@@ -62,7 +62,7 @@ module _ (files : FileSet) (file : List ℕ) (g : Grid) (chani : List Dec) (stor
   one_layer : (i : ℕ) (s : Properties × Left) → Are i s → GivesOnly (Are (i + 1)) (layer_at files file g chani stores i s)
   unfolding layer_at
   one_layer i s so =
-      then_ _ (properties_are files file (nth_layer g chani stores i) s.1 (dec_at_is chani i decimals)) (λ x p. done (record {
+      then_ _ (properties_are files file (nth_layer g chani stores i) s.1 (dec_at_is chani i decimals)) (λ x p. ok_gives_only (record {
         hk = one_more IsDec (layer_size g) i s.0.hk x.0.hk so.hk p.hk;
         hani = one_more IsDec (layer_size g) i s.0.hani x.0.hani so.hani p.hani;
         vka = one_more IsDec (layer_size g) i s.0.vka x.0.vka so.vka p.vka;
@@ -93,7 +93,7 @@ module _ (files : FileSet) (file : List ℕ) where
   unfolding settings_of
   settings_are layers left =
       goes_on (zero_list file layers left) _ (λ laytyp a. goes_on (zero_list file layers laytyp.1) _ (λ layavg b. then_ _ (lists.numbers file layers layavg.1)
-      (λ chani c. then_ _ (lists.integers file layers chani.1) (λ layvka d. goes_on (zero_list file layers layvka.1) _ (λ laywet e. done (c.1, d))))))
+      (λ chani c. then_ _ (lists.integers file layers chani.1) (λ layvka d. goes_on (zero_list file layers layvka.1) _ (λ laywet e. ok_gives_only (c.1, d))))))
 
   contents_are : (bytes : List ℕ) (g : Grid) (stores : Bool) →
       GivesOnly (λ c. ((length c.layvka ≡ g.layers) × All IsShort c.layvka) × AreProperties g stores g.layers c.properties)
@@ -101,7 +101,7 @@ module _ (files : FileSet) (file : List ℕ) where
   unfolding contents_of
   contents_are bytes g stores =
       goes_on (option_line file (without_comments (left_from 1 bytes))) _ (λ coefficient e. then_ _ (settings_are g.layers coefficient.1)
-      (λ settings s. then_ _ (layers_are files file g settings.0.chani stores s.0 g.layers settings.1) (λ layers p. done (s.1, p))))
+      (λ settings s. then_ _ (layers_are files file g settings.0.chani stores s.0 g.layers settings.1) (λ layers p. ok_gives_only (s.1, p))))
 
   has_flow : (m : FlowModel) (c : Contents) → (length c.layvka ≡ m.grid.layers) × All IsShort c.layvka →
       AreProperties m.grid (is_transient m.periods) m.grid.layers c.properties → HasFlow (with_contents m c)
@@ -117,7 +117,7 @@ module _ (files : FileSet) (file : List ℕ) where
 
   pub lpf_is : (bytes : List ℕ) (m : FlowModel) → GivesOnly (λ n. HasFlow n × SameBut m n) (lpf_of files file bytes m)
   unfolding lpf_of
-  lpf_is bytes m = then_ _ (contents_are bytes m.grid (is_transient m.periods)) (λ c are. done (has_flow m c are.0 are.1, refl))
+  lpf_is bytes m = then_ _ (contents_are bytes m.grid (is_transient m.periods)) (λ c are. ok_gives_only (has_flow m c are.0 are.1, refl))
 
   pub flow_is : (bytes : List ℕ) (m : FlowModel) → GivesOnly HasFlow (lpf_of files file bytes m)
-  flow_is bytes m = weaker (lpf_is bytes m) (λ n is. is.0)
+  flow_is bytes m = gives_only_less (lpf_is bytes m) (λ n is. is.0)

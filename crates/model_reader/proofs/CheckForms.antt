@@ -1,10 +1,10 @@
 -- A test of cells or of columns that is passed with one file's name in its refusals is passed with any other.
-use Rattle.model_reader.proofs.Common.{done, goes_on, GivesOnly, HasBasics, at_cell, cell_step, check_result, fault_at, StartHead, Thickness, IsDec, IsStarted}
-use Rattle.model_reader.proofs.Common.{IsNewPeriod, cell_tested, chosen_cell, column_step, column_tested, columns_tested, evap_fault, source, SameBut}
-use Rattle.model_reader.proofs.Common.{with_properties, IsGrid, IsTimed, cell_count, int_at, is_nonzero, layer_size, Grid, Limits, FlowModel, Period, Refusal}
-use Rattle.model_reader.proofs.Common.{Area, each_number, All, Bool, List, None, Ok, Option, Result, Some, ap, length, pos, refl, subst, suc, sum, sum_by, sym}
-use Rattle.model_reader.proofs.Common.{zero, ℕ, ℤ, ◌+◌, ◌∙◌, ◌≡◌, ◌≤◌, if◌then◌else◌, IsDiscretized, IsGridWithin, IsOfBeds, HasFlow, is_transient, steps, []}
-use Rattle.model_reader.proofs.Common.{cond, map, not, ◌∷◌, ◌||◌, length-map, with_basics}
+use Rattle.model_reader.proofs.Common.{ok_gives_only, goes_on, GivesOnly, HasBasics, at_cell, cell_step, check_result, fault_at, StartHead, Thickness, IsDec}
+use Rattle.model_reader.proofs.Common.{IsStarted, IsNewPeriod, cell_tested, chosen_cell, column_step, column_tested, columns_tested, evap_fault, source}
+use Rattle.model_reader.proofs.Common.{SameBut, with_properties, IsGrid, IsTimed, cell_count, int_at, is_nonzero, layer_size, Grid, Limits, FlowModel, Period}
+use Rattle.model_reader.proofs.Common.{Refusal, Area, each_number, All, Bool, List, None, Ok, Option, Result, Some, ap, length, pos, refl, subst, suc, sum}
+use Rattle.model_reader.proofs.Common.{sum_by, sym, zero, ℕ, ℤ, ◌+◌, ◌∙◌, ◌≡◌, ◌≤◌, if◌then◌else◌, IsDiscretized, IsGridWithin, IsOfBeds, HasFlow, is_transient}
+use Rattle.model_reader.proofs.Common.{steps, [], cond, map, not, ◌∷◌, ◌||◌, length-map, with_basics}
 use Rattle.array_text.specs.{IsShort}
 use Rattle.number_limits.specs.declared.passing.Check.{Check}
 use Rattle.number_limits.specs.declared.passing.Check.TheVariants.{Properties as PropertyCheck}
@@ -17,7 +17,7 @@ use Rattle.lpf_package.specs.declared.layer.Properties.{Properties}
 passed_again : (step other : ℕ → Unit {0} → Result (Unit {0}) Refusal) → ((i : ℕ) → step i tt ≡ Ok tt → other i tt ≡ Ok tt) → (n i : ℕ) →
     GivesOnly (λ u. each_number other i n tt ≡ Ok tt) (each_number step i n tt)
 unfolding each_number
-passed_again step other again zero i = done refl
+passed_again step other again zero i = ok_gives_only refl
 passed_again step other again (suc n) i = goes_on (step i tt) _ (λ u e. rw (again i e) (passed_again step other again n (i + 1)))
 
 cell_again : (g : Grid) (file other : List ℕ) (c : ℕ) (o : Option Code) → at_cell g file c o ≡ Ok tt → at_cell g other c o ≡ Ok tt

@@ -13,7 +13,7 @@ pub use Rattle.dis_package.proofs.DisForms.{IsStarted, dis_is}
 pub use Rattle.dis_package.specs.{IsDiscretized, IsGridWithin, IsNewPeriod, IsOfBeds, without_stresses}
 pub use Rattle.evt_package.specs.{cell_tested, chosen_cell, column_step, column_tested, evap_fault, evaporation_arrays, source}
 unfoldable pub use Rattle.evt_package.specs.{columns_tested, evt_of}
-pub use Rattle.list_package.proofs.ColumnLemmas.{entry_list, given_list, placed}
+pub use Rattle.list_package.proofs.ColumnLemmas.{entry_list, entry_place_is_cell, given_list}
 pub use Rattle.list_package.proofs.ListForms.{lists_are, steps}
 pub use Rattle.list_package.specs.{IsEntry, IsListOf, Kind, entries_in, given_heads, kind_of, with_entries, with_list}
 unfoldable pub use Rattle.list_package.specs.{package_of}
@@ -42,7 +42,7 @@ pub use Rattle.outside.specs.declared.inputs.Refusal.{Refusal}
 pub use Rattle.period_arrays.specs.{ArrayKind, HasArrays, IsArea, IsReals, arrays_in, is_option, no_area, with_area}
 pub use Rattle.period_arrays.specs.declared.area.Area.{Area}
 pub use Rattle.record_lines.proofs.Loops.{stops_all}
-pub use Rattle.record_lines.proofs.Readings.{done, goes_on, then_, weaker}
+pub use Rattle.record_lines.proofs.Readings.{gives_only_less, goes_on, ok_gives_only, then_}
 pub use Rattle.record_lines.specs.{GivesOnly, Has, Stops, StopsText, ◌>>=◌}
 unfoldable pub use Rattle.record_lines.specs.{each_number}
 pub use Rattle.stress_packages.specs.{drains, generals, recharge_arrays, rivers, wells}

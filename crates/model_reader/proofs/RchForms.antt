@@ -1,7 +1,8 @@
 -- What a file of RCH or of EVT gives.
-use Rattle.model_reader.proofs.Common.{done, then_, GivesOnly, evaporation_arrays, evt_of, steps, entries_in, kind_of, IsListOf, ListKind, Wells, HasSize}
-use Rattle.model_reader.proofs.Common.{cell_count, Grid, Limits, FlowModel, Period, Stresses, FileSet, ArrayKind, arrays_in, is_option, with_area, Area, ◌>>=◌}
-use Rattle.model_reader.proofs.Common.{All, List, Ok, false, inr, map, pos, refl, subst, sym, true, ℕ, ℤ, ◌∙◌, ◌≡◌, rch_of, recharge_arrays, IsArea}
+use Rattle.model_reader.proofs.Common.{ok_gives_only, then_, GivesOnly, evaporation_arrays, evt_of, steps, entries_in, kind_of, IsListOf, ListKind, Wells}
+use Rattle.model_reader.proofs.Common.{HasSize, cell_count, Grid, Limits, FlowModel, Period, Stresses, FileSet, ArrayKind, arrays_in, is_option, with_area}
+use Rattle.model_reader.proofs.Common.{Area, ◌>>=◌, All, List, Ok, false, inr, map, pos, refl, subst, sym, true, ℕ, ℤ, ◌∙◌, ◌≡◌, rch_of, recharge_arrays}
+use Rattle.model_reader.proofs.Common.{IsArea}
 use Rattle.model_reader.proofs.CheckForms.{columns_again}
 use Rattle.model_reader.proofs.PeriodForms.{ByOption, IsKnown, IsOption, IsStage, no_option, with_stresses}
 use Rattle.period_arrays.proofs.FileForms.{IsTested, arrays_are_read}
@@ -24,7 +25,7 @@ module _ (limits : Limits) (kind : ArrayKind) (files : FileSet) (file bytes : Li
       → GivesOnly (HasOption limits core rain air) (arrays_in kind files file bytes core.grid core.ibound ps >>= λ a. Ok (at_stage a.option a.periods))
   package_is put ps all same =
       then_ _ (arrays_are_read kind files file core.grid size core.ibound (Known (pos 0)) Known put bytes ps all)
-      (λ a are. done (record { option = a.option; by = inr are.active; stage = record { is = refl; same = are.same ∙ same; each = are.each } }))
+      (λ a are. ok_gives_only (record { option = a.option; by = inr are.active; stage = record { is = refl; same = are.same ∙ same; each = are.each } }))
 
 module _ (limits : Limits) (file : List ℕ) (g : Grid) (ibound : List ℤ) (p : Period) (a : Area) where
   abbrev IsList : ListKind → Stresses → Type 0

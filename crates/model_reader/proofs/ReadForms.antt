@@ -1,7 +1,7 @@
 -- A model that is read, in reading order.
-use Rattle.model_reader.proofs.Common.{All, List, Ok, subst, sym, ℕ, ◌≡◌, All-weaker, done, goes_on, then_, weaker, GivesOnly, HasBasics, check_result}
-use Rattle.model_reader.proofs.Common.{StartHead, Thickness, IsStarted, dis_is, HasFlow, SameBut, bas_in, basics_tested, dis_in, lpf_in, model_of, names_in}
-use Rattle.model_reader.proofs.Common.{needed_file, reads, IsTimed, Limits, FlowModel, Pairs, Bas, Dis, Lpf, FileSet, file_at}
+use Rattle.model_reader.proofs.Common.{All, List, Ok, subst, sym, ℕ, ◌≡◌, All-weaker, ok_gives_only, goes_on, then_, gives_only_less, GivesOnly, HasBasics}
+use Rattle.model_reader.proofs.Common.{check_result, StartHead, Thickness, IsStarted, dis_is, HasFlow, SameBut, bas_in, basics_tested, dis_in, lpf_in, model_of}
+use Rattle.model_reader.proofs.Common.{names_in, needed_file, reads, IsTimed, Limits, FlowModel, Pairs, Bas, Dis, Lpf, FileSet, file_at}
 use Rattle.bas_package.proofs.BasForms.{bas_is}
 use Rattle.number_limits.specs.declared.passing.Check.TheVariants.{Properties as PropertyCheck}
 use Rattle.lpf_package.proofs.LpfForms.{lpf_is}
@@ -40,12 +40,12 @@ module _ (limits : Limits) (files : FileSet) where
   unfolding bas_in
   basic_is dis bas begun =
       goes_on (file_at files bas) _ (λ bytes e. then_ _ (bas_is files bas bytes begun) (λ basic is. then_ _ (both_tested dis bas basic)
-      (λ tested both. done (record { basics = is; thick = both.0; heads = both.1 }))))
+      (λ tested both. ok_gives_only (record { basics = is; thick = both.0; heads = both.1 }))))
 
   lpf_read : (lpf : List ℕ) (basic : FlowModel) → GivesOnly (λ flow. HasFlow flow × SameBut basic flow × (check_result flow lpf PropertyCheck ≡ Ok tt)) (lpf_in files lpf basic)
   unfolding lpf_in
   lpf_read lpf basic =
-      goes_on (file_at files lpf) _ (λ bytes a. then_ _ (lpf_is files lpf bytes basic) (λ flow is. goes_on (check_result flow lpf PropertyCheck) _ (λ good b. done (is.0, is.1, b))))
+      goes_on (file_at files lpf) _ (λ bytes a. then_ _ (lpf_is files lpf bytes basic) (λ flow is. goes_on (check_result flow lpf PropertyCheck) _ (λ good b. ok_gives_only (is.0, is.1, b))))
 
   pub model_is : (names : Pairs) → GivesOnly (IsRead limits) (model_of limits files names)
   unfolding model_of
@@ -55,7 +55,7 @@ module _ (limits : Limits) (files : FileSet) where
       let lpf = needed_file Lpf names in
       then_ _ (begun_is dis) (λ begun a. then_ _ (basic_is dis bas begun) (λ basic b. then_ _ (lpf_read lpf basic) (λ flow c.
       let f = flow_is limits begun basic flow dis bas lpf a b.basics c.0 c.1 b.thick b.heads c.2 in
-      weaker (stresses_are limits flow f.sound.discretized.grid.size files names (first_stage limits flow f.options.0 f.options.1 f.new)) (λ m s. read_with limits flow m f s))))
+      gives_only_less (stresses_are limits flow f.sound.discretized.grid.size files names (first_stage limits flow f.options.0 f.options.1 f.new)) (λ m s. read_with limits flow m f s))))
 
   pub read_is : (name : List ℕ) → GivesOnly (IsRead limits) (reads limits files name)
   unfolding reads

@@ -1,15 +1,16 @@
 -- The packages of stresses are read one after the other, each where the name file names it.
-use Rattle.model_reader.proofs.Common.{done, goes_on, then_, GivesOnly, Dec, IsNewPeriod, without_stresses, evt_of, Kind, entries_in, given_heads, kind_of}
-use Rattle.model_reader.proofs.Common.{package_of, with_list, IsEntry, IsListOf, ListKind, Drains, Generals, Rivers, Wells, file_in, stresses, where_named}
-use Rattle.model_reader.proofs.Common.{with_stresses, HasSize, IsTimed, cell_count, Grid, Limits, FlowModel, Period, file_of, Pairs, Chd, Drn, Evt, Ghb, Rch}
-use Rattle.model_reader.proofs.Common.{Riv, Wel, FileSet, file_at, All, Bool, List, None, Option, Some, [], arith, false, inl, Refusal, Result, map, pos, refl}
-use Rattle.model_reader.proofs.Common.{subst, sym, true, ℕ, ℤ, ◌∙◌, ◌≡◌, All-nil, if◌then◌else◌, rch_of, wells, lists_are, steps, placed}
+use Rattle.model_reader.proofs.Common.{ok_gives_only, goes_on, then_, GivesOnly, Dec, IsNewPeriod, without_stresses, evt_of, Kind, entries_in, given_heads}
+use Rattle.model_reader.proofs.Common.{kind_of, package_of, with_list, IsEntry, IsListOf, ListKind, Drains, Generals, Rivers, Wells, file_in, stresses}
+use Rattle.model_reader.proofs.Common.{where_named, with_stresses, HasSize, IsTimed, cell_count, Grid, Limits, FlowModel, Period, file_of, Pairs, Chd, Drn, Evt}
+use Rattle.model_reader.proofs.Common.{Ghb, Rch, Riv, Wel, FileSet, file_at, All, Bool, List, None, Option, Some, [], arith, false, inl, Refusal, Result, map}
+use Rattle.model_reader.proofs.Common.{pos, refl, subst, sym, true, ℕ, ℤ, ◌∙◌, ◌≡◌, All-nil, if◌then◌else◌, rch_of, wells, lists_are, steps}
+use Rattle.model_reader.proofs.Common.{entry_place_is_cell}
 use Rattle.model_types.specs.declared.grid.CellId.{CellId}
 use Rattle.model_reader.proofs.RchForms.{HasOption, evt_is, rch_is}
 use Rattle.model_reader.proofs.PeriodForms.{IsKnown, IsOption, IsStage, no_option, with_entry_list, with_given_list}
 
 -- a list package, from one stage to the next
-module _ {E : Type 0} (limits : Limits) (kind : Kind E) (placed : (c : CellId) (ds : List Dec) → kind.place (kind.entry c ds) ≡ c.0) (core : FlowModel) (size : HasSize core.grid) (nrchop : ℤ)
+module _ {E : Type 0} (limits : Limits) (kind : Kind E) (entry_place_is_cell : (c : CellId) (ds : List Dec) → kind.place (kind.entry c ds) ≡ c.0) (core : FlowModel) (size : HasSize core.grid) (nrchop : ℤ)
     (put : (p : Period) (xs : List E) → IsKnown limits core.grid core.ibound nrchop (pos 0) p → IsListOf limits kind (cell_count core.grid) p xs →
     IsKnown limits core.grid core.ibound nrchop (pos 0) (with_list kind p xs)) where
   abbrev at_stage : List Period → FlowModel
@@ -22,7 +23,7 @@ module _ {E : Type 0} (limits : Limits) (kind : Kind E) (placed : (c : CellId) (
       GivesOnly (IsStage limits core nrchop (pos 0)) (package_of limits kind file bytes (at_stage ps))
   unfolding package_of
   from_stage file bytes ps all same =
-      then_ _ (lists_are limits kind placed file core.grid size Known Known put bytes ps all) (λ qs are. done (record { is = refl; same = are.1 ∙ same; each = are.0 }))
+      then_ _ (lists_are limits kind entry_place_is_cell file core.grid size Known Known put bytes ps all) (λ qs are. ok_gives_only (record { is = refl; same = are.1 ∙ same; each = are.0 }))
 
   pub package_is : (file bytes : List ℕ) (m : FlowModel) → IsStage limits core nrchop (pos 0) m → GivesOnly (IsStage limits core nrchop (pos 0)) (package_of limits kind file bytes m)
   package_is file bytes m stage =
@@ -62,18 +63,18 @@ module _ (limits : Limits) (core : FlowModel) (size : HasSize core.grid) (files 
       ((name bytes : List ℕ) → GivesOnly P (read name bytes m)) → (named : Option (List ℕ))
       → GivesOnly P (where_named named (file_in read files) m)
   unfolding file_in
-  named_is P read m here is None = done here
+  named_is P read m here is None = ok_gives_only here
   named_is P read m here is (Some name) = goes_on (file_at files name) _ (λ bytes e. is name bytes)
 
   list_stage : {E : Type 0} (kind : Kind E) → ((c : CellId) (ds : List Dec) → kind.place (kind.entry c ds) ≡ c.0) → (nrchop : ℤ)
       → ((p : Period) (xs : List E) → IsKnown limits core.grid core.ibound nrchop (pos 0) p → IsListOf limits kind (cell_count core.grid) p xs →
       IsKnown limits core.grid core.ibound nrchop (pos 0) (with_list kind p xs))
       → (named : Option (List ℕ)) (m : FlowModel) → IsStage limits core nrchop (pos 0) m → GivesOnly (IsStage limits core nrchop (pos 0)) (where_named named (file_in (package_of limits kind) files) m)
-  list_stage kind placed nrchop put named m stage = named_is _ _ m stage (λ name bytes. package_is limits kind placed core size nrchop put name bytes m stage) named
+  list_stage kind entry_place_is_cell nrchop put named m stage = named_is _ _ m stage (λ name bytes. package_is limits kind entry_place_is_cell core size nrchop put name bytes m stage) named
 
   entries_stage : (k : ListKind) (named : Option (List ℕ)) (m : FlowModel) → IsStage limits core (pos 0) (pos 0) m
       → GivesOnly (IsStage limits core (pos 0) (pos 0)) (where_named named (file_in (package_of limits (kind_of k)) files) m)
-  entries_stage k = list_stage (kind_of k) (placed k) (pos 0) (λ p. with_entry_list limits core.grid core.ibound (pos 0) (pos 0) p k)
+  entries_stage k = list_stage (kind_of k) (entry_place_is_cell k) (pos 0) (λ p. with_entry_list limits core.grid core.ibound (pos 0) (pos 0) p k)
 
   rain_stage : (named : Option (List ℕ)) (m : FlowModel) → IsStage limits core (pos 0) (pos 0) m →
       GivesOnly (HasOption limits core (λ z. z) (λ z. pos 0)) (where_named named (file_in (rch_of files) files) m)
@@ -90,4 +91,4 @@ module _ (limits : Limits) (core : FlowModel) (size : HasSize core.grid) (files 
       (λ drn c. then_ _ (entries_stage Generals (file_of Ghb names) drn c) (λ ghb d. then_ _ (rain_stage (file_of Rch names) ghb d)
       (λ rch rain. then_ _ (list_stage given_heads (λ c ds. refl) rain.option (λ p. with_given_list limits core.grid core.ibound rain.option (pos 0) p) (file_of Chd names) rch rain.stage)
       (λ chd given. then_ _ (air_stage rain.option (file_of Evt names) chd given)
-      (λ evt is. done (record { nrchop = rain.option; nevtop = is.option; options = (rain.by, is.by); stage = is.stage }))))))))
+      (λ evt is. ok_gives_only (record { nrchop = rain.option; nevtop = is.option; options = (rain.by, is.by); stage = is.stage }))))))))

@@ -3,7 +3,7 @@ use Rattle.model_text.proofs.Common.{◌≡◌, ℕ, zero, suc, ◌+◌, ◌^◌
 use Rattle.model_text.proofs.Common.{All, Ok, refl, arith, ℤ, pos, negsuc, codes, FileSet, is_comment, each_number, is_word, Grid, HasSize, is_int, layer_size}
 use Rattle.model_text.proofs.Common.{int_at, array_or, flag_at, flag_if, is_option, option_at, CoversLayer, is_layer, layer_step, layers_tested, layers_at}
 use Rattle.model_text.proofs.Common.{IsShort, integer_word, Line, IsLine, integer_array, Takes, integer_is_word, word_by_test, IsLayers, number_at, integer}
-use Rattle.model_text.proofs.Common.{arrays, digits_spell, takes_none, takes_where, last_takes, and_parts, leb-true}
+use Rattle.model_text.proofs.Common.{arrays_read_back, digits_spell, takes_none, takes_where, last_takes, and_parts, leb-true}
 use Rattle.model_text.proofs.FrameTexts.{integer_item, no_keyword}
 use Rattle.model_text.proofs.DisTexts.{decimal_is_item}
 

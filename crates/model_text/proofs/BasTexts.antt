@@ -2,8 +2,9 @@
 use Rattle.model_text.proofs.Common.{◌≡◌, ℕ, zero, suc, ◌+◌, ◌*◌, ◌<◌, List, [], ◌∷◌, ◌++◌, length, drop, Result, Ok, refl, sym, arith, false, codes, flat_map}
 use Rattle.model_text.proofs.Common.{range_with_len, drop_all, drop-drop, take-append-drop, FileSet, Refusal, Left, is_comment, appended_readings, real}
 use Rattle.model_text.proofs.Common.{layer_array, real_layer, integer_layer, layers, Grid, FlowModel, layer_size, cell_count, IsShort, Line, line_text, text}
-use Rattle.model_text.proofs.Common.{Takes, line_by_test, arrays, layer_values, each_layer, IsDiscretized, IsBasic, bas_item_1, bas_item_2, bas_item_3}
-use Rattle.model_text.proofs.Common.{bas_item_4, bas_lines, head_item, basics_of, with_basics, bas_of, takes_none, then_takes, last_takes, line_takes}
+use Rattle.model_text.proofs.Common.{Takes, line_by_test, arrays_read_back, layer_values, each_layer, IsDiscretized, IsBasic, bas_item_1, bas_item_2}
+use Rattle.model_text.proofs.Common.{bas_item_3, bas_item_4, bas_lines, head_item, basics_of, with_basics, bas_of, takes_none, then_takes, last_takes}
+use Rattle.model_text.proofs.Common.{line_takes}
 use Rattle.array_reader.specs.{whole}
 use Rattle.model_text.specs.{real_layer as real_layer_lines, integer_layer as integer_layer_lines}
 use Rattle.bas_package.specs.{option_line}

@@ -16,7 +16,7 @@ pub use Rattle.std.specs.Str.{bytes_eq}
 pub use Rattle.array_reader.specs.{free_list, layer_array, real, value_alone}
 unfoldable pub use Rattle.array_reader.specs.{canonical, integer, integer_layer, layer_or, layers, number, number_at, real_layer, significant, value_at}
 unfoldable pub use Rattle.array_reader.specs.{zero_at, zero_list, zero_step, zeros}
-pub use Rattle.array_text.proofs.ArrayTexts.{array_takes, arrays, free_lists, integer_written, real_one, reals_written}
+pub use Rattle.array_text.proofs.ArrayTexts.{array_takes, arrays_read_back, free_lists, integer_written, real_one, reals_written}
 pub use Rattle.array_text.proofs.DigitTexts.{digits_spell}
 pub use Rattle.array_text.proofs.FreeTexts.{IsWrittenAs, alone_begins, free_list_reads, last_word, line_begins, on_line, row_is_words, same_start, value_reads}
 pub use Rattle.array_text.proofs.FreeTexts.{values_read}

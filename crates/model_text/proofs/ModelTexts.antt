@@ -11,7 +11,7 @@ use Rattle.model_reader.proofs.CheckForms.{checks_kept}
 use Rattle.model_text.proofs.BasTexts.{bas_reads}
 use Rattle.model_text.proofs.LpfTexts.{lpf_reads}
 use Rattle.model_text.proofs.ListTexts.{list_packages}
-use Rattle.model_text.proofs.NameTexts.{pairs_of, absent, present, names_read}
+use Rattle.model_text.proofs.NameTexts.{pairs_of, absent_package_has_no_file, present, names_read}
 use Rattle.model_text.proofs.FileTexts.{name_file_there, package_file_there}
 use Rattle.model_text.proofs.StageTexts.{staged, with_list, with_arrays, list_stage, arrays_stage}
 use Rattle.model_text.proofs.AreaFileTexts.{evt_reads, rch_reads}
@@ -141,7 +141,7 @@ module _ (limits : Limits) (m : FlowModel) (w : IsWritable limits m) (names : Pa
     where
       by_case : (b : Bool) → has m k ≡ b → file_of k pairs ≡ (if b then Some (names k) else None)
       by_case true e = present names (has m) k e packages (listed k)
-      by_case false e = absent names (has m) k e packages
+      by_case false e = absent_package_has_no_file names (has m) k e packages
 
   names_there : names_in (with_limit most (written m names name)) name ≡ Ok pairs
   unfolding names_in

@@ -43,9 +43,9 @@ module _ (names : Package → List ℕ) (p : Package → Bool) where
   abbrev pub pairs_of : List Package → Pairs
   pairs_of ks = map (pair names) (filter p ks)
 
-  pub absent : (asked : Package) → p asked ≡ false → (ks : List Package) → file_of asked (pairs_of ks) ≡ None
-  absent asked out [] = refl
-  absent asked out (k ∷ ks) = by_case (absent asked out ks) (p k) refl
+  pub absent_package_has_no_file : (asked : Package) → p asked ≡ false → (ks : List Package) → file_of asked (pairs_of ks) ≡ None
+  absent_package_has_no_file asked out [] = refl
+  absent_package_has_no_file asked out (k ∷ ks) = by_case (absent_package_has_no_file asked out ks) (p k) refl
     where
       differs : (b : Bool) → p k ≡ true → is_same_package asked k ≡ b → b ≡ false
       differs true e s = let same : asked ≡ k = is_same asked k s in absurd (let found : p asked ≡ true = rw same e in cc)

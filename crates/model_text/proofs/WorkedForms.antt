@@ -114,5 +114,5 @@ small =
     All-from_recursion (λ f. length f.bytes ≤ 67108864) deck
     (omega arith, (simp (zero_digit, one_digit, two_digit, three_digit) (omega arith), (simp (zero_digit, one_digit, two_digit) (omega arith), (simp (zero_digit, one_digit) (omega arith), tt))))
 
-pub cells : ThreeCells
-cells = record { writable = writable; read = model_reads Plain three_cells writable deck_names deck_name good_names 67108864 small }
+pub three_cells_have_form : ThreeCells
+three_cells_have_form = record { writable = writable; read = model_reads Plain three_cells writable deck_names deck_name good_names 67108864 small }

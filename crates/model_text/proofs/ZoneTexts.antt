@@ -1,9 +1,9 @@
 -- The file of zones is read as written.
 use Rattle.model_text.proofs.Common.{◌≡◌, ℕ, ◌≤◌, false, not, pos, List, [], ◌∷◌, ◌++◌, length, map, filter, All, Some, None, refl, arith, append-nil}
 use Rattle.model_text.proofs.Common.{length-map, All-head, All-tail, All-map, All-weaker, nat_tests, File, FileSet, bytes_under, with_limit, Package, Dis}
-use Rattle.model_text.proofs.Common.{FlowModel, Grid, HasSize, cell_count, Takes, IsShort, nat_lt, arrays, layers, layer_array, integer_layer, each_layer}
-use Rattle.model_text.proofs.Common.{layer_values, deck_names, has, name_at, package_file, packages, text_left, written, zone_file, zone_name, zoned_files}
-use Rattle.model_text.proofs.Common.{ZonesReadAsWritten, position, position_or_len, bytes_eq, is_good_name}
+use Rattle.model_text.proofs.Common.{FlowModel, Grid, HasSize, cell_count, Takes, IsShort, nat_lt, arrays_read_back, layers, layer_array, integer_layer}
+use Rattle.model_text.proofs.Common.{each_layer, layer_values, deck_names, has, name_at, package_file, packages, text_left, written, zone_file, zone_name}
+use Rattle.model_text.proofs.Common.{zoned_files, ZonesReadAsWritten, position, position_or_len, bytes_eq, is_good_name}
 use Rattle.model_text.specs.{integer_layer as integer_layer_lines}
 use Rattle.array_reader.specs.{whole}
 use Rattle.zone_file.specs.{is_zone, zones_of, zones_tested}

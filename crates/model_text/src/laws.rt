@@ -74,7 +74,7 @@ pub fn zones_read_as_written()
 {}
 
 /// A worked model is writable, and files of a deck are read as it.
-#[tactic(auto, using(crate::proofs::WorkedForms::cells))]
+#[tactic(auto, using(crate::proofs::WorkedForms::three_cells_have_form))]
 pub fn three_cells()
     ensures { ThreeCells }
 {}

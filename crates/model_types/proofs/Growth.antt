@@ -50,7 +50,7 @@ first t = record {
 }
 
 -- G(n + 1) = G(n) t + 1
-pub horner : (t : Ratio) (n : ℕ) → Same (geometric t (suc n)) (plus (times (geometric t n) t) one)
+pub geometric_sum_steps : (t : Ratio) (n : ℕ) → Same (geometric t (suc n)) (plus (times (geometric t n) t) one)
 unfolding geometric power
-horner t zero = first t
-horner t (suc n) = Same-trans (plus-Same (horner t n) (Same-self (times (power t n) t))) (regrouped (geometric t n) t (power t n))
+geometric_sum_steps t zero = first t
+geometric_sum_steps t (suc n) = Same-trans (plus-Same (geometric_sum_steps t n) (Same-self (times (power t n) t))) (regrouped (geometric t n) t (power t n))

@@ -1,12 +1,12 @@
 -- What is read of the arrays of a stress period.
-use Rattle.period_arrays.proofs.Common.{done, goes_on, if_clear, if_passed, then_, weaker, GivesOnly, HasSize, int_at, is_int, layer_size, Grid, FileSet, words}
-use Rattle.period_arrays.proofs.Common.{IsArea, IsInForce, IsLayers, IsReals, area_at, array_or, arrays_of, flag_at, flag_if, flags_of, is_layer, is_negative}
-use Rattle.period_arrays.proofs.Common.{is_option, layer_step, layers_at, layers_tested, nothing_yet, option_at, InForce, Left, line_at, All, Bool, List, Ok}
-use Rattle.period_arrays.proofs.Common.{[], arith, false, length, negsuc, not, pos, refl, subst, sym, true, ℕ, ℤ, ◌&&◌, ◌<◌, ◌≡◌, ◌≤◌, each_step, some_give}
-use Rattle.period_arrays.proofs.Common.{Area}
+use Rattle.period_arrays.proofs.Common.{ok_gives_only, goes_on, if_clear, if_passed, then_, gives_only_less, GivesOnly, HasSize, int_at, is_int, layer_size}
+use Rattle.period_arrays.proofs.Common.{Grid, FileSet, words, IsArea, IsInForce, IsLayers, IsReals, area_at, array_or, arrays_of, flag_at, flag_if, flags_of}
+use Rattle.period_arrays.proofs.Common.{is_layer, is_negative, is_option, layer_step, layers_at, layers_tested, nothing_yet, option_at, InForce, Left, line_at}
+use Rattle.period_arrays.proofs.Common.{All, Bool, List, Ok, [], arith, false, length, negsuc, not, pos, refl, subst, sym, true, ℕ, ℤ, ◌&&◌, ◌<◌, ◌≡◌, ◌≤◌}
+use Rattle.period_arrays.proofs.Common.{each_step, some_give, Area}
 use Rattle.array_text.specs.{IsShort}
 use Rattle.array_reader.specs.{integer, number_at, real_layer}
-use Rattle.array_text.proofs.ArrayForms.{arrays}
+use Rattle.array_text.proofs.ArrayForms.{array_files_have_form}
 use Rattle.decimal_input.specs.declared.dec.Dec.{Dec}
 use Rattle.std.proofs.lemmas.Bool.{leb-true}
 use Rattle.std.proofs.lemmas.List.{get_or_default}
@@ -36,21 +36,21 @@ record IsFlag (present listed flag : Bool) : Type 0 where
 module _ (file : List ℕ) (line : ℕ) where
   flag_is : (listed : Bool) (ws : List (List ℕ)) → GivesOnly (λ x. x.0 ≡ false → listed ≡ true) (flag_at file line listed ws)
   unfolding flag_at
-  flag_is listed ws = goes_on (number_at integer file line ws) _ (λ z e. if_clear (is_negative z.0 && not listed) _ _ (λ clear. done (reused (is_negative z.0) listed clear)))
+  flag_is listed ws = goes_on (number_at integer file line ws) _ (λ z e. if_clear (is_negative z.0 && not listed) _ _ (λ clear. ok_gives_only (reused (is_negative z.0) listed clear)))
 
   flag_if_is : (present listed : Bool) (ws : List (List ℕ)) → GivesOnly (λ x. IsFlag present listed x.0) (flag_if present file line listed ws)
-  flag_if_is true listed ws = weaker (flag_is listed ws) (λ x h. record { there = λ e. h; none = λ e. absurd (let clash : true ≡ false = e in cc) })
-  flag_if_is false listed ws = done (record { there = λ e. absurd (let clash : false ≡ true = e in cc); none = λ e. refl })
+  flag_if_is true listed ws = gives_only_less (flag_is listed ws) (λ x h. record { there = λ e. h; none = λ e. absurd (let clash : true ≡ false = e in cc) })
+  flag_if_is false listed ws = ok_gives_only (record { there = λ e. absurd (let clash : false ≡ true = e in cc); none = λ e. refl })
 
   flags_are : (contents : Contents) (listed : Bool) (ws : List (List ℕ)) → GivesOnly (AreFlags contents listed) (flags_of contents file line listed ws)
   unfolding flags_of
   flags_are contents listed ws =
       then_ _ (flag_if_is contents.evaporates listed ws) (λ surface a. then_ _ (flag_is listed surface.1) (λ rate b. then_ _ (flag_if_is contents.evaporates listed rate.1)
-      (λ depth c. then_ _ (flag_if_is contents.layered listed depth.1) (λ layer d. done (record { surface = a.there; rate = b; depth = c.there; layer = d.there; none = d.none })))))
+      (λ depth c. then_ _ (flag_if_is contents.layered listed depth.1) (λ layer d. ok_gives_only (record { surface = a.there; rate = b; depth = c.there; layer = d.there; none = d.none })))))
 
   pub option_is : (ws : List (List ℕ)) → GivesOnly (λ x. is_option x.0 ≡ true) (option_at file line ws)
   unfolding option_at
-  option_is ws = goes_on (number_at integer file line ws) _ (λ z e. if_passed (is_option z.0) _ _ (λ active. done active))
+  option_is ws = goes_on (number_at integer file line ws) _ (λ z e. if_passed (is_option z.0) _ _ (λ active. ok_gives_only active))
 
 -- layers of the grid, or 0
 record AreOfGrid (g : Grid) (xs : List ℤ) : Type 0 where
@@ -91,27 +91,27 @@ first_area evaporates g option = record { area = λ e. absurd (let clash : false
 module _ (files : FileSet) (file : List ℕ) (g : Grid) where
   -- an array is read anew, or it is the last one
   reals_are : (anew : Bool) (before : List Dec) (left : Left) → GivesOnly (λ x. (anew ≡ false → IsReals g before) → IsReals g x.0) (array_or (real_layer files file g.rows g.cols) anew before left)
-  reals_are true before left = weaker (layer_is files file g.rows g.cols left) (λ x h last. h)
-  reals_are false before left = done (λ last. last refl)
+  reals_are true before left = gives_only_less (layer_is files file g.rows g.cols left) (λ x h last. h)
+  reals_are false before left = ok_gives_only (λ last. last refl)
 
   tested_are : (xs : List ℤ) (u : Unit {0}) → layers_tested file g xs ≡ Ok u → (i : ℕ) → i < layer_size g → is_layer g (int_at xs i) ≡ true
   unfolding layers_tested
   tested_are xs u h i lt =
       let step : layer_step file g xs i tt ≡ Ok tt = each_step (layer_step file g xs) (layer_size g) 0 h i (omega arith) (omega (arith, lt)) in
-      let is : GivesOnly (λ (v : Unit {0}). is_layer g (int_at xs i) ≡ true) (layer_step file g xs i tt) = if_passed (is_layer g (int_at xs i)) _ _ (λ e. done e) in
+      let is : GivesOnly (λ (v : Unit {0}). is_layer g (int_at xs i) ≡ true) (layer_step file g xs i tt) = if_passed (is_layer g (int_at xs i)) _ _ (λ e. ok_gives_only e) in
       is.gives tt step
 
   layers_are : (left : Left) → GivesOnly (λ x. AreOfGrid g x.0) (layers_at files file g left)
   unfolding layers_at
   layers_are left =
-      then_ _ (arrays.integer_layers files file g.rows g.cols left) (λ xs many. goes_on (layers_tested file g xs.0) _ (λ tested e. done (record { whole = many; inside = tested_are xs.0 tested e })))
+      then_ _ (arrays.integer_layers files file g.rows g.cols left) (λ xs many. goes_on (layers_tested file g xs.0) _ (λ tested e. ok_gives_only (record { whole = many; inside = tested_are xs.0 tested e })))
 
   layers_now : (size : HasSize g) (option : ℤ) (anew : Bool) (before : List ℤ) (left : Left) → (is_int option 2 ≡ true → anew ≡ false → AreOfGrid g before) →
       (is_int option 2 ≡ false → (anew ≡ false) × (before ≡ []))
       → GivesOnly (λ x. IsLayers g option x.0) (array_or (layers_at files file g) anew before left)
   layers_now size option true before left last none =
-      weaker (layers_are left) (λ x is. by_option g option x.0 size (λ e. is) (λ e. absurd (let clash : true ≡ false = (none e).0 in cc)))
-  layers_now size option false before left last none = done (by_option g option before size (λ e. last e refl) (λ e. (none e).1))
+      gives_only_less (layers_are left) (λ x is. by_option g option x.0 size (λ e. is) (λ e. absurd (let clash : true ≡ false = (none e).0 in cc)))
+  layers_now size option false before left last none = ok_gives_only (by_option g option before size (λ e. last e refl) (λ e. (none e).1))
 
   module _ (evaporates : Bool) (size : HasSize g) (option : ℤ) where
     abbrev its : Contents
@@ -124,7 +124,7 @@ module _ (files : FileSet) (file : List ℕ) (g : Grid) where
         let last = s.area in
         then_ _ (reals_are f.surface last.surfaces left) (λ surfaces a. then_ _ (reals_are f.rate last.rates surfaces.1) (λ rates b. then_ _ (reals_are f.depth last.depths rates.1)
         (λ depths c. then_ _ (layers_now size option f.layer last.layers depths.1 (λ e k. of_grid g option last.layers (so.area (are.layer e k)).layers e) (λ e. (are.none e, so.none e)))
-        (λ layers d. done (record {
+        (λ layers d. ok_gives_only (record {
           surfaces = λ e. a (λ k. (so.area (are.surface e k)).surfaces e);
           rates = b (λ k. (so.area (are.rate k)).rates);
           depths = λ e. c (λ k. (so.area (are.depth e k)).depths e);
@@ -135,7 +135,7 @@ module _ (files : FileSet) (file : List ℕ) (g : Grid) where
     unfolding area_at
     area_is s so =
         goes_on (line_at file s.1) _ (λ line e. then_ _ (flags_are file line.0.number its s.0.listed (words line.0.bytes)) (λ flags f. then_ _ (arrays_are flags s.0 line.1 f so)
-        (λ area is. done (is, record { area = λ e. is; none = is.layers.none }))))
+        (λ area is. ok_gives_only (is, record { area = λ e. is; none = is.layers.none }))))
 
 -- the same of an area that was read, if some files agree with what was read
 pub area_given : (agrees : FileSet → Type 0) (file : List ℕ) (g : Grid) (evaporates : Bool) (option : ℤ) (contents : Contents) (s : InForce × Left) (x : Area ×

@@ -10,7 +10,7 @@ unfoldable pub use Rattle.period_arrays.specs.{area_at, arrays_in, arrays_of, fl
 unfoldable pub use Rattle.period_arrays.specs.{periods_of, tested_area}
 pub use Rattle.period_arrays.specs.declared.area.Area.{Area}
 pub use Rattle.period_arrays.specs.declared.area.InForce.{InForce}
-pub use Rattle.record_lines.proofs.Forward.{begun_held, leaves}
+pub use Rattle.record_lines.proofs.Forward.{begun_held, rest_has_its_lines}
 pub use Rattle.record_lines.proofs.Loops.{each_step, step_goes_on, steps_done, steps_end, stops_all, with_front}
-pub use Rattle.record_lines.proofs.Readings.{done, goes_on, if_clear, if_passed, some_give, then_, weaker}
+pub use Rattle.record_lines.proofs.Readings.{gives_only_less, goes_on, if_clear, if_passed, ok_gives_only, some_give, then_}
 pub use Rattle.record_lines.specs.{GivesOnly, Left, LineMay, LinesMay, Numbered, each_number, for_each, left_from, line_at, without_comments}

@@ -1,5 +1,5 @@
 -- What a file of a package of arrays gives.
-use Rattle.period_arrays.proofs.Common.{done, goes_on, then_, GivesOnly, HasSize, Grid, FileSet, words, ArrayKind, arrays_in, is_option, nothing_yet}
+use Rattle.period_arrays.proofs.Common.{ok_gives_only, goes_on, then_, GivesOnly, HasSize, Grid, FileSet, words, ArrayKind, arrays_in, is_option, nothing_yet}
 use Rattle.period_arrays.proofs.Common.{option_line, tested_area, unit_if, with_area, period_at, periods_of, IsArea, IsInForce, InForce, Left, left_from}
 use Rattle.period_arrays.proofs.Common.{without_comments, All, List, Ok, map, refl, true, ℕ, ℤ, ◌≡◌, Area}
 use Rattle.list_package.specs.{item_line}
@@ -28,26 +28,26 @@ module _ (kind : ArrayKind) (files : FileSet) (file : List ℕ) (g : Grid) (size
     tested_is : (s : InForce × Left) → State s → GivesOnly (λ x. IsTested kind file g ibound option x.0 × State x.1) (tested_area kind files file g ibound option s)
     unfolding tested_area
     tested_is s so =
-        then_ _ (area_is files file g kind.evaporates size option s so) (λ area is. goes_on (kind.test file g ibound option area.0) _ (λ test e. done (record { has = is.0; passed = e }, is.1)))
+        then_ _ (area_is files file g kind.evaporates size option s so) (λ area is. goes_on (kind.test file g ibound option area.0) _ (λ test e. ok_gives_only (record { has = is.0; passed = e }, is.1)))
 
     period_is : (p : Period) (s : InForce × Left) → State s → P p → GivesOnly (λ x. Q option x.0 × State x.1 × (steps x.0 ≡ steps p)) (period_at kind files file g ibound option p s)
     unfolding period_at
-    period_is p s so known = then_ _ (tested_is s so) (λ area is. done (put option active p area.0 known is.0, is.1, refl))
+    period_is p s so known = then_ _ (tested_is s so) (λ area is. ok_gives_only (put option active p area.0 known is.0, is.1, refl))
 
     periods_are : (ps : List Period) (left : Left) → All P ps → GivesOnly (λ qs. All (Q option) qs × (map steps qs ≡ map steps ps)) (periods_of kind files file g ibound option ps left)
     unfolding periods_of
     periods_are ps left all =
-        then_ _ (each_are (period_at kind files file g ibound option) State P (Q option) period_is ps (nothing_yet, left) (first_area kind.evaporates g option) all) (λ x are. done are)
+        then_ _ (each_are (period_at kind files file g ibound option) State P (Q option) period_is ps (nothing_yet, left) (first_area kind.evaporates g option) all) (λ x are. ok_gives_only are)
 
   line_is : (left : Left) → GivesOnly (λ x. is_option x.0 ≡ true) (option_line kind file left)
   unfolding option_line
   line_is left =
       goes_on (item_line file left) _ (λ line a.
       then_ _ (option_is file line.0.number (words line.0.bytes)) (λ option active.
-      goes_on (unit_if kind.evaporates file line.0.number option.1) _ (λ unit b. done active)))
+      goes_on (unit_if kind.evaporates file line.0.number option.1) _ (λ unit b. ok_gives_only active)))
 
   pub arrays_are_read : (bytes : List ℕ) (ps : List Period) → All P ps → GivesOnly (AreRead Q ps) (arrays_in kind files file bytes g ibound ps)
   unfolding arrays_in
   arrays_are_read bytes ps all =
       then_ _ (line_is (without_comments (left_from 1 bytes))) (λ option active.
-      then_ _ (periods_are option.0 active ps option.1 all) (λ qs are. done (record { active = active; each = are.0; same = are.1 })))
+      then_ _ (periods_are option.0 active ps option.1 all) (λ qs are. ok_gives_only (record { active = active; each = are.0; same = are.1 })))

@@ -15,7 +15,7 @@ pub use Rattle.cell_balance.proofs.Scaling.{IsOver-minus, IsOver-none, IsOver-pl
 pub use Rattle.cell_balance.specs.{CellEncloses, ExactCell, ExactDrain, ExactEvap, ExactFixed, ExactFlow, ExactLink, ExactRiver, FixedEncloses, HasEqualEnds}
 pub use Rattle.cell_balance.specs.{HasLinkBack, SolvesStep, balance, cell_at, drain_flow, evap_flow, fixed_flow, link_flow, minus, no_cell, one, river_flow}
 pub use Rattle.cell_balance.specs.{share}
-pub use Rattle.decimal_input.proofs.FloorLaws.{Same-sym, Same-trans, cancel_right, le-antisym, le-of, swap}
+pub use Rattle.decimal_input.proofs.FloorLaws.{Same-sym, Same-trans, cancel_right, last_factors_swap, le-antisym, le-of}
 pub use Rattle.decimal_input.specs.{Encloses, Fraction, IsOver, Ratio, as_fraction, fraction_total, whole}
 pub use Rattle.decimal_input.specs.Fractions.{Same, den, plus, times}
 pub use Rattle.decimal_input.specs.Ratios.{AtMost}

@@ -6,7 +6,7 @@ use Rattle.plan_difference.proofs.Common.{DifferencesLieAbove, least, most, tota
 use Rattle.cell_balance.proofs.Ramps.{link_flow}
 use Rattle.step_problem.proofs.Falls.{loss_falls}
 use Rattle.cell_balance.proofs.Sums.{sum-same, sum-add}
-use Rattle.cell_balance.proofs.Comparison.{comparison}
+use Rattle.cell_balance.proofs.Comparison.{heads_compare}
 
 -- a head that is higher by k stands higher on a ramp by k at most
 rise_lipschitz : (t : ℤ) (top : Option ℤ) (d : ℕ) (x y : ℤ) (k : ℕ) → y ≤ℤ (x +ℤ pos k) → rise t top d y ≤ℤ (rise t top d x +ℤ pos k)
@@ -85,7 +85,7 @@ differences_below n a b ramps q e d X Y U plans given i h =
     omega (
       arith,
       ints,
-      comparison n a b (λ k. q k +ℤ e k) ramps plans.both_ways plans.held d (λ k. Y k +ℤ U k) X plans.some
+      heads_compare n a b (λ k. q k +ℤ e k) ramps plans.both_ways plans.held d (λ k. Y k +ℤ U k) X plans.some
           (λ k j up. elim (given k j) [
             | inl lies ↦ absurd (omega (arith, ints))
             | inr sinks ↦ omega (arith, ints, moved_below n a b ramps q e d Y U k, plans.other k j)
@@ -98,7 +98,7 @@ differences_above n a b ramps q e d X Y L plans given i h =
     omega (
       arith,
       ints,
-      comparison n a b (λ k. q k +ℤ e k) ramps plans.both_ways plans.held d X (λ k. Y k +ℤ L k) plans.some
+      heads_compare n a b (λ k. q k +ℤ e k) ramps plans.both_ways plans.held d X (λ k. Y k +ℤ L k) plans.some
           (λ k j up. omega (arith, ints, plans.base k j))
           (λ k j up. elim (given k j) [
             | inl lies ↦ absurd (omega (arith, ints))

@@ -1,7 +1,7 @@
 -- Fractions that are the same number: differences of sums are sums of differences.
 use Rattle.plan_difference.proofs.Common.{◌≡◌, ℕ, ◌*◌, ◌<◌, ◌∙◌, ap, sym, refl, arith, mul-pos, ℤ, pos, ◌*ℤ◌, ◌+ℤ◌, List, [], ◌∷◌, ◌++◌, ints, AllZip}
-use Rattle.plan_difference.proofs.Common.{Same-trans, cancel_right, le-antisym, le-of, swap, Fraction, IsOver, fraction_total, whole, Same, den, plus, Goes}
-use Rattle.plan_difference.proofs.Common.{fraction_over, left_goes, right_goes, same_over, IsOver-minus, IsOver-none, IsOver-plus, minus}
+use Rattle.plan_difference.proofs.Common.{Same-trans, cancel_right, le-antisym, le-of, last_factors_swap, Fraction, IsOver, fraction_total, whole, Same, den}
+use Rattle.plan_difference.proofs.Common.{plus, Goes, fraction_over, left_goes, right_goes, same_over, IsOver-minus, IsOver-none, IsOver-plus, minus}
 
 -- four fractions over one denominator
 record FourOver (a b c d : Fraction) : Type 0 where
@@ -48,8 +48,8 @@ same_is_over n f g z s over = record { is = le-antisym _ _ (cancel_right (den g)
   where
     crossed : (f.num *ℤ pos n) *ℤ pos (den g) ≡ (z *ℤ pos (den f)) *ℤ pos (den g)
     crossed =
-        swap f.num (pos n) (pos (den g)) ∙ ap (λ (k : ℤ). k *ℤ pos n) s.same ∙ swap g.num (pos (den f)) (pos n) ∙ ap (λ (k : ℤ). k *ℤ pos (den f)) over.is
-        ∙ swap z (pos (den g)) (pos (den f))
+        last_factors_swap f.num (pos n) (pos (den g)) ∙ ap (λ (k : ℤ). k *ℤ pos n) s.same ∙ last_factors_swap g.num (pos (den f)) (pos n) ∙ ap (λ (k : ℤ). k *ℤ pos (den f)) over.is
+        ∙ last_factors_swap z (pos (den g)) (pos (den f))
 
 pub sums_same : (a b c d : Fraction) → Same a b → Same c d → Same (plus a c) (plus b d)
 sums_same a b c d p q =

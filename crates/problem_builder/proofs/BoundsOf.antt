@@ -78,9 +78,9 @@ module _ (m : FlowModel) (at : TimeStep) (valid : IsModel m) (time : IsTimeOf m 
   either None c = kept (last_given (take (at.period - 1) m.periods) c) c
   either (Some x) c = given_encloses (period_at m at.period) at.step x time.valid.times time.step.0 time.step.1
 
-  pub heads : (c : ℕ) → EnclosesSigned (constant_bound m at c).low (constant_bound m at c).high 9 (constant_head m at.period at.step c)
+  pub constant_head_is_enclosed : (c : ℕ) → EnclosesSigned (constant_bound m at c).low (constant_bound m at c).high 9 (constant_head m at.period at.step c)
   unfolding constant_bound constant_head
-  heads c = either (given_in (period_at m at.period).stresses.given c) c
+  constant_head_is_enclosed c = either (given_in (period_at m at.period).stresses.given c) c
 
   kept_range : (o : Option Given) (c : ℕ) → last_given (take (at.period - 1) m.periods) c ≡ o → c < cell_count m.grid → is_active m c ≡ true → AreHeads (kept_bound m c o)
   kept_range None c e lt a = head_range_of (dec_at m.strt c) (valid.cells c lt a).strt
@@ -104,7 +104,7 @@ pair_fits m at c lo hi valid time lt k h =
 
 pub pair_encloses : ConstantPairEncloses
 pair_encloses m at c lo hi valid time lt k h =
-    let e = heads m at valid (time_of m at valid time) c in
+    let e = constant_head_is_enclosed m at valid (time_of m at valid time) c in
     record { lower = rw h.0 e.lower; upper = rw h.1 e.upper }
 
 pub past_magnitude : (lo hi : ℤ) → magnitude lo hi < 2 ^ 109 → unsigned_abs lo < 2 ^ 109

@@ -15,11 +15,11 @@ use Rattle.flow_equations.specs.{exact_link, exact_fixed, exact_flow, exact_rive
 use Rattle.conductance_bounds.proofs.Recharged.{number_encloses}
 use Rattle.problem_builder.proofs.Members.{variable_active, constant_active, fixed_source, variable-In}
 use Rattle.problem_builder.proofs.FacePairs.{face_range, face_active}
-use Rattle.problem_builder.proofs.Sound.{IsSound, sum_part, sound, unrefused}
+use Rattle.problem_builder.proofs.Sound.{IsSound, sum_part, no_fault_is_sound, no_refusal_is_no_fault}
 use Rattle.problem_builder.proofs.Zipped.{zip_images}
 use Rattle.problem_builder.proofs.HeadRange.{head_encloses}
 use Rattle.problem_builder.proofs.Fits.{capped_encloses, cond_encloses}
-use Rattle.problem_builder.proofs.BoundsOf.{heads, recharges, evaps, past_magnitude}
+use Rattle.problem_builder.proofs.BoundsOf.{constant_head_is_enclosed, recharges, evaps, past_magnitude}
 
 well_encloses : (s : ℕ) (d : Dec) → magnitude (well_pair s d).lo (well_pair s d).hi < 2 ^ 109 → EnclosesSigned (well_pair s d).lo (well_pair s d).hi (s + 9) (number d)
 well_encloses s d lt =
@@ -28,7 +28,7 @@ well_encloses s d lt =
 
 module _ (m : FlowModel) (s : ℕ) (at : TimeStep) (old : List Bound) (before : ℕ → Fraction) (valid : IsModel m) (time : IsTimeOf m at)
     (olds : HeadsEnclose m old before) (c : ℕ) (lt : c < cell_count m.grid) (v : is_variable m at.period c ≡ true)
-    (sound : IsSound (whole_cell m s at old c)) where
+    (sound_cell : IsSound (whole_cell m s at old c)) where
   abbrev e : Entries
   e = whole_cell m s at old c
 
@@ -42,10 +42,10 @@ module _ (m : FlowModel) (s : ℕ) (at : TimeStep) (old : List Bound) (before : 
       capped_encloses (face_term m f.axis f.first) s (conductance m f.axis f.first) (faces_enclose m valid f.axis f.first s (face_range m.grid c f valid.grid.size lt g) x y) small
 
   fixed_small : (x : Fixed) → In e.fixed x → x.hi < 2 ^ 60
-  fixed_small x i = omega (arith, sum_part (λ (y : Fixed). y.hi) e.fixed x i, sound.conductances)
+  fixed_small x i = omega (arith, sum_part (λ (y : Fixed). y.hi) e.fixed x i, sound_cell.conductances)
 
   flow_small : (x : Flow) → In e.flows x → magnitude x.lo x.hi < 2 ^ 109
-  flow_small x i = omega (arith, sum_part (λ (y : Flow). magnitude y.lo y.hi) e.flows x i, sound.flows)
+  flow_small x i = omega (arith, sum_part (λ (y : Flow). magnitude y.lo y.hi) e.flows x i, sound_cell.flows)
 
   one_flow : (y : FlowSource) → In e.flows (whole_flow m s c y) → FlowEncloses s (whole_flow m s c y) (exact_flow m at.period at.step before c y)
   one_flow (Pumped q) i = record { kind = refl; flow = well_encloses s q (flow_small _ i) }
@@ -55,7 +55,7 @@ module _ (m : FlowModel) (s : ℕ) (at : TimeStep) (old : List Bound) (before : 
       FixedEncloses s (whole_fixed m s at old c y) (exact_fixed m at.period at.step before c y)
   one_fixed (ToConstant f) j i =
       let (g, b) = passing_are m.grid (is_constant m at.period) c f (fixed_source m at.period c (ToConstant f) j) in
-      record { kind = refl; source = refl; conductance = face_encloses f g (constant_active m at.period f.end b) (fixed_small _ i); head = heads m at valid time f.end }
+      record { kind = refl; source = refl; conductance = face_encloses f g (constant_active m at.period f.end b) (fixed_small _ i); head = constant_head_is_enclosed m at valid time f.end }
   one_fixed (ToGeneral head k) j i = record { kind = refl; source = refl; conductance = cond_encloses s k (fixed_small _ i); head = head_encloses head }
   one_fixed FromStorage j i = record {
     kind = refl;
@@ -79,7 +79,7 @@ module _ (m : FlowModel) (s : ℕ) (at : TimeStep) (old : List Bound) (before : 
               (omega (
                 arith,
                 sum_part (λ (y : Link). y.hi) e.links (whole_link m s at old f) (In-map (whole_link m s at old) (variable_faces m at.period c) f j),
-                sound.conductances,
+                sound_cell.conductances,
               ));
         });
     fixed = zip_images (FixedEncloses s) (whole_fixed m s at old c) (exact_fixed m at.period at.step before c) (fixed_sources m at.period c) (λ y j.
@@ -90,7 +90,7 @@ module _ (m : FlowModel) (s : ℕ) (at : TimeStep) (old : List Bound) (before : 
               (omega (
                 arith,
                 sum_part (λ (x : River). x.hi) e.rivers (whole_river s y) (In-map (whole_river s) (river_sources m at.period c) y j),
-                sound.conductances,
+                sound_cell.conductances,
               ));
           stage = head_encloses y.stage;
           bottom = head_encloses y.bottom;
@@ -101,7 +101,7 @@ module _ (m : FlowModel) (s : ℕ) (at : TimeStep) (old : List Bound) (before : 
               (omega (
                 arith,
                 sum_part (λ (x : Drain). x.hi) e.drains (whole_drain s y) (In-map (whole_drain s) (drain_sources m at.period c) y j),
-                sound.conductances,
+                sound_cell.conductances,
               ));
           elevation = head_encloses y.elevation;
         });
@@ -110,7 +110,7 @@ module _ (m : FlowModel) (s : ℕ) (at : TimeStep) (old : List Bound) (before : 
         (omega (
           arith,
           sum_part (λ (x : Evap). x.hi) e.evaps (whole_evap m s c y) (In-map (whole_evap m s c) (evap_sources m at.period c) y j),
-          sound.conductances,
+          sound_cell.conductances,
         )));
   }
 
@@ -124,7 +124,7 @@ module _ (m : FlowModel) (s : ℕ) (at : TimeStep) (old : List Bound) where
         cells = subst (λ (ys : List Entries). AllZip (CellEncloses s) ys (exact_step m at.period at.step before)) (sym are.each)
             (zip_images (CellEncloses s) F (exact_cell m at.period at.step before) (variable_cells m at.period)
             (λ c j. let (v, lt) = variable-In m at.period (cell_count m.grid) c j in cell_encloses m s at old before valid time olds c lt v
-            (sound (F c) (unrefused es are.sound (F c)
+            (no_fault_is_sound (F c) (no_refusal_is_no_fault es are.sound (F c)
             (subst (λ (ys : List Entries). In ys (F c)) (sym are.each) (In-map F (variable_cells m at.period) c j))))));
         ends = (are_linked m at.period at.step before valid.grid.size).ends;
       }

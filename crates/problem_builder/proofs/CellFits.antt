@@ -13,7 +13,7 @@ use Rattle.problem_builder.proofs.BoundsOf.{head_range}
 use Rattle.problem_builder.proofs.HeadRange.{AreHeads, head_range_of, head_encloses}
 use Rattle.problem_builder.proofs.FacePairs.{face_range, face_active}
 use Rattle.problem_builder.proofs.Fits.{cond_ordered, rivers_fit, drains_fit, evaps_fit}
-use Rattle.problem_builder.proofs.Sound.{sound, none_passes, positive_unless_zero}
+use Rattle.problem_builder.proofs.Sound.{no_fault_is_sound, none_passes, positive_unless_zero}
 use Rattle.problem_builder.proofs.ValidEntries.{local_valid}
 use Rattle.problem_builder.proofs.Zipped.{all_mapped}
 
@@ -50,7 +50,7 @@ module _ (m : FlowModel) (s : ℕ) (at : TimeStep) (old : List Bound) (valid : I
 
   pub cell_fits : fault_of (whole_cell m s at old c) ≡ None → CellFits (whole_cell m s at old c)
   cell_fits none =
-      let k = sound (whole_cell m s at old c) none in
+      let k = no_fault_is_sound (whole_cell m s at old c) none in
       let links = map (whole_link m s at old) (variable_faces m at.period c) in
       let small = (or_parts (list_any (λ x. x.lo == 0) links) _ k.branches).0 in
       record {

@@ -17,7 +17,7 @@ pub use Rattle.std.specs.Prelude.{Err, IfSome, Ok, Result, int_lt, nat_le, nat_l
 pub use mathlib.Core.List.{map-id, map-map}
 pub use Rattle.cell_balance.specs.{CellEncloses, DrainEncloses, EnclosesStep, EvapEncloses, FixedEncloses, FlowEncloses, LinkEncloses, RiverEncloses}
 pub use Rattle.conductance_bounds.proofs.Capped.{capped_ordered, real_flow, real_pair}
-pub use Rattle.conductance_bounds.proofs.FaceBounds.{faces_enclose, layered, no_gap}
+pub use Rattle.conductance_bounds.proofs.FaceBounds.{cell_below_means_layers, faces_enclose, no_gap}
 pub use Rattle.conductance_bounds.proofs.ModelBounds.{evap_holds, evaps_enclose, formulas_hold, recharges_enclose, storages_enclose}
 pub use Rattle.conductance_bounds.proofs.Ready.{delc_positive, delr_positive}
 pub use Rattle.conductance_bounds.proofs.SpanBounds.{above_gap, below_gap, equal_powers, thick_positive}

@@ -66,8 +66,8 @@ module _ (x : EvapSource) (v : IsEvapValid x) where
   depths = (floor_not_negative (number x.depth) _ (not_negative x.depth v.depth) (head_floor x.depth), floor_below (number x.depth) 9 _ _ (head_floor x.depth) (head_ceiling x.depth))
 
   -- both bounds of an extinction elevation are heads
-  pub extinctions : AreHeads (record { low = (head_bound x.surface).low -ℤ (head_bound x.depth).high; high = (head_bound x.surface).high -ℤ (head_bound x.depth).low })
-  extinctions =
+  pub extinction_bounds_are_heads : AreHeads (record { low = (head_bound x.surface).low -ℤ (head_bound x.depth).high; high = (head_bound x.surface).high -ℤ (head_bound x.depth).low })
+  extinction_bounds_are_heads =
       let range = head_range_of x.surface v.surface in
       let order = floor_below (number x.surface) 9 _ _ (head_floor x.surface) (head_ceiling x.surface) in
       let floor = one_floor (number x.surface) (number x.surface) 9 v.floor (head_bound x.surface).low (record { same = refl }) v.is_floor (head_floor x.surface) in

@@ -74,22 +74,22 @@ module _ (m : FlowModel) (s : ℕ) (at : TimeStep) (old : List Bound) (c : ℕ) 
   pub flows_are : (o : Option Flow) (recharge : Option Dec) (ws : List Flow) (entries : List Entry) (first second : List Flow) →
       first ≡ [] ++ option_to_list o → o ≡ option_map (λ rate. whole_flow m s c (Received rate)) recharge → ws ≡ filter_map (well_of s) entries → second ≡ first ++ ws →
       second ≡ map (whole_flow m s c) (map Received (option_to_list recharge) ++ filter_map as_well entries)
-  flows_are o recharge ws entries first second e received h f =
+  flows_are o recharge ws entries first second e recharge_is_whole_flow h f =
       let F = whole_flow m s c in
-      let a : first ≡ map F (map Received (option_to_list recharge)) = e ∙ ap option_to_list received ∙ made_list (λ rate. F (Received rate)) recharge ∙ sym
+      let a : first ≡ map F (map Received (option_to_list recharge)) = e ∙ ap option_to_list recharge_is_whole_flow ∙ made_list (λ rate. F (Received rate)) recharge ∙ sym
       (map-map F Received (option_to_list recharge)) in
       let b : ws ≡ map F (filter_map as_well entries) = h ∙ made_of F as_well (well_of s) wells entries in
       f ∙ (λ t. a t ++ b t) ∙ sym (map-append F (map Received (option_to_list recharge)) (filter_map as_well entries))
 
 -- the flow of the recharge that a cell receives
-pub received : (m : FlowModel) (s c : ℕ) (rate : Option Dec) (pair : Option FlowPair) → pair ≡ option_map (recharge_pair m s c) rate →
+pub recharge_is_whole_flow : (m : FlowModel) (s c : ℕ) (rate : Option Dec) (pair : Option FlowPair) → pair ≡ option_map (recharge_pair m s c) rate →
     option_map (flow_of_pair Recharge) pair ≡ option_map (λ r. whole_flow m s c (Received r)) rate
-received m s c None pair e = ap (option_map (flow_of_pair Recharge)) e
-received m s c (Some r) pair e = ap (option_map (flow_of_pair Recharge)) e
+recharge_is_whole_flow m s c None pair e = ap (option_map (flow_of_pair Recharge)) e
+recharge_is_whole_flow m s c (Some r) pair e = ap (option_map (flow_of_pair Recharge)) e
 
 -- what a list is after a push and an extension, as the clauses say it
-pub pushed : {X : Type 0} (empty first : List X) (o : Option X) → empty ≡ [] → first ≡ empty ++ option_to_list o → first ≡ [] ++ option_to_list o
-pushed empty first o e h = h ∙ ap (λ xs. xs ++ option_to_list o) e
+pub first_is_pushed : {X : Type 0} (empty first : List X) (o : Option X) → empty ≡ [] → first ≡ empty ++ option_to_list o → first ≡ [] ++ option_to_list o
+first_is_pushed empty first o e h = h ∙ ap (λ xs. xs ++ option_to_list o) e
 
 pub extended : {X : Type 0} (old new more seen : List X) → seen ≡ more → new ≡ old ++ seen → new ≡ old ++ more
 extended old new more seen e h = h ∙ ap (λ xs. old ++ xs) e

@@ -6,7 +6,7 @@ use Rattle.problem_builder.proofs.Common.{cell_count, is_variable, variable_face
 use Rattle.problem_builder.proofs.Common.{passing_have, end_within, end_other, face_back, turned, ends_ascend, few_faces, passing, rank, rank_below, rank_apart}
 use Rattle.problem_builder.proofs.Common.{at_rank, is_at, IsAt, rank_few, below_is, index_is, AreGridHeads, IsTimeOf, AreCells, Ordered-map}
 use Rattle.problem_builder.proofs.CellFits.{cell_fits}
-use Rattle.problem_builder.proofs.Sound.{unrefused}
+use Rattle.problem_builder.proofs.Sound.{no_refusal_is_no_fault}
 
 module _ (m : FlowModel) (s : ℕ) (at : TimeStep) (old : List Bound) (valid : IsModel m) (time : IsTimeOf m at) (grid : AreGridHeads m old) where
   abbrev test : ℕ → Bool
@@ -116,7 +116,7 @@ module _ (m : FlowModel) (s : ℕ) (at : TimeStep) (old : List Bound) (valid : I
     few = omega (arith, count_is, rank_few test (cell_count m.grid), valid.grid.size.cells);
     ascending = ascending;
     cells = (λ i lt. let k = place i lt in
-        let none = unrefused es sound (cell (number i)) (subst (In es) (cell_is i lt) (In-get_or es i no_entries lt)) in
+        let none = no_refusal_is_no_fault es sound (cell (number i)) (subst (In es) (cell_is i lt) (In-get_or es i no_entries lt)) in
         subst CellFits (sym (cell_is i lt)) (cell_fits m s at old valid time grid (number i) k.within k.passes none));
     links = (λ i lt. subst (λ (e : Entries). LinksFit es i e.links) (sym (cell_is i lt)) (links_fit i lt));
   }

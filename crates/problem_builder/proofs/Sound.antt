@@ -13,9 +13,9 @@ pub record IsSound (e : Entries) : Type 0 where
   pub conductances : conductance_of e < 2 ^ 60
   pub flows : flow_magnitude e < 2 ^ 109
 
-pub sound : (e : Entries) → fault_of e ≡ None → IsSound e
+pub no_fault_is_sound : (e : Entries) → fault_of e ≡ None → IsSound e
 unfolding fault_of
-sound e h =
+no_fault_is_sound e h =
     let (a, h₁) = cond_none (has_small_branch e) 21 _ h in
     let (b, h₂) = cond_none (nat_le (2 ^ 60) (conductance_of e)) 22 _ h₁ in
     let (c, h₃) = cond_none (nat_le (2 ^ 109) (flow_magnitude e)) 23 _ h₂ in
@@ -28,8 +28,8 @@ unfaulted e (Some code) is ns none among =
     absurd (subst (λ xs. In xs (record { code = code; place = Cell e.id Low })) none
     (among _ (ap (option_map (λ k. record { code = k; place = Cell e.id Low })) is)))
 
-pub unrefused : (es : List Entries) → filter_map refusal_of es ≡ [] → (e : Entries) → In es e → fault_of e ≡ None
-unrefused es none e i = unfaulted e (fault_of e) refl (filter_map refusal_of es) none (λ n is. In-filter_map refusal_of es e n i is)
+pub no_refusal_is_no_fault : (es : List Entries) → filter_map refusal_of es ≡ [] → (e : Entries) → In es e → fault_of e ≡ None
+no_refusal_is_no_fault es none e i = unfaulted e (fault_of e) refl (filter_map refusal_of es) none (λ n is. In-filter_map refusal_of es e n i is)
 
 pub none_passes : {X : Type 0} (test : X → Bool) (xs : List X) → list_any test xs ≡ false → (x : X) → In xs x → test x ≡ false
 none_passes test [] e x i = absurd i

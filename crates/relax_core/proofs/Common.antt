@@ -11,7 +11,7 @@ pub use Rattle.relax_core.specs.{with_head}
 pub use Rattle.relax_core.specs.declared.events.Event.{Event}
 pub use Rattle.relax_core.specs.declared.events.Event.TheVariants.{Claim, Raise, See, Sink}
 pub use Rattle.step_problem.proofs.Sides.{IsSide, relaxed_head, same_on_the_way}
-pub use Rattle.step_problem.proofs.SidesTurns.{by_cell, same_seen, sees, still_seen, tighter, turn_keeps}
+pub use Rattle.step_problem.proofs.SidesTurns.{by_cell, exchange_is_as_tight, own_turn_keeps_seen, same_seen, still_seen, turn_keeps}
 pub use Rattle.step_problem.specs.{AreOnTheWay, Edges, IsExchange, IsHead, IsProblem, lower_at, no_bound, upper_at}
 pub use Rattle.step_problem.specs.Entries.{Entries}
 pub use Rattle.step_problem.specs.declared.heads.Bound.{Bound}

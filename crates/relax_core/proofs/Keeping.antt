@@ -1,10 +1,10 @@
 -- Every event, and so every list of events, keeps what a state keeps and loosens no word.
 use Rattle.relax_core.proofs.Common.{◌≡◌, ℕ, ◌<◌, List, [], ◌∷◌, length, All, ℤ, sym, subst, arith, All-get_or, All-set, All-weaker, Bound, Side, Low, High}
-use Rattle.relax_core.proofs.Common.{Entries, IsProblem, Edges, AreOnTheWay, IsAsTight, AreNoLooser, tighter_of, other, heads_on, tighter, is_side, each_side}
-use Rattle.relax_core.proofs.Common.{Event, See, Raise, Sink, Claim, Core, seen_by, with_head, Becomes, IsNamed, Relaxes, Step, Path, WasSeen, IsKept, ap}
-use Rattle.relax_core.proofs.Common.{get_or-set_same, get_or-set_other, length-set, no_bound, lower_at, upper_at, head_of, tighter_first, tighter_second}
-use Rattle.relax_core.proofs.Common.{tighter_is_one, ◌∙◌, IsHead, same_on_the_way, turn_keeps, still_seen, sees, same_seen, refl, IsRelaxedOn, OnTheWay}
-use Rattle.relax_core.proofs.Common.{WereSeen, edge_on, IsExchange}
+use Rattle.relax_core.proofs.Common.{Entries, IsProblem, Edges, AreOnTheWay, IsAsTight, AreNoLooser, tighter_of, other, heads_on, exchange_is_as_tight, is_side}
+use Rattle.relax_core.proofs.Common.{each_side, Event, See, Raise, Sink, Claim, Core, seen_by, with_head, Becomes, IsNamed, Relaxes, Step, Path, WasSeen}
+use Rattle.relax_core.proofs.Common.{IsKept, ap, get_or-set_same, get_or-set_other, length-set, no_bound, lower_at, upper_at, head_of, tighter_first}
+use Rattle.relax_core.proofs.Common.{tighter_second, tighter_is_one, ◌∙◌, IsHead, same_on_the_way, turn_keeps, still_seen, own_turn_keeps_seen, same_seen, refl}
+use Rattle.relax_core.proofs.Common.{IsRelaxedOn, OnTheWay, WereSeen, edge_on, IsExchange}
 use mathlib.Core.Logic.{dite}
 use native.Mathlib.Decide.{ℕ_discrete}
 
@@ -60,7 +60,7 @@ module _ (p : List Entries) (ok : IsProblem p) (side : Side) where
   look ws v c h head f = let long : c < length v = omega (arith, f.whole) in record {
     whole = seen_length side v c _ ∙ f.whole;
     heads = each_side side (λ t. WereSeen t p (heads_on t ws) (heads_on t (with_head side v c (heads_on side ws c))))
-        (sees (is_side side p ok) (heads_on side ws) (heads_on side v) _ c head (seen_here side v c _ long) (seen_else side v c _) (f.heads side))
+        (own_turn_keeps_seen (is_side side p ok) (heads_on side ws) (heads_on side v) _ c head (seen_here side v c _ long) (seen_else side v c _) (f.heads side))
         (same_seen (is_side (other side) p ok) (heads_on (other side) ws) (heads_on (other side) ws) (heads_on (other side) v) _ (λ d i. refl) (λ d i.
         other_seen side v c _ long d) (f.heads (other side)));
   }
@@ -76,7 +76,7 @@ module _ (p : List Entries) (ok : IsProblem p) (side : Side) where
       whole = f.whole;
       heads = each_side side (λ t. WereSeen t p (heads_on t exchanged) (heads_on t u))
           (still_seen (is_side side p ok) (heads_on side ws) (heads_on side exchanged) (heads_on side u)
-          (tighter (is_side side p ok) (heads_on side ws) c r _ _ (tighter_exchange side ws c r wide)) (f.heads side))
+          (exchange_is_as_tight (is_side side p ok) (heads_on side ws) c r _ _ (tighter_exchange side ws c r wide)) (f.heads side))
           (same_seen (is_side (other side) p ok) (heads_on (other side) ws) (heads_on (other side) exchanged) (heads_on (other side) u)
           (heads_on (other side) u) (λ d i. other_seen side ws c _ wide d) (λ d i. refl) (f.heads (other side)));
     }
@@ -129,7 +129,7 @@ module _ (p : List Entries) (ok : IsProblem p) where
   relax_no_looser side s t c r wide e = subst (AreNoLooser p s.words) (sym e)
       (each_side side (λ u. (d : ℕ) → d < length p →
       IsAsTight u (heads_on u s.words d) (heads_on u (with_head side s.words c (tighter_of side (heads_on side s.words c) r)) d))
-      (tighter (is_side side p ok) (heads_on side s.words) c r _ _ (tighter_exchange side s.words c r wide))
+      (exchange_is_as_tight (is_side side p ok) (heads_on side s.words) c r _ _ (tighter_exchange side s.words c r wide))
       (λ d h. subst (IsAsTight (other side) (heads_on (other side) s.words d)) (sym (other_seen side s.words c _ wide d)) (refl_on (other side) _)))
 
   pub step_no_looser : (e : Event) (s t : Core) → length s.words ≡ length p → IsNamed p s e → Step p e s t → AreNoLooser p s.words t.words

@@ -19,11 +19,11 @@ seen_set seen lists a c side h g old new e here at put same =
     ∙ (ap (set lists a) put ∙ (ap (λ (x : ℤ). set lists a (with_head side old.items c x)) same ∙ ap (λ (x : List Bound). set lists a (with_head side x c g))
     (sym (seen_read seen lists a old e here at)))))
 
-pub becomes : (words : List Bound) (seen : List (Vec Bound Global)) (s : Core) (after ws : List Bound) (a c : ℕ) (side : Side) (h g : ℤ)
+pub core_becomes : (words : List Bound) (seen : List (Vec Bound Global)) (s : Core) (after ws : List Bound) (a c : ℕ) (side : Side) (h g : ℤ)
     (old new : Vec Bound Global) → record { words = words; seen = map (λ v. v.items) seen } ≡ s → a < length s.seen → after ≡ ws → old ≡ get_or seen a old →
     new.items ≡ with_head side old.items c h → h ≡ g
     → Becomes s (record { words = after; seen = map (λ v. v.items) (set seen a new) }) ws a (with_head side (seen_by s a) c g)
-becomes words seen s after ws a c side h g old new e here is at put same = record {
+core_becomes words seen s after ws a c side h g old new e here is at put same = record {
   words = is;
   seen = seen_set seen s.seen a c side h g old new (ap (λ (x : Core). x.seen) e) here at put same;
 }

@@ -3,7 +3,7 @@ use Rattle.run_puts.proofs.Common.{◌≡◌, ℕ, suc, List, [], ◌∷◌, len
 use Rattle.run_puts.proofs.Common.{NeverCut, or_else, first_not_ok, IsEnded, Text, end_line, whole, early, all_due, IsLast, IsTail, Agree, IsUnfinished, texts}
 use Rattle.run_puts.proofs.Common.{IsBatch, Status, JobEnd, ◌+◌, ◌<◌, ◌≤◌, ◌++◌, map, take, drop, get_or, drop-cons, take-append-drop, take_all, AllZip}
 use Rattle.run_puts.proofs.Common.{map-append, take_more, get_or-map, length-map}
-use Rattle.run_puts.proofs.Pieces.{weaker}
+use Rattle.run_puts.proofs.Pieces.{run_of_less}
 use Rattle.std.proofs.Common.{append_assoc}
 use Rattle.std.specs.Prelude.{slice_get}
 use Rattle.run_puts.specs.declared.puts.Status.TheVariants as status
@@ -44,7 +44,7 @@ module _ {Job : Type 0} (IsJobEnd : Job → JobEnd → Type 0) where
   -- a run that puts the ends of the jobs is a run of the batch
   pub batch_run : (jobs : List Job) (ends : List JobEnd) (end : Status) (puts : List Put) → AllZip IsJobEnd jobs ends → IsRun (IsEnded ends) NeverCut end puts →
       IsRun (IsBatch IsJobEnd jobs) NeverCut end puts
-  batch_run jobs ends end puts each h = weaker (IsEnded ends) (IsBatch IsJobEnd jobs) NeverCut (λ meant pieces due. record { ends = ends; each = each; ended = due }) end puts h
+  batch_run jobs ends end puts each h = run_of_less (IsEnded ends) (IsBatch IsJobEnd jobs) NeverCut (λ meant pieces due. record { ends = ends; each = each; ended = due }) end puts h
 
 -- as many ends as jobs, where entry i is an end of job i, are one end for each job
 pub ends_of_jobs : {A B : Type 0} (R : A → B → Type 0) (xs : List A) (ys : List B) → length ys ≡ length xs →

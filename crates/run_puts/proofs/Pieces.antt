@@ -27,11 +27,11 @@ pub late_not_read : (end : Status) → IsLate end → end ≡ status.ReadFault �
 late_not_read end (inl e) h = let bad : status.WriteFault ≡ status.ReadFault = sym e ∙ h in cc
 late_not_read end (inr e) h = let bad : status.Memory ≡ status.ReadFault = sym e ∙ h in cc
 
-pub joined : (L : List Put → Type 0) (puts a b : List Put) → L (puts ++ a ++ b) → L (puts ++ (a ++ b))
-joined L puts a b h = subst L (append_assoc puts a b) h
+pub puts_are_joined : (L : List Put → Type 0) (puts a b : List Put) → L (puts ++ a ++ b) → L (puts ++ (a ++ b))
+puts_are_joined L puts a b h = subst L (append_assoc puts a b) h
 
 pub joined_thrice : (L : List Put → Type 0) (puts a b c : List Put) → L (puts ++ a ++ b ++ c) → L (puts ++ (a ++ b ++ c))
-joined_thrice L puts a b c h = joined L puts (a ++ b) c (let P : List Put → Type 0 = λ s. L (s ++ c) in subst P (append_assoc puts a b) h)
+joined_thrice L puts a b c h = puts_are_joined L puts (a ++ b) c (let P : List Put → Type 0 = λ s. L (s ++ c) in subst P (append_assoc puts a b) h)
 
 pub put_was : (piece pending : Text) (r o : Option Status) (tail : List Put) → piece ≡ pending → r ≡ o → IsPut piece r tail → IsPut pending o tail
 put_was piece pending r o tail same is h = let P : Text → Type 0 = λ t. IsPut t o tail in let Q : Option Status → Type 0 = λ o. IsPut piece o tail in subst P same (subst Q is h)
@@ -48,13 +48,13 @@ module _ (Due : Status → List Text → Type 0) (Cut : List Text → Type 0) wh
   lacks_at_first end tail (answer, s, t) = rw (s, t) (early (status_after answer) [] [] (memory_put answer ∷ []) nothing (wanting [] answer))
 
   -- the only piece
-  pub lone : (line : Text) (meant end : Status) (tail : List Put) → Due meant (line ∷ []) → IsEnd line meant end tail → IsRun Due Cut end tail
-  lone line meant end tail due (inl (inl (e, t))) =
+  pub lone_line_is_run : (line : Text) (meant end : Status) (tail : List Put) → Due meant (line ∷ []) → IsEnd line meant end tail → IsRun Due Cut end tail
+  lone_line_is_run line meant end tail due (inl (inl (e, t))) =
       let P : Status → Type 0 = λ s. IsRun Due Cut s tail in
       let Q : List Put → Type 0 = IsRun Due Cut meant in
       subst P (sym e) (subst Q (sym t) (whole meant (line ∷ []) due))
-  lone line meant end tail due (inl (inr t)) = early end [] (line ∷ []) tail (all_due meant [] line [] due) t
-  lone line meant end tail due (inr w) = lacks_at_first end tail w
+  lone_line_is_run line meant end tail due (inl (inr t)) = early end [] (line ∷ []) tail (all_due meant [] line [] due) t
+  lone_line_is_run line meant end tail due (inr w) = lacks_at_first end tail w
 
   both : (pieces : List Text) (pending : Text) (puts tail : List Put) (i : IsAt pieces pending puts) → tail ≡ whole_put pending ∷ [] → puts ++ tail ≡ map whole_put (i.before ++ (pending ∷ []))
   both pieces pending puts tail i e = rw (e, i.written) (sym (map-append whole_put i.before (pending ∷ [])))
@@ -109,7 +109,7 @@ begins_weaker Due Other Cut takes before after nothing = nothing
 begins_weaker Due Other Cut takes before after (all_due end some next more due) = all_due end some next more (takes end (some ++ (next ∷ more)) due)
 begins_weaker Due Other Cut takes before after (cut some more c) = cut some more c
 
-pub weaker : (Due Other : Status → List Text → Type 0) (Cut : List Text → Type 0) → ((end : Status) (pieces : List Text) → Due end pieces → Other end pieces) →
+pub run_of_less : (Due Other : Status → List Text → Type 0) (Cut : List Text → Type 0) → ((end : Status) (pieces : List Text) → Due end pieces → Other end pieces) →
     (end : Status) (puts : List Put) → IsRun Due Cut end puts → IsRun Other Cut end puts
-weaker Due Other Cut takes end puts (whole meant pieces due) = whole meant pieces (takes meant pieces due)
-weaker Due Other Cut takes end puts (early meant before after tail b t) = early meant before after tail (begins_weaker Due Other Cut takes before after b) t
+run_of_less Due Other Cut takes end puts (whole meant pieces due) = whole meant pieces (takes meant pieces due)
+run_of_less Due Other Cut takes end puts (early meant before after tail b t) = early meant before after tail (begins_weaker Due Other Cut takes before after b) t

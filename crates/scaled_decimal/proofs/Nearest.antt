@@ -80,8 +80,8 @@ cut_up_by r p u j e dr hu hp least same = cut_up r p (p / u + 1) j e dr same hp 
 pub carried : (m j : ℕ) (d e : ℤ) → m ≡ 10 ^ 18 → d ≡ e +ℤ pos j +ℤ pos 1 → Same (scaled_ratio (m * 10 ^ j) e) (scaled_ratio (10 ^ 17) d)
 carried m j d e hm hd = rw (hd, hm) (Same-trans (scaled_shift (10 ^ 18) j e) (scaled_shift (10 ^ 17) 1 (e +ℤ pos j)))
 
-pub uncarried : (m j : ℕ) (d e : ℤ) → d ≡ e +ℤ pos j → Same (scaled_ratio (m * 10 ^ j) e) (scaled_ratio m d)
-uncarried m j d e hd = rw hd (scaled_shift m j e)
+pub carry_keeps_ratio : (m j : ℕ) (d e : ℤ) → d ≡ e +ℤ pos j → Same (scaled_ratio (m * 10 ^ j) e) (scaled_ratio m d)
+carry_keeps_ratio m j d e hd = rw hd (scaled_shift m j e)
 
 -- a decimal of the value itself
 pub down_self : (r : Sd) (f : Ratio) → IsSd r → AtMost (value r) f → AtMost f (value r) → IsDown r f
@@ -119,7 +119,7 @@ up_at_18 r p u j e hu digits least few hm he =
     let positive : 0 < u = power_pos u j hu in
     let reach : 10 ^ 17 * u < (p / u + 2) * u = omega (arith, lt-mul-div-succ p positive) in
     let front : 10 ^ 17 < p / u + 2 = lt_of_mul-lt-mul_right u reach in
-    let same : Same (scaled_ratio ((p / u + 1) * 10 ^ j) e) (scaled_ratio (p / u + 1) r.e) = uncarried (p / u + 1) j r.e e he in
+    let same : Same (scaled_ratio ((p / u + 1) * 10 ^ j) e) (scaled_ratio (p / u + 1) r.e) = carry_keeps_ratio (p / u + 1) j r.e e he in
     cut_up_by r p u j e (inl (omega arith, omega arith)) hu digits least (rw hm same)
 
 -- the front of p is 18 nines
@@ -138,6 +138,6 @@ up_at_19 r p u j e hu digits many most hm he =
     let quotient : p / u / 10 ≡ p / (u * 10) = div-div-eq-div-mul p u 10 in
     let whole : 10 ^ 17 ≤ p / (u * 10) = le-div (10 ^ 17) p (u * 10) (omega (arith, power_pos u j hu)) (omega (arith, least)) in
     let exponent : r.e ≡ e +ℤ pos (j + 1) = omega (arith, ints) in
-    let same : Same (scaled_ratio ((p / (u * 10) + 1) * 10 ^ (j + 1)) e) (scaled_ratio (p / (u * 10) + 1) r.e) = uncarried (p / (u * 10) + 1) (j + 1) r.e e exponent in
+    let same : Same (scaled_ratio ((p / (u * 10) + 1) * 10 ^ (j + 1)) e) (scaled_ratio (p / (u * 10) + 1) r.e) = carry_keeps_ratio (p / (u * 10) + 1) (j + 1) r.e e exponent in
     let m : r.m ≡ p / (u * 10) + 1 = omega arith in
     cut_up_by r p (u * 10) (j + 1) e (inl (omega arith, omega arith)) (next_power u j hu) digits (omega (arith, least)) (rw m same)

@@ -2,7 +2,7 @@ use Rattle.scaled_decimal.proofs.Common.{◌≡◌, ℕ, ◌+◌, ◌*◌, ◌<�
 use Rattle.scaled_decimal.proofs.Common.{AtMost-trans, Below-AtMost, AtMost-Below, Same-AtMost, Same-back, ten_pos, scaled_times, scaled-AtMost, num_scaled}
 use Rattle.scaled_decimal.proofs.Common.{den_scaled, Sd, value, IsDown, IsUp, IsFrom, IsUpTo, lt_right, ◌≤◌, subst, mul-le-mul_right, den, plus, AtMost-refl}
 use Rattle.scaled_decimal.proofs.Common.{Same-trans, plus-AtMost, num_plus, den_plus, Same-both, plus-comm, product_positive}
-use Rattle.scaled_decimal.proofs.Nearest.{zero-AtMost, uncarried}
+use Rattle.scaled_decimal.proofs.Nearest.{zero-AtMost, carry_keeps_ratio}
 
 pub scaled-Below : (m n : ℕ) (e : ℤ) → m < n → Below (scaled_ratio m e) (scaled_ratio n e)
 scaled-Below m n e h = record {
@@ -22,8 +22,8 @@ exact_up_to f p q e hq h = record {
   up_to = AtMost-trans (Same-AtMost h) (scaled-AtMost q (p + 1) e (omega arith));
 }
 
-pub nothing : (m n : ℕ) (d e : ℤ) → m ≡ 0 → AtMost (scaled_ratio m d) (scaled_ratio n e)
-nothing m n d e h = record { cross = rw (num_scaled, h) (omega arith) }
+pub zero_is_at_most : (m n : ℕ) (d e : ℤ) → m ≡ 0 → AtMost (scaled_ratio m d) (scaled_ratio n e)
+zero_is_at_most m n d e h = record { cross = rw (num_scaled, h) (omega arith) }
 
 pub zero_down : (r : Sd) (f : Ratio) → r.m ≡ 0 → r.e ≡ pos 0 → AtMost f (value r) → IsDown r f
 zero_down r f hm he h = record { decimal = inr (hm, he); at_most = zero-AtMost r f hm; greatest = λ x _ le. AtMost-trans le h }
@@ -32,7 +32,7 @@ pub zero_up : (r : Sd) (f : Ratio) → r.m ≡ 0 → r.e ≡ pos 0 → AtMost f 
 zero_up r f hm he h = record { decimal = inr (hm, he); at_least = h; least = λ x _ _. zero-AtMost r (value x) hm }
 
 pub no_product : (m n k : ℕ) (d e g : ℤ) → m * n ≡ 0 → AtMost (times (scaled_ratio m d) (scaled_ratio n e)) (scaled_ratio k g)
-no_product m n k d e g h = AtMost-trans (Same-AtMost (scaled_times m n d e)) (nothing (m * n) k (d +ℤ e) g h)
+no_product m n k d e g h = AtMost-trans (Same-AtMost (scaled_times m n d e)) (zero_is_at_most (m * n) k (d +ℤ e) g h)
 
 pub scaled_times_at : (m n : ℕ) (d e g : ℤ) → g ≡ d +ℤ e → Same (times (scaled_ratio m d) (scaled_ratio n e)) (scaled_ratio (m * n) g)
 scaled_times_at m n d e g h = rw h (scaled_times m n d e)
@@ -74,12 +74,12 @@ scaled_plus m n e = record { cross = rw (num_plus, den_plus, num_scaled m e, num
 -- the sum over the finer unit
 pub aligned : (m n k : ℕ) (d e : ℤ) → d ≡ e +ℤ pos k → Same (plus (scaled_ratio m d) (scaled_ratio n e)) (scaled_ratio (m * 10 ^ k + n) e)
 aligned m n k d e h = Same-trans
-    (Same-both (plus-AtMost (Same-back (uncarried m k d e h)) (AtMost-refl (scaled_ratio n e))) (plus-AtMost (Same-AtMost (uncarried m k d e h)) (AtMost-refl (scaled_ratio n e))))
+    (Same-both (plus-AtMost (Same-back (carry_keeps_ratio m k d e h)) (AtMost-refl (scaled_ratio n e))) (plus-AtMost (Same-AtMost (carry_keeps_ratio m k d e h)) (AtMost-refl (scaled_ratio n e))))
     (scaled_plus (m * 10 ^ k) n e)
 
 -- n units of 10 ^ e are less than one of 10 ^ d
 below_one : (n k : ℕ) (d e : ℤ) → d ≡ e +ℤ pos k → n < 10 ^ k → Below (scaled_ratio n e) (scaled_ratio 1 d)
-below_one n k d e h lt = Below-AtMost (scaled-Below n (1 * 10 ^ k) e (omega arith)) (Same-AtMost (uncarried 1 k d e h))
+below_one n k d e h lt = Below-AtMost (scaled-Below n (1 * 10 ^ k) e (omega arith)) (Same-AtMost (carry_keeps_ratio 1 k d e h))
 
 pub far_from : (m n k : ℕ) (d e : ℤ) → d ≡ e +ℤ pos k → n < 10 ^ k → IsFrom m d (plus (scaled_ratio m d) (scaled_ratio n e))
 far_from m n k d e h lt = record {
@@ -89,8 +89,8 @@ far_from m n k d e h lt = record {
 
 pub far_up_to : (m n k : ℕ) (d e g : ℤ) → d ≡ g +ℤ pos 1 → g ≡ e +ℤ pos k → n < 10 ^ k → 0 < n → IsUpTo (m * 10) g (plus (scaled_ratio m d) (scaled_ratio n e))
 far_up_to m n k d e g hd hg lt hn = record {
-  after = AtMost-Below (Same-AtMost (uncarried m 1 d g hd)) (less_plus (scaled_ratio m d) (scaled_ratio n e) (rw num_scaled (omega (arith, lt_right (10 ^ up e) 0 n (ten_pos (up e)) hn))));
-  up_to = AtMost-trans (plus-AtMost (Same-back (uncarried m 1 d g hd)) (below (below_one n k g e hg lt))) (Same-AtMost (scaled_plus (m * 10 ^ 1) 1 g));
+  after = AtMost-Below (Same-AtMost (carry_keeps_ratio m 1 d g hd)) (less_plus (scaled_ratio m d) (scaled_ratio n e) (rw num_scaled (omega (arith, lt_right (10 ^ up e) 0 n (ten_pos (up e)) hn))));
+  up_to = AtMost-trans (plus-AtMost (Same-back (carry_keeps_ratio m 1 d g hd)) (below (below_one n k g e hg lt))) (Same-AtMost (scaled_plus (m * 10 ^ 1) 1 g));
 }
   where
     below : {f g : Ratio} → Below f g → AtMost f g

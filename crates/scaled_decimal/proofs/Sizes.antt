@@ -1,8 +1,8 @@
 use Rattle.scaled_decimal.proofs.Common.{ℕ, ◌+◌, ◌*◌, ◌-◌, ◌≤◌, ◌<◌, ◌^◌, inl, inr, arith, ℤ, ◌≤ℤ◌, ints, clamps, mul-le-mul_right, Sd, IsSd, HasSize, IsWithin}
 
-pub digits : (x : Sd) → IsSd x → 0 < x.m → (10 ^ 17 ≤ x.m) × (x.m < 10 ^ 18)
-digits x (inl d) h = d
-digits x (inr d) h = absurd (omega (arith, d.0))
+pub size_has_18_digits : (x : Sd) → IsSd x → 0 < x.m → (10 ^ 17 ≤ x.m) × (x.m < 10 ^ 18)
+size_has_18_digits x (inl d) h = d
+size_has_18_digits x (inr d) h = absurd (omega (arith, d.0))
 
 pub HasSize-wider : (r : Sd) (a b g h : ℤ) → g ≤ℤ a → b ≤ℤ h → HasSize r a b → HasSize r g h
 HasSize-wider r a b g h p q s = record { positive = s.positive; above = omega (arith, ints); below = omega (arith, ints) }

@@ -6,7 +6,7 @@ use Rattle.settle_driver.proofs.Common.{as_tight_trans, turn_passes, passes_more
 use Rattle.settle_driver.proofs.Common.{AreNoLooser, head_of, heads_on, AreWords, IsAsTight, IsRelaxedCell, IsPastCell, StayOnTheWay, AreBothSettled, HasSeen}
 use Rattle.settle_driver.proofs.Common.{HasWorked, HeadTable, HeadSeat, HasMoved, HasTighter, seen_of, seen_on, cases_eq, way_on, OnTheWay, edge_on}
 use Rattle.settle_driver.proofs.Common.{get_or-append, or_parts}
-use Rattle.step_problem.proofs.SidesTurns.{tighter, relaxed_exchange, relaxed_keeps}
+use Rattle.step_problem.proofs.SidesTurns.{exchange_is_as_tight, relaxed_exchange, relaxed_keeps}
 use Rattle.head_table.proofs.Joining.{ok_under}
 use Rattle.std.specs.declared.alloc.AllocError.{AllocError}
 use native.Mathlib.Nat.{mod-lt}
@@ -22,7 +22,7 @@ module _ {Le : ℤ → ℤ → Type 0} {Moves : ℕ → ℤ → (ℕ → ℤ) �
       ]
 
   tight_more : (old l next : ℕ → ℤ) (c : ℕ) → AsTight Le Moves n old l → IsRelaxed Le Moves n l c (next c) → ((d : ℕ) → (d ≡ c → ⊥) → next d ≡ l d) → AsTight Le Moves n old next
-  tight_more old l next c tight t others = as_tight_trans s old l next tight (tighter s l c (next c) (next c) next (relaxed_exchange s l next c (next c) refl others t))
+  tight_more old l next c tight t others = as_tight_trans s old l next tight (exchange_is_as_tight s l c (next c) (next c) next (relaxed_exchange s l next c (next c) refl others t))
 
   way_more : (edge l next : ℕ → ℤ) (c : ℕ) → c < n → IsOnTheWay Le Moves n edge l → IsRelaxed Le Moves n l c (next c) → ((d : ℕ) → (d ≡ c → ⊥) → next d ≡ l d) → IsOnTheWay Le Moves n edge next
   way_more edge l next c h k t others = relaxed_keeps s edge l next c (next c) h k refl others t

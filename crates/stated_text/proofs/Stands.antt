@@ -3,7 +3,7 @@ use Rattle.stated_text.proofs.Common.{◌≡◌, ℕ, Bool, true, false, List, �
 use Rattle.stated_text.proofs.Common.{◌>>=◌, Refusal, Limits, FlowModel, StandsIn, TextFile, after_due, begins_part, cut_at, last_of, lines, or_bad, part_at}
 use Rattle.stated_text.proofs.Common.{part_of, parts_in, second_at, zoned_model, option_map, unwrap_or, zoned_text, GivesOnly, Part}
 use Rattle.stated_text.proofs.DueTexts.{due_stands}
-use Rattle.record_lines.proofs.Readings.{done, goes_on, refused}
+use Rattle.record_lines.proofs.Readings.{ok_gives_only, goes_on, err_gives_only}
 use Rattle.stated_text.specs.declared.part.Parts.{Parts}
 
 -- what follows the text of a part's model, with its zones or given ones
@@ -17,8 +17,8 @@ module _ (limits : Limits) (text : List ℕ) where
     where
       by_rest : (r : Result (List ℕ × ℕ) ℕ) → after_due n bytes (zoned_text m (unwrap_or given zones)) ≡ r →
           GivesOnly (IsAfter given bytes) (or_bad text r >>= λ after. Ok (record { files = files; model = m; zones = zones; rest = after.0; line = after.1 }))
-      by_rest (Ok after) e = done (due_stands n bytes (zoned_text m (unwrap_or given zones)) after.0 after.1 e)
-      by_rest (Err k) e = refused
+      by_rest (Ok after) e = ok_gives_only (due_stands n bytes (zoned_text m (unwrap_or given zones)) after.0 after.1 e)
+      by_rest (Err k) e = err_gives_only
 
   part_stands : (n : ℕ) (given : Option (Option (List ℕ))) (bytes : List ℕ) → GivesOnly (IsAfter given bytes) (part_at limits text n given bytes)
   unfolding part_at
@@ -42,14 +42,14 @@ module _ (limits : Limits) (text : List ℕ) where
     where
       by_second : (first : Part) → IsAfter None bytes first → (r : Result Part Refusal) → part_at limits text first.line (Some first.zones) first.rest ≡ r →
           GivesOnly (Stand bytes) ((r >>= λ part. Ok (Some part)) >>= λ second. Ok (record { first = first; second = second }))
-      by_second first h (Ok second) e = done (two_stand bytes first second h ((part_stands first.line (Some first.zones) first.rest).gives second e))
-      by_second first h (Err q) e = refused
+      by_second first h (Ok second) e = ok_gives_only (two_stand bytes first second h ((part_stands first.line (Some first.zones) first.rest).gives second e))
+      by_second first h (Err q) e = err_gives_only
 
       by_test : (first : Part) → IsAfter None bytes first → (b : Bool) → begins_part (lines first.rest) ≡ b →
           GivesOnly (Stand bytes) (second_at limits text first >>= λ second. Ok (record { first = first; second = second }))
       by_test first h true e = rw e (by_second first h (part_at limits text first.line (Some first.zones) first.rest) refl)
-      by_test first h false e = rw e (done (one_stands bytes first h))
+      by_test first h false e = rw e (ok_gives_only (one_stands bytes first h))
 
 -- by the definition of what is read
-pub stands : (limits : Limits) (text bytes : List ℕ) (p : Parts) → parts_in limits text bytes ≡ Ok p → StandsIn bytes p.first.model (option_map (λ b. b.model) p.second) p.first.zones (last_of p).rest
-stands limits text bytes p h = (parts_stand limits text bytes).gives p h
+pub parts_stand_in_text : (limits : Limits) (text bytes : List ℕ) (p : Parts) → parts_in limits text bytes ≡ Ok p → StandsIn bytes p.first.model (option_map (λ b. b.model) p.second) p.first.zones (last_of p).rest
+parts_stand_in_text limits text bytes p h = (parts_stand limits text bytes).gives p h

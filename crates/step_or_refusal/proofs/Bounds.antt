@@ -1,9 +1,9 @@
 -- Each cell of a problem has a floor or a cause against one, and a ceiling or a cause against one.
 use Rattle.step_or_refusal.proofs.Common.{ℕ, ◌+◌, ◌<◌, ◌⊎◌, inl, inr, refl, arith, List, length, ℤ, pos, ◌-ℤ◌, cases_lt, Side, Low, High, IsProblem, entries_at}
 use Rattle.step_or_refusal.proofs.Common.{Entries, anchor_on, AnchorRoot, IsUnanchored, moved_out, IsAnchoredBound, IsBoundOn, need, ceil_over, IsPath}
-use Rattle.step_or_refusal.proofs.Common.{HasNoBound, base_on, Decided, first_or_none, path}
+use Rattle.step_or_refusal.proofs.Common.{HasNoBound, base_on, Decided, first_or_none, lead_is_path}
 use Rattle.barrier_vector.proofs.CarriedRoots.{reaches_within}
-use Rattle.barrier_vector.proofs.Components.{carried_decided, inner_path, longest}
+use Rattle.barrier_vector.proofs.Components.{carried_decided, inner_path, longest_path_exists}
 use Rattle.barrier_vector.proofs.Ways.{LeadTo, leading_decided}
 
 module _ (p : List Entries) (ok : IsProblem p) where
@@ -32,7 +32,7 @@ module _ (p : List Entries) (ok : IsProblem p) where
     path_or_none : (c : ℕ) → c < length p → ((s : ℕ) × IsPath p q (AnchorRoot side p q) c s) ⊎ IsUnanchored side p c
     path_or_none c within =
         elim (first_or_none (λ k. LeadTo p c k × (0 < anchor_on side (entries_at p k))) (length p) (λ k h. led c k)) [
-          | inl (k, is) ↦ inl (path p q (AnchorRoot side p q) root_or_not is.has.0.0 c
+          | inl (k, is) ↦ inl (lead_is_path p q (AnchorRoot side p q) root_or_not is.has.0.0 c
               (record { root = k; drop = ceil_over q (anchor_on side (entries_at p k)); is_root = (is.within, is.has.1, refl); reaches = is.has.0.1 }))
           | inr none ↦ inr (λ j k way. elim (cases_lt 0 (anchor_on side (entries_at p k)))
               [ inl some ↦ absurd (none k (reaches_within p ok j c k within way) ((j, way), some)) | inr fails ↦ omega (arith, fails) ])
@@ -54,7 +54,7 @@ module _ (p : List Entries) (ok : IsProblem p) where
           | inr fails ↦ inr (none, fails)
           | inl carried ↦
               let (s, s_is) = inner_path p ok c h in
-              let (t, t_is) = longest p ok c h in
+              let (t, t_is) = longest_path_exists p ok c h in
               inl (base_on Low p -ℤ pos (s + t), inr (none, carried, s, s_is, t, t_is, refl))
         ]
       ]

@@ -6,7 +6,7 @@ pub use Rattle.std.proofs.lemmas.Int.{by_lt_z, ints}
 pub use Rattle.std.proofs.lemmas.List.FromFn.{get_or-map-range_with_len, length-map-range_with_len}
 pub use Rattle.std.specs.List.{range_with_len}
 pub use Rattle.std.specs.Prelude.{Err, Ok, Result, not, ◌&&◌}
-pub use Rattle.barrier_vector.proofs.Decided.{Decided, IsFirstBelow, first_or_none, path}
+pub use Rattle.barrier_vector.proofs.Decided.{Decided, IsFirstBelow, first_or_none, lead_is_path}
 pub use Rattle.barrier_vector.specs.{AnchorRoot, AreCutBounds, HasNoBound, IsAnchoredBound, IsBoundOn, IsCutBoundOn, IsLeastWith, IsOutOfRange, IsPath}
 pub use Rattle.barrier_vector.specs.{IsRefusedOn, IsUnanchored, IsWholeSide, Names, Nowhere, Refuses, RefusesOn, anchor_on, base_on, ceil_over, clamped_edges}
 pub use Rattle.barrier_vector.specs.{cut_on, moved_out, need, no_barrier_on, range_on}

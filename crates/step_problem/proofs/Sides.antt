@@ -50,8 +50,8 @@ module _ {Le : ℤ → ℤ → Type 0} {Moves : ℕ → ℤ → (ℕ → ℤ) �
       (λ (g : IsHead r × Moves c r seen). settled c h r g.0 (s.helps c r seen m h b g.1)) t.reached
 
   -- a cell that is certified stays so when the others become tighter
-  pub stays : (edge l m : ℕ → ℤ) (c : ℕ) → c < n → AsTight Le Moves n l m → Le (l c) (edge c) ⊎ Moves c (l c) l → Le (l c) (edge c) ⊎ Moves c (l c) m
-  stays edge l m c h up k = ⊎_elim (λ (a : Le (l c) (edge c)). inl a) (λ (b : Moves c (l c) l). inr (s.helps c (l c) l m h up b)) k
+  pub edge_or_move_stays : (edge l m : ℕ → ℤ) (c : ℕ) → c < n → AsTight Le Moves n l m → Le (l c) (edge c) ⊎ Moves c (l c) l → Le (l c) (edge c) ⊎ Moves c (l c) m
+  edge_or_move_stays edge l m c h up k = ⊎_elim (λ (a : Le (l c) (edge c)). inl a) (λ (b : Moves c (l c) l). inr (s.helps c (l c) l m h up b)) k
 
   -- heads on the way that are settled are the first settled ones
   pub first_settled : (edge l : ℕ → ℤ) → IsOnTheWay Le Moves n edge l → IsSettled Le Moves n l → IsFirstSettled Le Moves n edge l
@@ -70,7 +70,7 @@ module _ {Le : ℤ → ℤ → Type 0} {Moves : ℕ → ℤ → (ℕ → ℤ) �
   same_on_the_way edge l m e k = let up = same_as_tight l m e in record {
     heads = λ c h. subst IsHead (sym (e c h)) (k.heads c h);
     past_barrier = as_tight_trans edge l m k.past_barrier up;
-    certified = λ c h. subst (λ (y : ℤ). Le y (edge c) ⊎ Moves c y m) (sym (e c h)) (stays edge l m c h up (k.certified c h));
+    certified = λ c h. subst (λ (y : ℤ). Le y (edge c) ⊎ Moves c y m) (sym (e c h)) (edge_or_move_stays edge l m c h up (k.certified c h));
     under = λ x ok settled b c h. subst (λ (y : ℤ). Le y (x c)) (sym (e c h)) (k.under x ok settled b c h);
   }
 
@@ -79,7 +79,7 @@ module _ {Le : ℤ → ℤ → Type 0} {Moves : ℕ → ℤ → (ℕ → ℤ) �
   same_settled l m e settled c h v ok g = subst (Le v) (sym (e c h)) (settled c h v ok (s.helps c v m l h (same_as_loose l m e) g))
 
   pub same_certified : (edge l m : ℕ → ℤ) → ((c : ℕ) → c < n → m c ≡ l c) → IsCertified Le Moves n edge l → IsCertified Le Moves n edge m
-  same_certified edge l m e k c h = subst (λ (y : ℤ). Le y (edge c) ⊎ Moves c y m) (sym (e c h)) (stays edge l m c h (same_as_tight l m e) (k c h))
+  same_certified edge l m e k c h = subst (λ (y : ℤ). Le y (edge c) ⊎ Moves c y m) (sym (e c h)) (edge_or_move_stays edge l m c h (same_as_tight l m e) (k c h))
 
 -- Plain rounds on one side: they tighten, keep order, stay under settled heads, and are covered by sweeps.
 -- next covers what a plain round makes of heads no tighter than w
@@ -106,7 +106,7 @@ module _ {Le : ℤ → ℤ → Type 0} {Moves : ℕ → ℤ → (ℕ → ℤ) �
     heads = λ c h. relaxed_head s l c (m c) (k.heads c h) (r c h);
     past_barrier = as_tight_trans s edge l m k.past_barrier up;
     certified = λ c h. ⊎_elim
-        (λ (e : m c ≡ l c). subst (λ (y : ℤ). Le y (edge c) ⊎ Moves c y m) (sym e) (stays s edge l m c h up (k.certified c h)))
+        (λ (e : m c ≡ l c). subst (λ (y : ℤ). Le y (edge c) ⊎ Moves c y m) (sym e) (edge_or_move_stays s edge l m c h up (k.certified c h)))
         (λ (g : IsHead (m c) × Moves c (m c) l). inr (s.helps c (m c) l m h up g.1)) (r c h).reached;
     under = λ x ok settled b c h. turn_under s l x c (m c) h (r c h) (k.under x ok settled b) settled;
   }

@@ -1,7 +1,7 @@
 -- One exchange on one side: a word goes to the tighter of itself and a relaxed head from heads that were seen.
 use Rattle.step_problem.proofs.Common.{◌≡◌, ℕ, ◌<◌, ◌⊎◌, ℤ, refl, sym, ◌∙◌, subst, inr, ⊎_elim, cases_eq, IsHead, AsTight, IsRelaxed, IsSettled, IsOnTheWay}
 use Rattle.step_problem.proofs.Common.{AreSeen, IsExchange}
-use Rattle.step_problem.proofs.Sides.{IsSide, as_tight_refl, as_tight_trans, relaxed_head, turn_under, stays}
+use Rattle.step_problem.proofs.Sides.{IsSide, as_tight_refl, as_tight_trans, relaxed_head, turn_under, edge_or_move_stays}
 
 -- a fact of each cell, by whether it is cell c
 pub by_cell : (P : ℕ → ℤ → Type 0) (l next : ℕ → ℤ) (c : ℕ) (w : ℤ) → next c ≡ w → ((d : ℕ) → (d ≡ c → ⊥) → next d ≡ l d) → P c w → (d : ℕ) → ((d ≡ c → ⊥) → P d (l d)) → P d (next d)
@@ -10,8 +10,8 @@ by_cell P l next c w here elsewhere p d others = ⊎_elim
     (λ (ne : d ≡ c → ⊥). subst (P d) (sym (elsewhere d ne)) (others ne)) (cases_eq d c)
 
 module _ {Le : ℤ → ℤ → Type 0} {Moves : ℕ → ℤ → (ℕ → ℤ) → Type 0} {n : ℕ} (s : IsSide Le Moves n) where
-  pub tighter : (l : ℕ → ℤ) (c : ℕ) (r w : ℤ) (next : ℕ → ℤ) → IsExchange Le l c r w next → AsTight Le Moves n l next
-  tighter l c r w next x d h = by_cell (λ k z. Le (l k) z) l next c w x.here x.elsewhere x.old d (λ ne. s.refl (l d))
+  pub exchange_is_as_tight : (l : ℕ → ℤ) (c : ℕ) (r w : ℤ) (next : ℕ → ℤ) → IsExchange Le l c r w next → AsTight Le Moves n l next
+  exchange_is_as_tight l c r w next x d h = by_cell (λ k z. Le (l k) z) l next c w x.here x.elsewhere x.old d (λ ne. s.refl (l d))
 
   -- one that has seen just the heads
   pub seen_itself : (edge l : ℕ → ℤ) → IsOnTheWay Le Moves n edge l → AreSeen Le Moves n l l
@@ -22,8 +22,8 @@ module _ {Le : ℤ → ℤ → Type 0} {Moves : ℕ → ℤ → (ℕ → ℤ) �
   still_seen l next seen up f = record { behind = as_tight_trans s seen l next f.behind up; heads = f.heads }
 
   -- a look at cell c
-  pub sees : (l seen after : ℕ → ℤ) (c : ℕ) → IsHead (l c) → after c ≡ l c → ((d : ℕ) → (d ≡ c → ⊥) → after d ≡ seen d) → AreSeen Le Moves n l seen → AreSeen Le Moves n l after
-  sees l seen after c ok here elsewhere f = record {
+  pub own_turn_keeps_seen : (l seen after : ℕ → ℤ) (c : ℕ) → IsHead (l c) → after c ≡ l c → ((d : ℕ) → (d ≡ c → ⊥) → after d ≡ seen d) → AreSeen Le Moves n l seen → AreSeen Le Moves n l after
+  own_turn_keeps_seen l seen after c ok here elsewhere f = record {
     behind = λ d h. by_cell (λ k z. Le z (l k)) seen after c (l c) here elsewhere (s.refl (l c)) d (λ ne. f.behind d h);
     heads = λ d h. by_cell (λ k z. IsHead z) seen after c (l c) here elsewhere ok d (λ ne. f.heads d h);
   }
@@ -41,19 +41,19 @@ module _ {Le : ℤ → ℤ → Type 0} {Moves : ℕ → ℤ → (ℕ → ℤ) �
   turn_keeps edge l seen next c r w h k fit t x = record {
     heads = λ d hd. by_cell (λ i z. IsHead z) l next c w x.here x.elsewhere head d (λ ne. k.heads d hd);
     past_barrier = as_tight_trans s edge l next k.past_barrier up;
-    certified = λ d hd. by_cell (λ i z. Le z (edge i) ⊎ Moves i z next) l next c w x.here x.elsewhere certified d (λ ne. stays s edge l next d hd up (k.certified d hd));
+    certified = λ d hd. by_cell (λ i z. Le z (edge i) ⊎ Moves i z next) l next c w x.here x.elsewhere certified d (λ ne. edge_or_move_stays s edge l next d hd up (k.certified d hd));
     under = λ m heads settled b. let old = k.under m heads settled b in
         λ d hd. by_cell (λ i z. Le z (m i)) l next c w x.here x.elsewhere (under m old settled) d (λ ne. old d hd);
   }
     where
       up : AsTight Le Moves n l next
-      up = tighter l c r w next x
+      up = exchange_is_as_tight l c r w next x
 
       head : IsHead w
       head = ⊎_elim (λ (o : w ≡ l c). subst IsHead (sym o) (k.heads c h)) (λ (o : w ≡ r). subst IsHead (sym o) (relaxed_head s seen c r (fit.heads c h) t)) x.one
 
       old_certified : w ≡ l c → Le w (edge c) ⊎ Moves c w next
-      old_certified o = subst (λ (y : ℤ). Le y (edge c) ⊎ Moves c y next) (sym o) (stays s edge l next c h up (k.certified c h))
+      old_certified o = subst (λ (y : ℤ). Le y (edge c) ⊎ Moves c y next) (sym o) (edge_or_move_stays s edge l next c h up (k.certified c h))
 
       certified : Le w (edge c) ⊎ Moves c w next
       certified = ⊎_elim old_certified

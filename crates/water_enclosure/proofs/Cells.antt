@@ -15,8 +15,8 @@ thick_room : (top bottom : Dec) → IsThick top bottom → IsBelow (number botto
 thick_room top bottom k = record { below = omega (arith, ints, gap_positive top bottom k) }
 
 module _ (m : FlowModel) (valid : IsModel m) (c : ℕ) (lt : c < cell_count m.grid) (active : is_active m c ≡ true) where
-  pub room : IsBelow (number (bottom_at m c)) (number (top_at m c))
-  room = thick_room (top_at m c) (bottom_at m c) (valid.cells c lt active).thick
+  pub bottom_is_below_top : IsBelow (number (bottom_at m c)) (number (top_at m c))
+  bottom_is_below_top = thick_room (top_at m c) (bottom_at m c) (valid.cells c lt active).thick
 
   pub hk_some : 0 < (size (hk_at m c)).num
   hk_some = size_positive (hk_at m c) (valid.cells c lt active).hk

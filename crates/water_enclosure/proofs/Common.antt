@@ -24,8 +24,8 @@ pub use Rattle.decimal_input.specs.{Fraction, IsOver, IsShare, Ratio, as_fractio
 unfoldable pub use Rattle.decimal_input.specs.{ratio}
 pub use Rattle.decimal_input.specs.Fractions.{AtMost, plus, times}
 pub use Rattle.decimal_input.specs.Ratios.{Same, den}
-pub use Rattle.flow_equations.proofs.Downwards.{IsValue, itself, size_positive, value_one, value_over, value_plus, value_times, value_two}
-pub use Rattle.flow_equations.proofs.GivenAtSteps.{wider}
+pub use Rattle.flow_equations.proofs.Downwards.{IsValue, own_value, size_positive, value_one, value_over, value_plus, value_times, value_two}
+pub use Rattle.flow_equations.proofs.GivenAtSteps.{over_multiple}
 pub use Rattle.model_types.proofs.Leads.{IsFaceOf, before_le, end_within, ends_ascend, face_back, passing_are, passing_have, turned}
 pub use Rattle.model_types.proofs.Members.{All-In, Contains-In, In, In-All, In-map, Ordered, Ordered-at, map-In}
 pub use Rattle.model_types.specs.{HasSize, IsModel, IsThick, bed_thickness, bottom_at, cell_count, constant_faces, dec_at, delc_at, delr_at, gap, hani_at}
@@ -40,7 +40,7 @@ pub use Rattle.pair_flows.specs.{AreComparable, CellFlows, gain_from_first}
 pub use Rattle.step_problem.proofs.Leasts.{mul_mono, mul_neg}
 pub use Rattle.water_enclosure.specs.{FlowsLieAt, FlowsLieFrom, GreaterBalancesLieLower, HasOneGentleHead, OwnFlowsAreAtMost, SignsEncloseFlows}
 pub use Rattle.water_enclosure.specs.{SignsEncloseHistories}
-pub use Rattle.water_table.proofs.Orders.{AtMost-of, among, common, plus_rises}
+pub use Rattle.water_table.proofs.Orders.{AtMost-of, among, common_denominator_exists, plus_rises}
 pub use Rattle.water_table.specs.{FallsGently, FallsWithin, GainsAtLeast, HasSignsAt, HasSignsFrom, IsFull, IsGentle, IsWithin, LieInPairs, LiesInPair}
 pub use Rattle.water_table.specs.{ListedPair, LosesAtLeast, NearlySolvesAt, NearlySolvesFrom, branch, conductance_at, constant_branch, convertible_cell}
 pub use Rattle.water_table.specs.{convertible_step, heads_at, is_convertible, listed_heads, narrow_pair, pumped_layers, pumped_model, variable_branch}

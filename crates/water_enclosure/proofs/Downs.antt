@@ -1,6 +1,6 @@
 -- Branches between a cell and the full cell below it, in whole numbers: their conductance, and that flows keep the order of gentle heads.
 use Rattle.water_enclosure.proofs.Common.{◌≡◌, ℕ, suc, ◌+◌, ◌*◌, ◌-◌, ◌<◌, ◌≤◌, ◌⊎◌, inl, inr, ℤ, pos, ◌-ℤ◌, ◌*ℤ◌, ◌≤ℤ◌, ap, sym, ◌∙◌, arith, mul-pos}
-use Rattle.water_enclosure.proofs.Common.{mul-le-mul_left, ints, IsShare, Ratio, den, IsValue, itself, value_over, value_plus, value_two, two}
+use Rattle.water_enclosure.proofs.Common.{mul-le-mul_left, ints, IsShare, Ratio, den, IsValue, own_value, value_over, value_plus, value_two, two}
 use Rattle.pair_flows.proofs.Vertical.{falls_faster, rises_faster}
 use Rattle.water_enclosure.proofs.Rows.{flows_in_order, share_some}
 unfoldable use Rattle.decimal_input.specs.{over}
@@ -11,7 +11,7 @@ abbrev pub half_way : Ratio → Ratio → Ratio
 half_way s k = over (over s two) k
 
 half_way_value : (s k : Ratio) → 0 < k.num → IsValue (half_way s k) (s.num * 1 * den k) (den s * 2 * k.num)
-half_way_value s k some = value_over some (value_over (omega arith) (itself s) value_two) (itself k)
+half_way_value s k some = value_over some (value_over (omega arith) (own_value s) value_two) (own_value k)
 
 -- what the resistance comes to for each unit of the upper cell's thickness, and the rest of it, over one denominator
 abbrev pub per_unit : Ratio → Ratio → Ratio → ℕ
@@ -33,9 +33,9 @@ pub way_share : (area s k bed s' k' : Ratio) (S S' M : ℕ) → 0 < k.num → 0 
     IsShare (den area * (per_unit k bed k' * S + rest M k bed k' S')) (over area (plus (plus (half_way s k) bed) (half_way s' k'))) (area.num * whole_way M k bed k')
 way_share area s k bed s' k' S S' M some some' thick p p' =
     let wet = share_some M S s p thick in
-    let sum = value_plus (value_plus (half_way_value s k some) (itself bed)) (half_way_value s' k' some') in
+    let sum = value_plus (value_plus (half_way_value s k some) (own_value bed)) (half_way_value s' k' some') in
     let whole = value_over (positive s.num k.less bed.less (bed.num * (den s * 2 * k.num)) (den s' * 2 * k'.num)
-    (s'.num * 1 * den k' * (den s * 2 * k.num * den bed)) wet (mul-pos (mul-pos (omega arith) (omega arith)) some')) (itself area) sum in
+    (s'.num * 1 * den k' * (den s * 2 * k.num * den bed)) wet (mul-pos (mul-pos (omega arith) (omega arith)) some')) (own_value area) sum in
     record {
       is = ap (λ (z : ℕ). z * (den area * (per_unit k bed k' * S + rest M k bed k' S'))) whole.num
           ∙ way_cross area.num (den area) s.num (den s) (den k) k.num bed.num (den bed) s'.num (den s') (den k') k'.num S S' M p.is p'.is

@@ -4,12 +4,12 @@ use Rattle.water_enclosure.proofs.Common.{by_lt_z, ints, All-from_get_or, All-ge
 use Rattle.water_enclosure.proofs.Common.{Ratio, as_fraction, opposite, AtMost, FlowModel, TimeStep, IsModel, cell_count, index_of, is_active, is_constant}
 use Rattle.water_enclosure.proofs.Common.{is_variable, start_head, variable_cells, ConvertibleLayers, GainsAtLeast, HasSignsAt, HasSignsFrom, IsWithin}
 use Rattle.water_enclosure.proofs.Common.{LieInPairs, LiesInPair, ListedPair, LosesAtLeast, NearlySolvesAt, NearlySolvesFrom, heads_at, listed_heads}
-use Rattle.water_enclosure.proofs.Common.{variable_cell, water_balance, AtMost-of, among, common, FlowsLieAt, FlowsLieFrom, OwnFlowsAreAtMost}
-use Rattle.water_enclosure.proofs.Common.{SignsEncloseFlows, SignsEncloseHistories}
+use Rattle.water_enclosure.proofs.Common.{variable_cell, water_balance, AtMost-of, among, common_denominator_exists, FlowsLieAt, FlowsLieFrom}
+use Rattle.water_enclosure.proofs.Common.{OwnFlowsAreAtMost, SignsEncloseFlows, SignsEncloseHistories}
 use Rattle.decimal_input.specs.Fractions.{den}
 use Rattle.model_types.specs.{times}
 use Rattle.water_enclosure.proofs.Cells.{variable_active}
-use Rattle.water_enclosure.proofs.Linked.{index_within, named, variable_at}
+use Rattle.water_enclosure.proofs.Linked.{index_within, index_names_cell, variable_at}
 use Rattle.water_enclosure.proofs.Order.{greater_balances_lie_lower, known_at, own_flows_at_most, variable_at_head}
 
 -- a number below another one in whole numbers is below it
@@ -20,7 +20,7 @@ over_below M f g a b p q less =
 
 below_then : (f u g : Fraction) → IsBelow f u → AtMost u g → IsBelow f g
 below_then f u g less le =
-    let (M, some, at) = common 3 (among (f ∷ u ∷ g ∷ [])) in
+    let (M, some, at) = common_denominator_exists 3 (among (f ∷ u ∷ g ∷ [])) in
     let (a, oa) = at 0 (omega arith) in
     let (b, ob) = at 1 (omega arith) in
     let (c, oc) = at 2 (omega arith) in
@@ -28,7 +28,7 @@ below_then f u g less le =
 
 then_below : (f u g : Fraction) → AtMost f u → IsBelow u g → IsBelow f g
 then_below f u g le less =
-    let (M, some, at) = common 3 (among (f ∷ u ∷ g ∷ [])) in
+    let (M, some, at) = common_denominator_exists 3 (among (f ∷ u ∷ g ∷ [])) in
     let (a, oa) = at 0 (omega arith) in
     let (b, ob) = at 1 (omega arith) in
     let (c, oc) = at 2 (omega arith) in
@@ -41,7 +41,7 @@ module _ (m : FlowModel) (w : ConvertibleLayers) (valid : IsModel m) where
       (variable_at m at valid.grid.size i lt).passes)
 
   of_each : (at : TimeStep) (P : ℕ → Type 0) → All P (variable_cells m at.period) → (c : ℕ) → c < cell_count m.grid → is_variable m at.period c ≡ true → P c
-  of_each at P all c lt v = subst P (named m at valid.grid.size c v lt) (All-get_or P (variable_cells m at.period) (index_of m at.period c) 0 (index_within m at valid.grid.size c v lt) all)
+  of_each at P all c lt v = subst P (index_names_cell m at valid.grid.size c v lt) (All-get_or P (variable_cells m at.period) (index_of m at.period c) 0 (index_within m at valid.grid.size c v lt) all)
 
   -- heads in order in variable cells are so in each active cell
   abbrev AreInOrder : (ℕ → Fraction) → (ℕ → Fraction) → Type 0

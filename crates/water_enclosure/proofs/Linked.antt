@@ -23,8 +23,8 @@ module _ (m : FlowModel) (at : TimeStep) (size : HasSize m.grid) where
   pub index_within : (c : ℕ) → test c ≡ true → c < cell_count m.grid → index_of m at.period c < length (variable_cells m at.period)
   index_within c v lt = omega (arith, count_is, index_is m at.period c, rank_below test c (cell_count m.grid) v lt)
 
-  pub named : (c : ℕ) → test c ≡ true → c < cell_count m.grid → variable_cell m at.period (index_of m at.period c) ≡ c
-  named c v lt = (λ j. get_or (below_is m at.period (cell_count m.grid) j) (index_is m at.period c j) 0) ∙ at_rank test (cell_count m.grid) c v lt
+  pub index_names_cell : (c : ℕ) → test c ≡ true → c < cell_count m.grid → variable_cell m at.period (index_of m at.period c) ≡ c
+  index_names_cell c v lt = (λ j. get_or (below_is m at.period (cell_count m.grid) j) (index_is m at.period c j) 0) ∙ at_rank test (cell_count m.grid) c v lt
 
   module _ (w : ConvertibleLayers) (h : ℕ → Fraction) where
     abbrev step : List ExactCell
@@ -69,7 +69,7 @@ module _ (m : FlowModel) (at : TimeStep) (size : HasSize m.grid) where
           let (f, g, v, e) = from_face x j in
           let inside = end_within m.grid here f size place.within g in
           let there : x.cell ≡ index_of m at.period f.end = sym (ap (λ (y : ExactLink). y.cell) e) in
-          let at_end : variable_cell m at.period x.cell ≡ f.end = ap (variable_cell m at.period) there ∙ named f.end v inside in
+          let at_end : variable_cell m at.period x.cell ≡ f.end = ap (variable_cell m at.period) there ∙ index_names_cell f.end v inside in
           let links : (cell_at step x.cell).links ≡ map (variable_branch m w at h) (variable_faces m at.period f.end) =
           ap (λ (y : ExactCell). y.links) (cell_is x.cell (in_range x j)) ∙ ap (λ c.
           map (variable_branch m w at h) (variable_faces m at.period c)) at_end in

@@ -10,13 +10,14 @@ use Rattle.water_enclosure.proofs.Common.{no_cell, river_flow, share, Fraction, 
 use Rattle.water_enclosure.proofs.Common.{passing_are, All-In, In, In-All, Face, FlowModel, TimeStep, IsModel, cell_count, constant_faces, is_active}
 use Rattle.water_enclosure.proofs.Common.{is_constant, is_variable, variable_cells, variable_faces, CellFlows, AreComparable, ConvertibleLayers, FallsGently}
 use Rattle.water_enclosure.proofs.Common.{IsGentle, conductance_at, constant_branch, convertible_cell, convertible_step, heads_at, variable_branch}
-use Rattle.water_enclosure.proofs.Common.{variable_cell, water_balance, AtMost-of, common, plus_rises, GreaterBalancesLieLower, OwnFlowsAreAtMost, mul_neg}
+use Rattle.water_enclosure.proofs.Common.{variable_cell, water_balance, AtMost-of, common_denominator_exists, plus_rises, GreaterBalancesLieLower}
+use Rattle.water_enclosure.proofs.Common.{OwnFlowsAreAtMost, mul_neg}
 use Rattle.cell_balance.proofs.Encloses.{whole_step}
 use Rattle.cell_balance.proofs.Mutual.{mutual_whole}
 use Rattle.pair_flows.specs.{balance as pair_balance}
 use Rattle.pair_flows.proofs.Ordered.{greater_balances_lie_lower as pairs_lie_lower}
 use Rattle.water_table.proofs.Waters.{storage_flow_rises}
-use Rattle.water_enclosure.proofs.Linked.{are_linked, cell_is, named, step_length, variable_at}
+use Rattle.water_enclosure.proofs.Linked.{are_linked, cell_is, index_names_cell, step_length, variable_at}
 use Rattle.water_enclosure.proofs.Cells.{variable_active}
 use Rattle.water_enclosure.proofs.Neighbours.{face_in_order, variable_in_order}
 use Rattle.water_enclosure.proofs.Own.{drain_falls, evap_falls, fixed_falls, front_falls, river_falls, total_falls}
@@ -117,10 +118,10 @@ module _ (m : FlowModel) (w : ConvertibleLayers) (at : TimeStep) (valid : IsMode
   both =
       let (D1, s1, goes1) = step_common (convertible_step m w at h) in
       let (D2, s2, goes2) = step_common (convertible_step m w at g) in
-      let (M1, t1, heads1) = common (suc n) (λ i. h (named_cell i)) in
-      let (M2, t2, heads2) = common (suc n) (λ i. g (named_cell i)) in
-      let (M3, t3, stores1) = common n (stored_flow old h) in
-      let (M4, t4, stores2) = common n (stored_flow older g) in
+      let (M1, t1, heads1) = common_denominator_exists (suc n) (λ i. h (named_cell i)) in
+      let (M2, t2, heads2) = common_denominator_exists (suc n) (λ i. g (named_cell i)) in
+      let (M3, t3, stores1) = common_denominator_exists n (stored_flow old h) in
+      let (M4, t4, stores2) = common_denominator_exists n (stored_flow older g) in
       let N = D1 * D2 in
       let k = N * (M3 * M4) in
       let d = N * (M1 * M2) in
@@ -241,7 +242,7 @@ module _ (m : FlowModel) (w : ConvertibleLayers) (at : TimeStep) (valid : IsMode
         let falls = fall_of i (omega (arith, ints, less)) in
         let (face, ends) = passing_are m.grid (is_variable m at.period) (named_cell i) x is_in in
         let inside = end_within m.grid (named_cell i) x valid.grid.size (within i lt falls) face in
-        let at_end : named_cell j ≡ x.end = ap named_cell (sym leads) ∙ named m at valid.grid.size x.end ends inside in
+        let at_end : named_cell j ≡ x.end = ap named_cell (sym leads) ∙ index_names_cell m at valid.grid.size x.end ends inside in
         let head_h = subst (λ (e : ℕ). IsOver both.d (h e) (both.at_h.Y j)) at_end (both.at_h.heads j) in
         let head_g = subst (λ (e : ℕ). IsOver both.d (g e) (both.at_g.Y j)) at_end (both.at_g.heads j) in
         let rises = le_over both.d _ _ _ _ both.some_d head_h head_g le in

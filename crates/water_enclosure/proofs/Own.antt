@@ -2,13 +2,13 @@
 use Rattle.water_enclosure.proofs.Common.{◌*◌, ◌++◌, List, [], ◌∷◌, All, map, arith, mul-pos, refl, clamps, ints, All-head, All-tail, le_over, over_le}
 use Rattle.water_enclosure.proofs.Common.{DrainOver, EvapOver, FixedOver, RiverOver, drain_over, evap_over, fixed_over, river_over, WholeEntry, ExactDrain}
 use Rattle.water_enclosure.proofs.Common.{ExactEvap, ExactFixed, ExactRiver, drain_flow, evap_flow, fixed_flow, river_flow, Fraction, fraction_total, AtMost}
-use Rattle.water_enclosure.proofs.Common.{den, mul_mono, AtMost-of, among, common, plus_rises}
+use Rattle.water_enclosure.proofs.Common.{den, mul_mono, AtMost-of, among, common_denominator_exists, plus_rises}
 use Rattle.step_problem.proofs.Falls.{loss_falls}
 
 module _ (v v' : Fraction) (falls : AtMost v' v) where
   pub fixed_falls : (x : ExactFixed) → AtMost (fixed_flow v x) (fixed_flow v' x)
   fixed_falls x =
-      let (M, some, at) = common 3 (among (v ∷ v' ∷ x.head ∷ [])) in
+      let (M, some, at) = common_denominator_exists 3 (among (v ∷ v' ∷ x.head ∷ [])) in
       let (y, oy) = at 0 (omega arith) in
       let (y', oy') = at 1 (omega arith) in
       let (t, ot) = at 2 (omega arith) in
@@ -20,7 +20,7 @@ module _ (v v' : Fraction) (falls : AtMost v' v) where
 
   pub river_falls : (x : ExactRiver) → AtMost (river_flow v x) (river_flow v' x)
   river_falls x =
-      let (M, some, at) = common 4 (among (v ∷ v' ∷ x.stage ∷ x.bottom ∷ [])) in
+      let (M, some, at) = common_denominator_exists 4 (among (v ∷ v' ∷ x.stage ∷ x.bottom ∷ [])) in
       let (y, oy) = at 0 (omega arith) in
       let (y', oy') = at 1 (omega arith) in
       let (t, ot) = at 2 (omega arith) in
@@ -33,7 +33,7 @@ module _ (v v' : Fraction) (falls : AtMost v' v) where
 
   pub drain_falls : (x : ExactDrain) → AtMost (drain_flow v x) (drain_flow v' x)
   drain_falls x =
-      let (M, some, at) = common 3 (among (v ∷ v' ∷ x.elevation ∷ [])) in
+      let (M, some, at) = common_denominator_exists 3 (among (v ∷ v' ∷ x.elevation ∷ [])) in
       let (y, oy) = at 0 (omega arith) in
       let (y', oy') = at 1 (omega arith) in
       let (t, ot) = at 2 (omega arith) in
@@ -45,7 +45,7 @@ module _ (v v' : Fraction) (falls : AtMost v' v) where
 
   pub evap_falls : (x : ExactEvap) → AtMost (evap_flow v x) (evap_flow v' x)
   evap_falls x =
-      let (M, some, at) = common 4 (among (v ∷ v' ∷ x.surface ∷ x.extinction ∷ [])) in
+      let (M, some, at) = common_denominator_exists 4 (among (v ∷ v' ∷ x.surface ∷ x.extinction ∷ [])) in
       let (y, oy) = at 0 (omega arith) in
       let (y', oy') = at 1 (omega arith) in
       let (t, ot) = at 2 (omega arith) in

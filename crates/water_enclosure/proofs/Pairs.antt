@@ -1,8 +1,9 @@
 -- Two neighbours at two vectors of heads, in whole numbers over one denominator.
 use Rattle.water_enclosure.proofs.Common.{◌≡◌, ℕ, ◌<◌, ◌≤◌, ◌⊎◌, inl, inr, true, ℤ, pos, ◌-ℤ◌, ◌≤ℤ◌, ◌<ℤ◌, [], ◌∷◌, arith, ints, below_over, over_le}
 use Rattle.water_enclosure.proofs.Common.{IsOver-minus, IsOver-signed, IsBelow, Fraction, IsOver, IsShare, number, AtMost, FlowModel, IsModel, bottom_at}
-use Rattle.water_enclosure.proofs.Common.{cell_count, is_active, top_at, ConvertibleLayers, FallsWithin, IsFull, is_convertible, among, common}
-use Rattle.water_enclosure.proofs.Cells.{room}
+use Rattle.water_enclosure.proofs.Common.{cell_count, is_active, top_at, ConvertibleLayers, FallsWithin, IsFull, is_convertible, among}
+use Rattle.water_enclosure.proofs.Common.{common_denominator_exists}
+use Rattle.water_enclosure.proofs.Cells.{bottom_is_below_top}
 use Rattle.water_enclosure.proofs.Thick.{CellOver, thick, thick_rises, thick_share, thick_some, thick_stays, thick_within}
 unfoldable use Rattle.water_table.specs.{saturated_thickness}
 
@@ -71,7 +72,7 @@ module _ (m : FlowModel) (w : ConvertibleLayers) where
   cell_at : (h g : ℕ → Fraction) (M c : ℕ) → 0 < M → (valid : IsModel m) → IsWetCell h g c → (z y T B : ℤ) → IsOver M (h c) z → IsOver M (g c) y →
       IsOver M (number (top_at m c)) T → IsOver M (number (bottom_at m c)) B → CellAt h g M c
   cell_at h g M c some valid wet z y T B oz oy ot ob = record {
-    cell = record { T = T; B = B; top = ot; bottom = ob; room = below_over M _ _ _ _ some ob ot (room m valid c wet.within wet.active) };
+    cell = record { T = T; B = B; top = ot; bottom = ob; room = below_over M _ _ _ _ some ob ot (bottom_is_below_top m valid c wet.within wet.active) };
     z = z;
     y = y;
     is_z = oz;
@@ -92,7 +93,7 @@ module _ (m : FlowModel) (w : ConvertibleLayers) where
   pub are_pair : (h g : ℕ → Fraction) (i j : ℕ) → IsModel m → IsWetCell h g i → IsWetCell h g j → AtMost (g i) (h i) → AtMost (h j) (g j) → ArePair h g i j
   unfolding cell_at
   are_pair h g i j valid wet_i wet_j falls rises =
-      let (M, some, at) = common 8 (among (h i ∷ g i ∷ number (top_at m i) ∷ number (bottom_at m i) ∷ h j ∷ g j ∷ number (top_at m j) ∷ number (bottom_at m j) ∷ [])) in
+      let (M, some, at) = common_denominator_exists 8 (among (h i ∷ g i ∷ number (top_at m i) ∷ number (bottom_at m i) ∷ h j ∷ g j ∷ number (top_at m j) ∷ number (bottom_at m j) ∷ [])) in
       let (zi, ozi) = at 0 (omega arith) in
       let (yi, oyi) = at 1 (omega arith) in
       let (Ti, oti) = at 2 (omega arith) in

@@ -1,6 +1,6 @@
 -- Branches of two halves in series, in whole numbers: their conductance, and that flows keep the order of gentle heads.
 use Rattle.water_enclosure.proofs.Common.{◌≡◌, ℕ, suc, ◌+◌, ◌*◌, ◌-◌, ◌<◌, ◌≤◌, ◌⊎◌, inl, inr, ℤ, pos, negsuc, neg_ℤ, ◌-ℤ◌, ◌*ℤ◌, ◌≤ℤ◌, refl, ap, sym, ◌∙◌}
-use Rattle.water_enclosure.proofs.Common.{arith, mul-pos, mul-le-mul_left, cases_eq, ints, neg_times, IsShare, Ratio, den, IsValue, itself, value_one}
+use Rattle.water_enclosure.proofs.Common.{arith, mul-pos, mul-le-mul_left, cases_eq, ints, neg_times, IsShare, Ratio, den, IsValue, own_value, value_one}
 use Rattle.water_enclosure.proofs.Common.{value_over, value_plus, value_times, two, mul_neg}
 use Rattle.pair_flows.proofs.Horizontal.{thicknesses_keep_order}
 unfoldable use Rattle.decimal_input.specs.Ratios.{times}
@@ -46,7 +46,7 @@ share_some M S s p some = elim (cases_eq s.num 0) [
 half_value : (d w k s : Ratio) → 0 < (times (times two w) k).num → 0 < s.num →
     IsValue (half d w k s) (d.num * (den (times (times two w) k) * den s)) (den d * ((times (times two w) k).num * s.num))
 unfolding half
-half_value d w k s some more = value_over (mul-pos some more) (itself d) (value_times (itself (times (times two w) k)) (itself s))
+half_value d w k s some more = value_over (mul-pos some more) (own_value d) (value_times (own_value (times (times two w) k)) (own_value s))
 
 half_cross : (dn dd tn td sn sd S M q : ℕ) → sn * M ≡ S * sd → dn * (td * sd) * (dd * tn * q * S) ≡ dd * (tn * sn) * (dn * td * q * M)
 half_cross dn dd tn td sn sd S M q e = omega (arith, ap (λ (z : ℕ). z * (dn * td * dd * tn * q)) e)

@@ -1,14 +1,14 @@
 -- A step at given heads in whole numbers: what each cell gets over its links, and by its own head.
-use Rattle.water_enclosure.proofs.Common.{wider, ◌≡◌, ℕ, zero, suc, ◌*◌, ◌+◌, ◌<◌, ◌≤◌, inl, inr, List, [], ◌∷◌, All, map, ℤ, pos, ◌+ℤ◌, ◌-ℤ◌, ◌*ℤ◌, ◌≤ℤ◌, refl}
-use Rattle.water_enclosure.proofs.Common.{ap, sym, ◌∙◌, subst, arith, cases_eq, cases_lt, eq-eqb, ne_eqb, ints, All-head, All-tail, AllZip, Goes, by_weight}
-use Rattle.water_enclosure.proofs.Common.{weight, LinkOver, WholeCell, WholeLink, whole_balance, whole_drain, whole_evap, whole_fixed, whole_link, whole_river}
-use Rattle.water_enclosure.proofs.Common.{ExactLink, sum_below, Fraction, IsOver, IsShare, CellFlows, gain_from_first}
+use Rattle.water_enclosure.proofs.Common.{over_multiple, ◌≡◌, ℕ, zero, suc, ◌*◌, ◌+◌, ◌<◌, ◌≤◌, inl, inr, List, [], ◌∷◌, All, map, ℤ, pos, ◌+ℤ◌, ◌-ℤ◌, ◌*ℤ◌}
+use Rattle.water_enclosure.proofs.Common.{◌≤ℤ◌, refl, ap, sym, ◌∙◌, subst, arith, cases_eq, cases_lt, eq-eqb, ne_eqb, ints, All-head, All-tail, AllZip, Goes}
+use Rattle.water_enclosure.proofs.Common.{by_weight, weight, LinkOver, WholeCell, WholeLink, whole_balance, whole_drain, whole_evap, whole_fixed, whole_link}
+use Rattle.water_enclosure.proofs.Common.{whole_river, ExactLink, sum_below, Fraction, IsOver, IsShare, CellFlows, gain_from_first}
 use Rattle.step_problem.specs.{total}
 use Rattle.std.proofs.Math.IntN.{zero-*ℤ}
 use Rattle.cell_balance.proofs.Deep.{add_mul}
 
 pub spread : (M T : ℕ) (f : Fraction) (z : ℤ) → Goes M T → IsOver M f z → (y : ℤ) × IsOver T f y
-spread M T f z (q, e) o = (z *ℤ pos q, subst (λ (k : ℕ). IsOver k f (z *ℤ pos q)) (sym e) (wider M q f z o))
+spread M T f z (q, e) o = (z *ℤ pos q, subst (λ (k : ℕ). IsOver k f (z *ℤ pos q)) (sym e) (over_multiple M q f z o))
 
 -- a family of fractions that stays the same from place n on
 pub everywhere : (M n : ℕ) (f : ℕ → Fraction) → ((k : ℕ) → n < k → f k ≡ f n) → ((k : ℕ) → k < suc n → (z : ℤ) × IsOver M (f k) z) → (k : ℕ) → (z : ℤ) × IsOver M (f k) z

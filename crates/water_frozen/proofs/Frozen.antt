@@ -14,8 +14,8 @@ use Rattle.water_table.specs.declared.convertible_layers.ConvertibleLayers.{Conv
 use Rattle.water_table.specs.{IsGentle, is_convertible}
 use Rattle.water_frozen.specs.{FrozenBranchesAreAtHeads, IsFrozenAt, has_water_table, is_covered, whole_heads}
 use Rattle.water_frozen.proofs.Same.{below_lesser, gap_same, gap_some, lesser_full, half_same, series_same, some_of_same, way_same}
-use Rattle.water_enclosure.proofs.Cells.{conductivity_some, delc_some, delr_some, factor_some, hani_some, hk_some, layer_back, past_layer, room, top_after}
-use Rattle.water_enclosure.proofs.Cells.{tops_below}
+use Rattle.water_enclosure.proofs.Cells.{conductivity_some, delc_some, delr_some, factor_some, hani_some, hk_some, layer_back, past_layer, bottom_is_below_top}
+use Rattle.water_enclosure.proofs.Cells.{top_after, tops_below}
 unfoldable use Rattle.decimal_input.specs.{over}
 unfoldable use Rattle.decimal_input.specs.Ratios.{plus}
 unfoldable use Rattle.model_types.specs.{column_conductance, half, in_a_row, row_conductance, vertical_conductance, vertical_half}
@@ -53,7 +53,7 @@ module _ (m f : FlowModel) (w : ConvertibleLayers) (l : ℕ → ℤ) (p : ℕ) (
     sat_by b = cond b (gap (lesser (h c) top) bottom) (thickness m c)
 
     below_top : IsBelow bottom top
-    below_top = room m valid c lt active
+    below_top = bottom_is_below_top m valid c lt active
 
     weakly : (f g : Fraction) → IsBelow f g → AtMost f g
     weakly f g k = record { at_most = omega (arith, ints, k.below) }

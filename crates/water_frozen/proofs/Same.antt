@@ -8,7 +8,7 @@ use Rattle.cell_balance.proofs.Enclosing.{below_over, over_le, same_over}
 use Rattle.cell_balance.proofs.Scaling.{IsOver-lesser}
 use Rattle.decimal_input.proofs.FloorLaws.{Same-sym}
 use Rattle.decimal_input.specs.Fractions.{Same as SameFraction, den as denominator}
-use Rattle.water_table.proofs.Orders.{among, common}
+use Rattle.water_table.proofs.Orders.{among, common_denominator_exists}
 use Rattle.water_enclosure.proofs.Thick.{gap_share}
 unfoldable use Rattle.decimal_input.specs.{over, ratio}
 unfoldable use Rattle.decimal_input.specs.Ratios.{plus, times}
@@ -21,7 +21,7 @@ same_by_share M n r q some p o = record { cross = eq_of_mul-eq-mul_right M some 
 -- gaps above one number
 pub gap_same : (f g b : Fraction) → SameFraction f g → AtMost b f → Same (gap f b) (gap g b)
 gap_same f g b same below =
-    let (M, some, at) = common 3 (among (f ∷ g ∷ b ∷ [])) in
+    let (M, some, at) = common_denominator_exists 3 (among (f ∷ g ∷ b ∷ [])) in
     let (x, ox) = at 0 (omega arith) in
     let (y, oy) = at 1 (omega arith) in
     let (z, oz) = at 2 (omega arith) in
@@ -41,7 +41,7 @@ below_unless f g never = by_lt_z (f.num *ℤ pos (denominator g)) (g.num *ℤ po
 -- the lesser of two numbers above b is, too, and of two numbers of which the first is at least the second it is the second
 pub below_lesser : (f g b : Fraction) → IsBelow b f → IsBelow b g → IsBelow b (lesser f g)
 below_lesser f g b p q = below_unless b (lesser f g) (λ le.
-    let (M, some, at) = common 3 (among (f ∷ g ∷ b ∷ [])) in
+    let (M, some, at) = common_denominator_exists 3 (among (f ∷ g ∷ b ∷ [])) in
     let (x, ox) = at 0 (omega arith) in
     let (y, oy) = at 1 (omega arith) in
     let (z, oz) = at 2 (omega arith) in
@@ -49,7 +49,7 @@ below_lesser f g b p q = below_unless b (lesser f g) (λ le.
 
 pub lesser_full : (f g : Fraction) → AtMost g f → SameFraction g (lesser f g)
 lesser_full f g le =
-    let (M, some, at) = common 2 (among (f ∷ g ∷ [])) in
+    let (M, some, at) = common_denominator_exists 2 (among (f ∷ g ∷ [])) in
     let (x, ox) = at 0 (omega arith) in
     let (y, oy) = at 1 (omega arith) in
     same_over M g (lesser f g) y (int_min x y) some oy (IsOver-lesser M f g x y ox oy) (omega (arith, ints, clamps, over_le M g f y x oy ox le))

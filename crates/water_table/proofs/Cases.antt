@@ -7,7 +7,7 @@ use Rattle.water_table.proofs.Common.{*ℤ-zero}
 use Rattle.std.specs.Int.{int_max, int_min}
 use Rattle.decimal_input.specs.Fractions.{plus, times}
 use Rattle.decimal_input.specs.Ratios.{times as product}
-use Rattle.water_table.proofs.Orders.{common, among}
+use Rattle.water_table.proofs.Orders.{common_denominator_exists, among}
 unfoldable use Rattle.water_table.specs.{stored_water}
 
 -- q per unit of head up to the top, r per unit above it
@@ -44,8 +44,8 @@ record InWholes (q r : Ratio) (top old v : Fraction) : Type 0 where
 
 in_wholes : (q r : Ratio) (top old v : Fraction) → InWholes q r top old v
 in_wholes q r top old v =
-    let (K, some, at) = common 2 (among (as_fraction q ∷ as_fraction r ∷ [])) in
-    let (M, more, heads) = common 3 (among (top ∷ old ∷ v ∷ [])) in
+    let (K, some, at) = common_denominator_exists 2 (among (as_fraction q ∷ as_fraction r ∷ [])) in
+    let (M, more, heads) = common_denominator_exists 3 (among (top ∷ old ∷ v ∷ [])) in
     let (a, is_a) = at 0 (omega arith) in
     let (b, is_b) = at 1 (omega arith) in
     let (t, is_t) = heads 0 (omega arith) in

@@ -5,22 +5,22 @@ use Rattle.water_table.proofs.Common.{IsOver-greater, greater, lesser, minus, Fr
 use Rattle.water_table.proofs.Common.{le-add, le-of}
 use Rattle.decimal_input.specs.Fractions.{plus, times}
 use Rattle.decimal_input.specs.Ratios.{den as ratio_den}
-use Rattle.flow_equations.proofs.GivenAtSteps.{wider}
+use Rattle.flow_equations.proofs.GivenAtSteps.{over_multiple}
 
 pub own_over : (M : ℕ) (f : Fraction) → IsOver (M * den f) f (f.num *ℤ pos M)
 own_over M f = record { is = sym (mul_assoc f.num (pos M) (pos (den f))) }
 
 -- the first n of these fractions have a common denominator
-pub common : (n : ℕ) (f : ℕ → Fraction) → (M : ℕ) × (0 < M) × ((k : ℕ) → k < n → (z : ℤ) × IsOver M (f k) z)
-common zero f = (1, omega arith, λ k h. absurd (omega (arith, h)))
-common (suc n) f =
-    let (M, some, at) = common n f in
+pub common_denominator_exists : (n : ℕ) (f : ℕ → Fraction) → (M : ℕ) × (0 < M) × ((k : ℕ) → k < n → (z : ℤ) × IsOver M (f k) z)
+common_denominator_exists zero f = (1, omega arith, λ k h. absurd (omega (arith, h)))
+common_denominator_exists (suc n) f =
+    let (M, some, at) = common_denominator_exists n f in
     (M * den (f n), mul-pos some (omega arith), one_more n f M at)
   where
     one_more : (n : ℕ) (f : ℕ → Fraction) (M : ℕ) → ((k : ℕ) → k < n → (z : ℤ) × IsOver M (f k) z) → (k : ℕ) → k < suc n → (z : ℤ) × IsOver (M * den (f n)) (f k) z
     one_more n f M at k h = elim (cases_eq k n) [
       | inl last ↦ subst (λ (j : ℕ). (z : ℤ) × IsOver (M * den (f n)) (f j) z) (sym last) ((f n).num *ℤ pos M, own_over M (f n))
-      | inr early ↦ let (z, o) = at k (omega (arith, h, early)) in (z *ℤ pos (den (f n)), wider M (den (f n)) (f k) z o)
+      | inr early ↦ let (z, o) = at k (omega (arith, h, early)) in (z *ℤ pos (den (f n)), over_multiple M (den (f n)) (f k) z o)
     ]
 
 abbrev pub among : List Fraction → ℕ → Fraction
@@ -31,7 +31,7 @@ AtMost-of f g e = subst (AtMost f) e (record { at_most = le-of _ _ refl })
 
 pub plus_rises : (f f' g g' : Fraction) → AtMost f f' → AtMost g g' → AtMost (plus f g) (plus f' g')
 plus_rises f f' g g' p q =
-    let (M, some, at) = common 4 (among (f ∷ f' ∷ g ∷ g' ∷ [])) in
+    let (M, some, at) = common_denominator_exists 4 (among (f ∷ f' ∷ g ∷ g' ∷ [])) in
     let (a, oa) = at 0 (omega arith) in
     let (b, ob) = at 1 (omega arith) in
     let (c, oc) = at 2 (omega arith) in
@@ -40,7 +40,7 @@ plus_rises f f' g g' p q =
 
 pub minus_rises : (f f' g g' : Fraction) → AtMost f f' → AtMost g' g → AtMost (minus f g) (minus f' g')
 minus_rises f f' g g' p q =
-    let (M, some, at) = common 4 (among (f ∷ f' ∷ g ∷ g' ∷ [])) in
+    let (M, some, at) = common_denominator_exists 4 (among (f ∷ f' ∷ g ∷ g' ∷ [])) in
     let (a, oa) = at 0 (omega arith) in
     let (b, ob) = at 1 (omega arith) in
     let (c, oc) = at 2 (omega arith) in
@@ -52,7 +52,7 @@ ratio_over r = IsOver-signed (ratio_den r) r r.num (record { is = refl })
 
 pub times_rises : (r : Ratio) (f f' : Fraction) → AtMost f f' → AtMost (times (as_fraction r) f) (times (as_fraction r) f')
 times_rises r f f' p =
-    let (M, some, at) = common 2 (among (f ∷ f' ∷ [])) in
+    let (M, some, at) = common_denominator_exists 2 (among (f ∷ f' ∷ [])) in
     let (a, oa) = at 0 (omega arith) in
     let (b, ob) = at 1 (omega arith) in
     le_over (ratio_den r * M) _ _ _ _ (mul-pos (omega arith) some) (IsOver-times (ratio_den r) M (as_fraction r) f (pos r.num) a (ratio_over r) oa)
@@ -60,7 +60,7 @@ times_rises r f f' p =
 
 pub lesser_rises : (f f' g : Fraction) → AtMost f f' → AtMost (lesser f g) (lesser f' g)
 lesser_rises f f' g p =
-    let (M, some, at) = common 3 (among (f ∷ f' ∷ g ∷ [])) in
+    let (M, some, at) = common_denominator_exists 3 (among (f ∷ f' ∷ g ∷ [])) in
     let (a, oa) = at 0 (omega arith) in
     let (b, ob) = at 1 (omega arith) in
     let (c, oc) = at 2 (omega arith) in
@@ -68,7 +68,7 @@ lesser_rises f f' g p =
 
 pub greater_rises : (f f' g : Fraction) → AtMost f f' → AtMost (greater f g) (greater f' g)
 greater_rises f f' g p =
-    let (M, some, at) = common 3 (among (f ∷ f' ∷ g ∷ [])) in
+    let (M, some, at) = common_denominator_exists 3 (among (f ∷ f' ∷ g ∷ [])) in
     let (a, oa) = at 0 (omega arith) in
     let (b, ob) = at 1 (omega arith) in
     let (c, oc) = at 2 (omega arith) in

@@ -1,6 +1,7 @@
 -- Zones that pass the test are within their limits.
 use Rattle.zone_file.proofs.Common.{◌≡◌, false, not, List, None, All, length, slice_index_or, arith, ℕ, ◌≤◌, [], ◌∷◌, Some, Option, Ok, map, unsigned_abs, refl}
-use Rattle.zone_file.proofs.Common.{file_at, FileSet, IsZone, is_zone, wrong_at, zones_of, zones_tested, arrays, done, goes_on, refused, then_}
+use Rattle.zone_file.proofs.Common.{file_at, FileSet, IsZone, is_zone, wrong_at, zones_of, zones_tested, array_files_have_form, ok_gives_only, goes_on}
+use Rattle.zone_file.proofs.Common.{err_gives_only, then_}
 use Rattle.std.specs.Prelude.{codes, ℤ, pos, negsuc}
 use Rattle.std.specs.List.{position, position_or_len, AllByRecursion}
 use Rattle.std.proofs.lemmas.Int.{ints}
@@ -26,14 +27,14 @@ unfolding zones_tested
 tested_is file grid zones = by_place (position (λ z. not (is_zone z)) zones) refl
   where
     by_place : (o : Option ℕ) → position (λ z. not (is_zone z)) zones ≡ o → GivesOnly (λ u. All IsZone zones) (wrong_at file grid o)
-    by_place None e = done (zones_are zones e)
-    by_place (Some cell) e = refused
+    by_place None e = ok_gives_only (zones_are zones e)
+    by_place (Some cell) e = err_gives_only
 
 pub zones_give : (files : FileSet) (grid : Grid) (name : List ℕ) → GivesOnly (λ zs. (length zs ≡ cell_count grid) × All IsZone zs) (zones_of files grid name)
 unfolding zones_of
 zones_give files grid name =
     goes_on (name_at (codes "-") 0 name) _ (λ file a. goes_on (file_at files file) _ (λ bytes b. then_ _ (arrays.integer_grids files file grid.layers grid.rows grid.cols (left_from 1 bytes))
-    (λ zones many. then_ _ (tested_is file grid zones.0) (λ tested are. done (many, are)))))
+    (λ zones many. then_ _ (tested_is file grid zones.0) (λ tested are. ok_gives_only (many, are)))))
 
 small : (z : ℤ) → IsZone z → unsigned_abs z ≤ 999
 small (pos n) h = let a = h.1 in omega (arith, ints, a)

@@ -31,8 +31,8 @@ between-append : (a b : ℕ) (fs gs : List Face) → flows_between a b (fs ++ gs
 unfolding flows_between
 between-append a b fs gs = ap (map (λ (f : Face). f.flow)) (filter-append (is_between a b) fs gs) ∙ map-append (λ (f : Face). f.flow) (filter (is_between a b) fs) (filter (is_between a b) gs)
 
-pub both : (old mid new : Table) (fs gs : List Face) → Gains old mid fs → Gains mid new gs → Gains old new (fs ++ gs)
-both old mid new fs gs h k = grind (arith, between-append, plus_flows-append)
+pub gains_add_up : (old mid new : Table) (fs gs : List Face) → Gains old mid fs → Gains mid new gs → Gains old new (fs ++ gs)
+gains_add_up old mid new fs gs h k = grind (arith, between-append, plus_flows-append)
 
 -- the flow across one face, at the key of its pair
 pub gained : (old new : Table) (f : Face) (w : ZoneSum) → f.from ≤ 999 → f.to ≤ 999 → ((q : ℕ) → get nat_cmp new q ≡ cond (is_at (nat_cmp (f.from * 1000 + f.to)) q) (Some w) (get nat_cmp old q)) →
@@ -74,7 +74,7 @@ module _ {X : Type 0} (f : X → List Face) (xs : List X) (i : ℕ) (old mid : T
   one_more d new lt h =
       subst (Gains old new) (ap (λ ys. flat_map f (take i xs) ++ ys) (sym (append-nil (f (get_or xs i d)))) ∙ sym
       (flat_map-append f (take i xs) (get_or xs i d ∷ [])) ∙ ap (flat_map f) (sym (take_more xs i d lt)))
-      (both old mid new (flat_map f (take i xs)) (f (get_or xs i d)) so_far h)
+      (gains_add_up old mid new (flat_map f (take i xs)) (f (get_or xs i d)) so_far h)
 
   pub all_gained : length xs ≤ i → Gains old mid (flat_map f xs)
   all_gained over = subst (λ ys. Gains old mid (flat_map f ys)) (take_all i xs over) so_far

@@ -99,7 +99,7 @@ fn add_links(table: &mut Table, walk: &Walk, id: u32, links: &[Link]) -> Result<
 }
 
 // Adds the face to a constant-head cell, whose zone may be the lower or the higher.
-#[tactic(auto, using(crate::proofs::Tables::both, crate::proofs::Tables::nothing))]
+#[tactic(auto, using(crate::proofs::Tables::gains_add_up, crate::proofs::Tables::nothing))]
 fn add_constant(table: &mut Table, walk: &Walk, id: u32, x: &Fixed) -> Result<(), AllocError>
     requires id { id < length walk.now.zones.now }
     requires source { x.now.source < length walk.now.zones.now }
@@ -131,7 +131,7 @@ fn add_fixed(table: &mut Table, walk: &Walk, id: u32, fixed: &[Fixed]) -> Result
     Ok(())
 }
 
-#[tactic(auto, unfolding(crate::specs::Faces::cell_faces), using(crate::proofs::Tables::both))]
+#[tactic(auto, unfolding(crate::specs::Faces::cell_faces), using(crate::proofs::Tables::gains_add_up))]
 fn add_cell(table: &mut Table, walk: &Walk, cell: &Cell) -> Result<(), AllocError>
     requires id { cell.now.id < length walk.now.zones.now }
     requires ends { All (λ x. x.cell < length walk.now.problem.now) cell.now.links }

@@ -1,6 +1,6 @@
 use Rattle.barrier_vector.proofs.Common.{arith, ◌≡◌, ◌<◌, ◌^◌, length, ap, ◌∙◌, drop, List, FitsSigned, w128, ints, to_z-of_z, refl, rules, Total, slice_index}
 use Rattle.barrier_vector.proofs.Common.{entries_at, deep_low}
-use Rattle.barrier_vector.proofs.Levels.{written}
+use Rattle.barrier_vector.proofs.Levels.{take_of_append}
 use Rattle.barrier_vector.proofs.Gathering.{sum_more, longest_more, within_more, sum_within}
 use Rattle.barrier_vector.proofs.gathered.component_totals.Goals as goal
 
@@ -17,7 +17,7 @@ pub loop-c-preserved : goal.loop-c-preserved
 loop-c-preserved c =
     let n : c.loop-c.totals.len ≡ length c.add_to.new.totals = omega (arith, c.deref_mut.ensures.len, c.add_to.auto.totals) in
     let w = ap (λ (z : List Total). length z) c.deref_mut.ensures.value in
-    let is = written c.add_to.new.totals (drop (length c.add_to.new.totals) c.loop-c.totals.items) c.loop-c.totals.len n in
+    let is = take_of_append c.add_to.new.totals (drop (length c.add_to.new.totals) c.loop-c.totals.items) c.loop-c.totals.len n in
     let fits : FitsSigned w128 c.deep_flow.result = search rules in
     let added = simp to_z-of_z at c.add_to.ensures.sums in
     record {

@@ -3,7 +3,7 @@ use Rattle.barrier_vector.proofs.Common.{count_unmarked, replicate}
 use Rattle.std.specs.Prelude.{None}
 use Rattle.barrier_vector.proofs.Starting.{all_none}
 use Rattle.std.proofs.lemmas.Grind.{common_steps}
-use Rattle.barrier_vector.proofs.Levels.{up_to_start, up_to_step, front_within, next_within, next_past, searched_at_end, written}
+use Rattle.barrier_vector.proofs.Levels.{up_to_start, up_to_step, front_within, next_within, next_past, searched_at_end, take_of_append}
 use Rattle.barrier_vector.proofs.search.search.Goals.{then-loop-left-test+else-not-is_empty, else-loop-left-test}
 use Rattle.barrier_vector.proofs.search.search.Goals as goal
 
@@ -20,8 +20,8 @@ loop-left-init c =
     let (whole, none_at, all) = all_none c.len-count.result _ none in
     let n : c.in_ok-levels.levels.len ≡ length c.begin.new.levels = omega (arith, c.deref_mut.ensures.len, c.begin.auto.levels) in
     let m : c.in_ok-paths.paths.len ≡ length c.begin.new.paths = omega (arith, c.deref_mut-2.ensures.len, c.begin.auto.paths) in
-    let levels = written c.begin.new.levels (drop (length c.begin.new.levels) c.in_ok-levels.levels.items) c.in_ok-levels.levels.len n in
-    let paths = written c.begin.new.paths (drop (length c.begin.new.paths) c.in_ok-paths.paths.items) c.in_ok-paths.paths.len m in
+    let levels = take_of_append c.begin.new.levels (drop (length c.begin.new.levels) c.in_ok-levels.levels.items) c.in_ok-levels.levels.len n in
+    let paths = take_of_append c.begin.new.paths (drop (length c.begin.new.paths) c.in_ok-paths.paths.items) c.in_ok-paths.paths.len m in
     let count = c.in_ok-frontier.ensures.marks.count in
     record {
       up_to = rw (levels, paths) (up_to_start c.args.p.now c.len-count.ensures.fits c.args.q c.args.own.now c.deref_mut.result.now c.begin.new.levels
@@ -48,7 +48,7 @@ extend_paths-requires-clause-past c =
     let n : c.loop-left.levels.len ≡ length c.spread.new.marks = omega (arith, c.deref_mut-in-loop-left.ensures.len, c.spread.auto.marks) in
     subst (λ (z : List ℕ). All (λ k. mark_at c.deref-in-loop-left.result.now k ≡ Some c.loop-left.level → ⊥) z) (sym c.deref-in-loop-left-2.ensures.value)
     (subst (λ (m : List (Option ℕ)). All (λ k. mark_at m k ≡ Some c.loop-left.level → ⊥) c.in_ok-frontier-2.frontier.items)
-    (sym (c.deref-in-loop-left.ensures.value ∙ written c.spread.new.marks
+    (sym (c.deref-in-loop-left.ensures.value ∙ take_of_append c.spread.new.marks
     (drop (length c.spread.new.marks) c.loop-left.levels.items) c.loop-left.levels.len n))
     (next_past _ (c.loop-left.level + 1) c.loop-left.level c.deref_mut-in-loop-left.result.now c.spread.new.marks c.in_ok-frontier-2.frontier.items (λ e. omega (arith, e)) c.in_ok-frontier-2.ensures))
 
@@ -61,13 +61,13 @@ loop-left-preserved c =
           c.loop-left.levels.items c.deref_mut-in-loop-left.result.now c.spread.new.marks c.deref-in-loop-left.result.now _
           c.loop-left.paths.items c.deref_mut-in-loop-left-2.result.now c.extend_paths.new.paths _
           c.loop-left.frontier.items c.deref.result.now c.in_ok-frontier-2.frontier.items c.deref-in-loop-left-2.result.now
-          c.deref_mut-in-loop-left.ensures.value c.deref-in-loop-left.ensures.value (written c.spread.new.marks (drop (length c.spread.new.marks) c.loop-left.levels.items) c.loop-left.levels.len n)
-          c.deref_mut-in-loop-left-2.ensures.value (written c.extend_paths.new.paths (drop (length c.extend_paths.new.paths) c.loop-left.paths.items) c.loop-left.paths.len m)
+          c.deref_mut-in-loop-left.ensures.value c.deref-in-loop-left.ensures.value (take_of_append c.spread.new.marks (drop (length c.spread.new.marks) c.loop-left.levels.items) c.loop-left.levels.len n)
+          c.deref_mut-in-loop-left-2.ensures.value (take_of_append c.extend_paths.new.paths (drop (length c.extend_paths.new.paths) c.loop-left.paths.items) c.loop-left.paths.len m)
           c.deref.ensures.value c.deref-in-loop-left-2.ensures.value c.loop-left.invariant.up_to c.in_ok-frontier-2.ensures c.extend_paths.auto.paths
           c.extend_paths.ensures.others c.extend_paths.ensures.paths;
       left =
           let count = c.in_ok-frontier-2.ensures.count in
-          let now = ap count_unmarked (written c.spread.new.marks (drop (length c.spread.new.marks) c.loop-left.levels.items) c.loop-left.levels.len n) in
+          let now = ap count_unmarked (take_of_append c.spread.new.marks (drop (length c.spread.new.marks) c.loop-left.levels.items) c.loop-left.levels.len n) in
           let was = ap count_unmarked c.deref_mut-in-loop-left.ensures.value in omega (arith, count, now, was, c.loop-left.invariant.left, c.len-left.ensures);
     }
 

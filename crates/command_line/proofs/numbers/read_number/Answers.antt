@@ -1,5 +1,5 @@
 use Rattle.std.proofs.Common.{rules, ◌≡◌, arith, decimal}
-use Rattle.command_line.proofs.Plain.{some_number, no_parse, other_number, plain, tested}
+use Rattle.command_line.proofs.Plain.{some_number, no_parse, other_number, number_word_is_decimal, tested}
 use Rattle.command_line.proofs.numbers.read_number.Goals.{else-eq-via-then-eq+then-low-n+else-n-high, else-eq-via-then-eq+else-low-n, else-eq-via-else-eq}
 use Rattle.command_line.proofs.numbers.read_number.Goals as goal
 
@@ -13,7 +13,7 @@ returns-then-n-high-clause-is c =
 
 pub returns-else-eq-clause-is : goal.returns-else-eq-clause-is
 returns-else-eq-clause-is c = other_number c.args.low c.args.high c.in-Ok.n c.args.text.now _ c.parse.ensures.value.0 c.in-Ok.is (search rules) (λ t.
-    let p = plain c.args.low c.args.high c.in-Ok.n c.args.text.now t in
+    let p = number_word_is_decimal c.args.low c.args.high c.in-Ok.n c.args.text.now t in
     let is = p.0 in
     let least = p.1 in
     let most = p.2 in

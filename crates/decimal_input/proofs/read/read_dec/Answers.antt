@@ -1,12 +1,12 @@
 use Rattle.decimal_input.proofs.Common.{◌+◌, ◌≤◌, length, arith, subst, Option, pos, neg_ℤ, ◌≤ℤ◌, Err, ints, BadNumber, Spelling, number_from, exponent_of}
-use Rattle.decimal_input.proofs.Named.{IsNumber, named, joined, start, canonical_at}
+use Rattle.decimal_input.proofs.Named.{IsNumber, named, spelling_is_of_parts, start, canonical_at}
 use Rattle.decimal_input.proofs.Spelled.{names_read, no_exponent, no_digit}
 use Rattle.decimal_input.proofs.Products.{named_value}
 use Rattle.decimal_input.proofs.read.read_dec.Goals as goal
 
 pub returns-in_default-clause-exact : goal.returns-in_default-clause-exact
 returns-in_default-clause-exact c =
-    let word = joined c.args.word.now c.split_sign-neg.result.1.now c.split_digits.result.0.now c.split_digits.result.1.now c.split_part.result.0.now
+    let word = spelling_is_of_parts c.args.word.now c.split_sign-neg.result.1.now c.split_digits.result.0.now c.split_digits.result.1.now c.split_part.result.0.now
     c.split_part.result.1.now c.split_sign-neg.result.0
     c.split_sign-neg.ensures.sign c.split_sign-neg.ensures.rest c.split_digits.ensures.digits c.split_digits.ensures.rest c.split_part.ensures.digits c.split_part.ensures.rest in
     names_read c.args.word.now (Err BadNumber) (omega arith)
@@ -16,7 +16,7 @@ returns-in_default-clause-exact c =
 
 pub returns-then-whole-part-eq0-clause-exact : goal.returns-then-whole-part-eq0-clause-exact
 returns-then-whole-part-eq0-clause-exact c =
-    let word = joined c.args.word.now c.split_sign-neg.result.1.now c.split_digits.result.0.now c.split_digits.result.1.now c.split_part.result.0.now
+    let word = spelling_is_of_parts c.args.word.now c.split_sign-neg.result.1.now c.split_digits.result.0.now c.split_digits.result.1.now c.split_part.result.0.now
     c.split_part.result.1.now c.split_sign-neg.result.0
     c.split_sign-neg.ensures.sign c.split_sign-neg.ensures.rest c.split_digits.ensures.digits c.split_digits.ensures.rest c.split_part.ensures.digits c.split_part.ensures.rest in
     names_read c.args.word.now (Err BadNumber) (omega arith)
@@ -33,7 +33,7 @@ returns-clause-exact c =
     let high = near.1 in
     let room : length whole + length part ≤ 64 = omega arith in
     let value = c.with_digits-coefficient.ensures.value (number_from 0 whole) (c.with_digits.ensures.value 0 start) in
-    let word = joined c.args.word.now c.split_sign-neg.result.1.now whole c.split_digits.result.1.now part rest c.split_sign-neg.result.0
+    let word = spelling_is_of_parts c.args.word.now c.split_sign-neg.result.1.now whole c.split_digits.result.1.now part rest c.split_sign-neg.result.0
     c.split_sign-neg.ensures.sign c.split_sign-neg.ensures.rest c.split_digits.ensures.digits c.split_digits.ensures.rest c.split_part.ensures.digits c.split_part.ensures.rest in
     names_read c.args.word.now c.canonical.result (omega arith)
     (subst (λ (X : Option Spelling). IsNumber X c.canonical.result) word

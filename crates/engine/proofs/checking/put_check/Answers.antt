@@ -1,6 +1,6 @@
-use Rattle.engine.proofs.Common.{◌≡◌, ℕ, List, Option, subst, sym, pairs_in, AreListed, NeverCut, lacks_at_first, IsVerdict, ListingEncloses, IsCheck, lone}
-use Rattle.engine.proofs.Common.{refl, Limits, Decks, ZonedListing, ListingVerdict, Status, Put, IsEnd, IsRun, verdict_line, verdict_status, listing, Certified}
-use Rattle.engine.proofs.Common.{HaveOneHistory}
+use Rattle.engine.proofs.Common.{◌≡◌, ℕ, List, Option, subst, sym, pairs_in, AreListed, NeverCut, lacks_at_first, IsVerdict, ListingEncloses, IsCheck}
+use Rattle.engine.proofs.Common.{lone_line_is_run, refl, Limits, Decks, ZonedListing, ListingVerdict, Status, Put, IsEnd, IsRun, verdict_line, verdict_status}
+use Rattle.engine.proofs.Common.{listing, Certified, HaveOneHistory}
 use Rattle.engine.proofs.Ends.{puts_more}
 use Rattle.engine.proofs.checking.put_check.Goals as goal
 
@@ -9,7 +9,7 @@ puts_verdict : (limits : Limits) (d : Decks) (s : ℕ) (listing : ZonedListing) 
     (v ≡ Certified → HaveOneHistory d) →
     IsEnd (verdict_line d.first.grid v) (verdict_status v) end puts → IsRun (IsCheck limits d s listing) NeverCut end puts
 puts_verdict limits d s listing v end puts is encloses history h =
-    lone (IsCheck limits d s listing) NeverCut (verdict_line d.first.grid v) (verdict_status v) end puts
+    lone_line_is_run (IsCheck limits d s listing) NeverCut (verdict_line d.first.grid v) (verdict_status v) end puts
     (record { verdict = v; is = is; encloses = encloses; history = history; status = refl; are = refl }) h
 
 pub check_listing-requires-clause-listing : goal.check_listing-requires-clause-listing

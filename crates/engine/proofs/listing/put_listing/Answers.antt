@@ -1,11 +1,11 @@
-use Rattle.engine.proofs.Common.{IfSome, true, ℕ, Option, sym, subst, beside, IsWatched, ViewPutsOf}
+use Rattle.engine.proofs.Common.{IfSome, true, ℕ, Option, sym, subst, cut_listing_is_beside, IsWatched, ViewPutsOf}
 use Rattle.engine.proofs.Ends.{puts_more}
 use Rattle.engine.proofs.listing.put_listing.Goals as goal
 
 pub returns-in-None-clause-puts : goal.returns-in-None-clause-puts
 returns-in-None-clause-puts g c =
     let P : Option ℕ → Type 0 = λ o. IfSome o (λ n. IsWatched true c.args.task.now n (λ puts. g.W.Sink.leads c.args.side.now puts c.args.side.now)) in
-    puts_more g.K.Sink.leads c.put_unwatched.ensures (λ more r. (beside _ c.args.task.now c.put_unwatched.result more r, λ e. subst P (sym c.in-None.is) tt))
+    puts_more g.K.Sink.leads c.put_unwatched.ensures (λ more r. (cut_listing_is_beside _ c.args.task.now c.put_unwatched.result more r, λ e. subst P (sym c.in-None.is) tt))
 
 pub returns-in-None-clause-side : goal.returns-in-None-clause-side
 returns-in-None-clause-side g c =

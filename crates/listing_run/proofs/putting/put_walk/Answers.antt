@@ -1,9 +1,9 @@
 use Rattle.listing_run.proofs.Common.{rules, ◌≡◌, ◌+◌, ◌∷◌, [], ◌++◌, drop, List, Some, None, true, false, inl, inr, refl, subst, sym, ◌∙◌, ap, append-nil, Put}
-use Rattle.listing_run.proofs.Common.{whole_put, TimeStep, joined, joined_thrice, put_was, lacks_at_first, IsListingBeside, IsCutListing, EndsAt, IsNextText}
-use Rattle.listing_run.proofs.Common.{times_left, Write, first_text}
+use Rattle.listing_run.proofs.Common.{whole_put, TimeStep, puts_are_joined, joined_thrice, put_was, lacks_at_first, IsListingBeside, IsCutListing, EndsAt}
+use Rattle.listing_run.proofs.Common.{IsNextText, times_left, Write, first_text}
 use Rattle.listing_run.specs.declared.text.ListingEnd.TheVariants.{Whole}
-use Rattle.listing_run.proofs.Pieces.{ends_at_piece, ends_wanting, ends_with_line, under_way_at_first, under_way_more, beside, end_not_ok, ends_stopped}
-use Rattle.listing_run.proofs.Pieces.{put_not_ok, stop_end_not_ok, wanting_not_ok}
+use Rattle.listing_run.proofs.Pieces.{ends_at_piece, ends_wanting, ends_with_line, under_way_at_first, under_way_more, cut_listing_is_beside, end_not_ok}
+use Rattle.listing_run.proofs.Pieces.{ends_stopped, put_not_ok, stop_end_not_ok, wanting_not_ok}
 use Rattle.listing_run.proofs.Settled.{none_settled, one_more_settled, reaches_more, reaches_so_far}
 use Rattle.listing_run.proofs.UnderWay.{fewer_left}
 use Rattle.listing_run.proofs.putting.put_walk.Goals as goal
@@ -45,9 +45,9 @@ returns-in-Some-put-clause-puts g c = λ start puts h.
     let p = c.put_while_solving-put.ensures.puts start (puts ++ i.0) i.1 in
     let was = put_was c.as_slice.result.now c.loop-at.pending.items _ (Some c.in-Some-put.status) p.0 c.as_slice.ensures.value c.in-Some-put.is p.2 in (
       i.0 ++ p.0,
-      joined (λ s. g.K.Sink.leads start s c.put_while_solving-put.new.out) puts i.0 p.0 p.1,
+      puts_are_joined (λ s. g.K.Sink.leads start s c.put_while_solving-put.new.out) puts i.0 p.0 p.1,
       (
-        beside _ c.args.task.now c.in-Some-put.status (i.0 ++ p.0)
+        cut_listing_is_beside _ c.args.task.now c.in-Some-put.status (i.0 ++ p.0)
             (ends_at_piece c.args.task.now c.loop-at.steps c.loop-at.pending.items i.0 p.0 c.in-Some-put.status i.2 was),
         λ e.
             absurd (put_not_ok c.loop-at.pending.items c.in-Some-put.status p.0 was e),
@@ -98,7 +98,7 @@ loop-at-preserved g c =
           let p = c.put_while_solving-put.ensures.puts start (puts ++ i.0) i.1 in
           let was : p.0 ≡ whole_put c.loop-at.pending.items ∷ [] = put_was c.as_slice.result.now c.loop-at.pending.items _ None p.0 c.as_slice.ensures.value c.in_default-put.is p.2 in (
             i.0 ++ p.0,
-            joined (λ s. g.K.Sink.leads start s c.put_while_solving-put.new.out) puts i.0 p.0 p.1,
+            puts_are_joined (λ s. g.K.Sink.leads start s c.put_while_solving-put.new.out) puts i.0 p.0 p.1,
             under_way_more c.args.task.now g.S.Settler.leads c.loop-at.steps c.put_while_solving-put.new.steps c.begin_step.new.settler
                 c.put_while_solving-put.new.settler c.loop-at.pending.items c.in-Ok-next.text.items i.0 p.0 i.2 was next,
           );
@@ -119,7 +119,7 @@ returns-in-Err-End-clause-puts g c = λ start puts h.
       i.0 ++ p.0 ++ m.0,
       joined_thrice (λ s. g.K.Sink.leads start s c.put_end.new.out) puts i.0 p.0 m.0 m.1,
       (
-        beside _ c.args.task.now c.put_end.result (i.0 ++ p.0 ++ m.0)
+        cut_listing_is_beside _ c.args.task.now c.put_end.result (i.0 ++ p.0 ++ m.0)
             (ends_with_line c.args.task.now c.loop-at.steps c.loop-at.pending.items i.0 p.0 c.put_end.result i.2 m.0 c.in-Err-End.end was here m.2),
         λ e.
             absurd (end_not_ok c.args.task.now c.loop-at.steps c.in-Some.at
@@ -143,7 +143,7 @@ returns-in-Err-Memory-clause-puts g c = λ start puts h.
       i.0 ++ p.0 ++ m.0,
       joined_thrice (λ s. g.K.Sink.leads start s c.put_memory-in-Err-Memory.new.out) puts i.0 p.0 m.0 m.1,
       (
-        beside _ c.args.task.now c.put_memory-in-Err-Memory.result (i.0 ++ p.0 ++ m.0)
+        cut_listing_is_beside _ c.args.task.now c.put_memory-in-Err-Memory.result (i.0 ++ p.0 ++ m.0)
             (ends_wanting c.args.task.now c.loop-at.steps c.loop-at.pending.items i.0 p.0 c.put_memory-in-Err-Memory.result i.2 m.0 was m.2),
         λ e.
             absurd (wanting_not_ok c.put_memory-in-Err-Memory.result m.0 m.2 e),
@@ -164,9 +164,9 @@ returns-in-Some-put_piece-clause-puts g c = λ start puts h.
     let p = c.put_piece.ensures start (puts ++ i.0) i.1 in
     let was = put_was c.as_slice-2.result.now c.loop-at.pending.items _ (Some c.in-Some-put_piece.status) p.0 c.as_slice-2.ensures.value c.in-Some-put_piece.is p.2 in (
       i.0 ++ p.0,
-      joined (λ s. g.K.Sink.leads start s c.put_piece.new.out) puts i.0 p.0 p.1,
+      puts_are_joined (λ s. g.K.Sink.leads start s c.put_piece.new.out) puts i.0 p.0 p.1,
       (
-        beside _ c.args.task.now c.in-Some-put_piece.status (i.0 ++ p.0)
+        cut_listing_is_beside _ c.args.task.now c.in-Some-put_piece.status (i.0 ++ p.0)
             (ends_at_piece c.args.task.now c.loop-at.steps c.loop-at.pending.items i.0 p.0 c.in-Some-put_piece.status i.2 was),
         λ e.
             absurd (put_not_ok c.loop-at.pending.items c.in-Some-put_piece.status p.0 was e),
@@ -186,7 +186,7 @@ returns-clause-puts g c = λ start puts h.
       i.0 ++ p.0 ++ m.0,
       joined_thrice (λ s. g.K.Sink.leads start s c.put_end-2.new.out) puts i.0 p.0 m.0 m.1,
       (
-        beside _ k c.put_end-2.result (i.0 ++ p.0 ++ m.0) (ends_with_line k s c.loop-at.pending.items i.0 p.0 c.put_end-2.result i.2 m.0 Whole was
+        cut_listing_is_beside _ k c.put_end-2.result (i.0 ++ p.0 ++ m.0) (ends_with_line k s c.loop-at.pending.items i.0 p.0 c.put_end-2.result i.2 m.0 Whole was
             (subst E (sym none) tt) m.2),
         λ e. reaches_so_far g.S.StepSettler.begins g.S.Settler.leads g.S.StepSettler.stop k true c.args.settler.now
             c.loop-at.settler s (inr none) c.loop-at.invariant.settled,

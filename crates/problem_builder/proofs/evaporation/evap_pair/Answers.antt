@@ -1,6 +1,6 @@
 use Rattle.problem_builder.proofs.Common.{◌-ℤ◌, ◌∙◌, ap, arith, ints, rules, subst, sym, size, Bound, EvapSource, evap_formula, FitsSigned, to_z-of_z, w64}
 use Rattle.problem_builder.proofs.Common.{IsPositive, delr_positive, delc_positive, capped_pair, small_pair}
-use Rattle.problem_builder.proofs.Fits.{depth_is, extinctions, kept_pair}
+use Rattle.problem_builder.proofs.Fits.{depth_is, extinction_bounds_are_heads, kept_pair}
 use Rattle.problem_builder.proofs.evaporation.evap_pair.Goals as goal
 
 pub depth_pair-depth-requires : goal.depth_pair-depth-requires
@@ -14,14 +14,14 @@ evap_branch-requires-clause-delc c = subst IsPositive (sym c.delc_at.ensures) (d
 
 pub overflow_sub-result : goal.overflow_sub-result
 overflow_sub-result c =
-    let k = (extinctions (record { rate = c.args.rate; surface = c.args.surface; depth = c.args.depth }) c.requires.source).0 in
+    let k = (extinction_bounds_are_heads (record { rate = c.args.rate; surface = c.args.surface; depth = c.args.depth }) c.requires.source).0 in
     let a = ap (λ (b : Bound). b.low) c.head_pair-surface.ensures in
     let b = ap (λ (b : Bound). b.high) c.depth_pair-depth.ensures in
     omega (arith, ints, k.above, k.below, a, b)
 
 pub overflow_sub-result-2 : goal.overflow_sub-result-2
 overflow_sub-result-2 c =
-    let k = (extinctions (record { rate = c.args.rate; surface = c.args.surface; depth = c.args.depth }) c.requires.source).1 in
+    let k = (extinction_bounds_are_heads (record { rate = c.args.rate; surface = c.args.surface; depth = c.args.depth }) c.requires.source).1 in
     let a = ap (λ (b : Bound). b.high) c.head_pair-surface.ensures in
     let b = ap (λ (b : Bound). b.low) c.depth_pair-depth.ensures in
     omega (arith, ints, k.above, k.below, a, b)
@@ -30,7 +30,7 @@ pub returns : goal.returns
 unfolding capped_pair
 returns c =
     let x : EvapSource = record { rate = c.args.rate; surface = c.args.surface; depth = c.args.depth } in
-    let (low, high) = extinctions x c.requires.source in
+    let (low, high) = extinction_bounds_are_heads x c.requires.source in
     let surface = c.head_pair-surface.ensures in
     let depth = c.depth_pair-depth.ensures in
     let a : FitsSigned w64 c.head_pair-surface.result.low = search rules in

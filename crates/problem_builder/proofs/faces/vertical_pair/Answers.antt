@@ -1,5 +1,5 @@
 use Rattle.problem_builder.proofs.Common.{capped_pair, small_pair, ◌≡◌, ◌+◌, ap, sym, subst, arith, ◌∙◌, IsBed, vertical_of, layer_size, dec_at, thickness}
-use Rattle.problem_builder.proofs.Common.{bed_thickness, vkcb_at, IsPositive, span_in, layer_half, layered, delr_positive, delc_positive}
+use Rattle.problem_builder.proofs.Common.{bed_thickness, vkcb_at, IsPositive, span_in, layer_half, cell_below_means_layers, delr_positive, delc_positive}
 use Rattle.conductance_bounds.specs.declared.vertical.Bed.{Bed}
 use Rattle.problem_builder.proofs.Halves.{bed_tests, bed_fits}
 use Rattle.problem_builder.proofs.Fits.{kept_pair}
@@ -23,10 +23,10 @@ returns c =
     c.capped_pair.ensures ∙ ap kept_pair (c.vert_branch.ensures.rounded (thickness m a) (thickness m b) (bed_thickness m a) ∙ ap (λ z. small_pair z c.args.s) plain)
 
 pub vert_half-a-requires-clause-layers : goal.vert_half-a-requires-clause-layers
-vert_half-a-requires-clause-layers c = layered c.args.model.now.grid.layers (layer_size c.args.model.now.grid) c.args.first c.requires.branch.within
+vert_half-a-requires-clause-layers c = cell_below_means_layers c.args.model.now.grid.layers (layer_size c.args.model.now.grid) c.args.first c.requires.branch.within
 
 pub vert_half-b-requires-clause-layers : goal.vert_half-b-requires-clause-layers
-vert_half-b-requires-clause-layers c = layered c.args.model.now.grid.layers (layer_size c.args.model.now.grid) c.args.first c.requires.branch.within
+vert_half-b-requires-clause-layers c = cell_below_means_layers c.args.model.now.grid.layers (layer_size c.args.model.now.grid) c.args.first c.requires.branch.within
 
 pub vert_branch-requires-clause-bed : goal.vert_branch-requires-clause-bed
 vert_branch-requires-clause-bed c =

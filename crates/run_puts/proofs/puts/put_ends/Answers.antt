@@ -1,6 +1,6 @@
 use Rattle.run_puts.proofs.Common.{◌≡◌, ◌<◌, ◌≤◌, ◌++◌, List, length, get_or, Some, None, subst, refl, Put, Text, end_line, IsLast, first_not_ok, Status}
 use Rattle.run_puts.proofs.Common.{JobEnd}
-use Rattle.run_puts.proofs.Pieces.{joined, put_was}
+use Rattle.run_puts.proofs.Pieces.{puts_are_joined, put_was}
 use Rattle.run_puts.proofs.Batches.{one_more, stops_at, ends_whole, text_at, all_texts}
 use Rattle.run_puts.proofs.puts.put_ends.Goals as goal
 
@@ -16,7 +16,7 @@ loop-end-preserved g c = λ start puts h.
     let t = text_at ends k e piece within read c.as_slice.ensures.value in
     let i = c.loop-end.invariant start puts h in
     let p = c.put_piece.ensures start (puts ++ i.0) i.1 in
-    (i.0 ++ p.0, joined (λ s. g.K.Sink.leads start s c.put_piece.new.out) puts i.0 p.0 p.1, one_more ends k piece i.0 p.0 t.0 t.1 i.2 (put_was piece piece _ None p.0 refl c.in_default.is p.2))
+    (i.0 ++ p.0, puts_are_joined (λ s. g.K.Sink.leads start s c.put_piece.new.out) puts i.0 p.0 p.1, one_more ends k piece i.0 p.0 t.0 t.1 i.2 (put_was piece piece _ None p.0 refl c.in_default.is p.2))
 
 pub returns-in-Some : goal.returns-in-Some
 returns-in-Some g c = λ start puts h.
@@ -31,7 +31,7 @@ returns-in-Some g c = λ start puts h.
     let i = c.loop-end.invariant start puts h in
     let p = c.put_piece.ensures start (puts ++ i.0) i.1 in (
       i.0 ++ p.0,
-      joined (λ s. g.K.Sink.leads start s c.put_piece.new.out) puts i.0 p.0 p.1,
+      puts_are_joined (λ s. g.K.Sink.leads start s c.put_piece.new.out) puts i.0 p.0 p.1,
       stops_at ends k piece i.0 p.0 c.in-Some.status t.0 t.1 i.2 (put_was piece piece _ (Some c.in-Some.status) p.0 refl c.in-Some.is p.2),
     )
 
@@ -44,4 +44,4 @@ returns g c = λ start puts h.
     let i = c.loop-end.invariant start puts h in
     let m = c.put_last.ensures start (puts ++ i.0) i.1 in
     let last = subst (λ (s : Status). IsLast end_line s c.put_last.result m.0) c.first_status.ensures m.2 in
-    (i.0 ++ m.0, joined (λ s. g.K.Sink.leads start s c.put_last.new.out) puts i.0 m.0 m.1, ends_whole ends i.0 m.0 c.put_last.result (all_texts ends k i.0 past i.2) last)
+    (i.0 ++ m.0, puts_are_joined (λ s. g.K.Sink.leads start s c.put_last.new.out) puts i.0 m.0 m.1, ends_whole ends i.0 m.0 c.put_last.result (all_texts ends k i.0 past i.2) last)

@@ -1,10 +1,10 @@
 use Rattle.scaled_decimal.proofs.Common.{pos, neg_ℤ, refl, arith, ints}
 use Rattle.scaled_decimal.proofs.Nearest.{down_same}
-use Rattle.scaled_decimal.proofs.Products.{nothing, zero_down, nothing_same, exact_from_at}
+use Rattle.scaled_decimal.proofs.Products.{zero_is_at_most, zero_down, nothing_same, exact_from_at}
 use Rattle.scaled_decimal.proofs.convert.of_units_dn.Goals as goal
 
 pub returns-then-units-eq0-clause-nearest : goal.returns-then-units-eq0-clause-nearest
-returns-then-units-eq0-clause-nearest c = zero_down _ _ refl refl (nothing c.args.units 0 (neg_ℤ (pos c.args.places)) (pos 0) (omega arith))
+returns-then-units-eq0-clause-nearest c = zero_down _ _ refl refl (zero_is_at_most c.args.units 0 (neg_ℤ (pos c.args.places)) (pos 0) (omega arith))
 
 pub returns-then-units-eq0-clause-exact : goal.returns-then-units-eq0-clause-exact
 returns-then-units-eq0-clause-exact c = λ _. nothing_same 0 c.args.units (pos 0) (neg_ℤ (pos c.args.places)) refl (omega arith)

@@ -1,5 +1,5 @@
 use Rattle.scaled_decimal.proofs.Common.{◌+◌, arith, add-one, ints, pow-suc, pow-add, Same-trans, ten_pos}
-use Rattle.scaled_decimal.proofs.Nearest.{uncarried}
+use Rattle.scaled_decimal.proofs.Nearest.{carry_keeps_ratio}
 use Rattle.scaled_decimal.proofs.Between.{few_places}
 use Rattle.scaled_decimal.proofs.convert.to_digits.Goals as goal
 
@@ -20,7 +20,7 @@ loop-m-preserved c =
     record {
       below = omega arith;
       grown = (grown.0 + 4, omega (arith, ints, few, grown.1), rw (pow-add 10 grown.0 4) (omega (arith, grown.2)));
-      same = Same-trans (uncarried c.loop-m.m 4 _ _ (omega (arith, ints, few, grown.1))) c.loop-m.invariant.same;
+      same = Same-trans (carry_keeps_ratio c.loop-m.m 4 _ _ (omega (arith, ints, few, grown.1))) c.loop-m.invariant.same;
     }
 
 pub overflow_sub-e-in-loop-m-2 : goal.overflow_sub-e-in-loop-m-2
@@ -40,7 +40,7 @@ loop-m-2-preserved c =
     record {
       below = omega arith;
       grown = (grown.0 + 1, omega (arith, ints, few, grown.1), rw (add-one, pow-suc 10 grown.0) (omega (arith, grown.2)));
-      same = Same-trans (uncarried c.loop-m-2.m 1 _ _ (omega (arith, ints, few, grown.1))) c.loop-m-2.invariant.same;
+      same = Same-trans (carry_keeps_ratio c.loop-m-2.m 1 _ _ (omega (arith, ints, few, grown.1))) c.loop-m-2.invariant.same;
     }
 
 pub returns-clause-size : goal.returns-clause-size

@@ -1,25 +1,25 @@
 use Rattle.scaled_decimal.proofs.Common.{◌+◌, ◌-◌, ◌*◌, arith, ints}
 use Rattle.scaled_decimal.proofs.Between.{below_ten, power_pos}
 use Rattle.scaled_decimal.proofs.Products.{exact_up_to, far_up_to, aligned_at}
-use Rattle.scaled_decimal.proofs.Sizes.{digits, sum_below, sum_digits}
+use Rattle.scaled_decimal.proofs.Sizes.{size_has_18_digits, sum_below, sum_digits}
 use Rattle.scaled_decimal.proofs.sum.sum_up.Goals as goal
 
 pub round_up-requires-else-gap-ge19-clause-digits : goal.round_up-requires-else-gap-ge19-clause-digits
 round_up-requires-else-gap-ge19-clause-digits c =
-    let a = digits c.args.a c.requires.operands.a_decimal c.requires.a_positive in
+    let a = size_has_18_digits c.args.a c.requires.operands.a_decimal c.requires.a_positive in
     let positive = power_pos c.power_of_ten-power.result.unit c.unsigned_abs-gap.result c.power_of_ten-power.ensures.power in
     sum_digits c.args.a.m c.args.b.m c.power_of_ten-power.result.unit a.0 c.requires.b_positive positive
 
 pub round_up-requires-else-gap-ge19-clause-most : goal.round_up-requires-else-gap-ge19-clause-most
 round_up-requires-else-gap-ge19-clause-most c =
-    let a = digits c.args.a c.requires.operands.a_decimal c.requires.a_positive in
-    let b = digits c.args.b c.requires.operands.b_decimal c.requires.b_positive in
+    let a = size_has_18_digits c.args.a c.requires.operands.a_decimal c.requires.a_positive in
+    let b = size_has_18_digits c.args.b c.requires.operands.b_decimal c.requires.b_positive in
     let positive = power_pos c.power_of_ten-power.result.unit c.unsigned_abs-gap.result c.power_of_ten-power.ensures.power in
     omega (arith, positive, sum_below c.args.a.m c.args.b.m c.power_of_ten-power.result.unit a.1 b.1 positive)
 
 pub returns-then-gap-ge19-clause-nearest : goal.returns-then-gap-ge19-clause-nearest
 returns-then-gap-ge19-clause-nearest c =
-    let b = digits c.args.b c.requires.operands.b_decimal c.requires.b_positive in
+    let b = size_has_18_digits c.args.b c.requires.operands.b_decimal c.requires.b_positive in
     let gap = c.unsigned_abs-gap.result in
     c.round_up.ensures.nearest _ (far_up_to c.args.a.m c.args.b.m (gap - 1) c.args.a.e c.args.b.e _ (omega (arith, ints)) (omega (arith, ints))
     (below_ten c.args.b.m (gap - 1) b.1 (omega arith)) c.requires.b_positive)

@@ -1,6 +1,6 @@
 use Rattle.stated_text.proofs.Common.{rules, ◌≡◌, begins_part, lines, true, err_from_is_err_and}
 use Rattle.stated_text.proofs.Readings.{no_first, no_second, one_part, two_parts}
-use Rattle.stated_text.proofs.Stands.{stands}
+use Rattle.stated_text.proofs.Stands.{parts_stand_in_text}
 use Rattle.stated_text.proofs.parts.read_parts.Goals as goal
 
 pub returns-in_err-first-clause-reads : goal.returns-in_err-first-clause-reads
@@ -13,7 +13,7 @@ returns-then-not-begins_part-clause-reads c = one_part c.args.limits c.args.text
 
 pub returns-then-not-begins_part-clause-stands : goal.returns-then-not-begins_part-clause-stands
 returns-then-not-begins_part-clause-stands c =
-    stands c.args.limits c.args.text.now c.args.bytes.now _ (one_part c.args.limits c.args.text.now c.args.bytes.now _ c.in_ok-first.ensures.reads
+    parts_stand_in_text c.args.limits c.args.text.now c.args.bytes.now _ (one_part c.args.limits c.args.text.now c.args.bytes.now _ c.in_ok-first.ensures.reads
     (search rules))
 
 pub returns-in-Ok-clause-reads : goal.returns-in-Ok-clause-reads
@@ -24,7 +24,7 @@ returns-in-Ok-clause-reads c =
 pub returns-in-Ok-clause-stands : goal.returns-in-Ok-clause-stands
 returns-in-Ok-clause-stands c =
     let another : begins_part (lines c.in_ok-first.first.rest) ≡ true = search rules in
-    stands c.args.limits c.args.text.now c.args.bytes.now _
+    parts_stand_in_text c.args.limits c.args.text.now c.args.bytes.now _
     (two_parts c.args.limits c.args.text.now c.args.bytes.now c.in_ok-first.first c.in_ok-first.ensures.reads another c.in-Ok.second
     (rw c.as_slice-rest.ensures at c.in-Ok.ensures.reads))
 

@@ -1,4 +1,4 @@
-use Rattle.zone_file.proofs.Common.{folder_name, rules, arrays, some_give, zones_of}
+use Rattle.zone_file.proofs.Common.{folder_name, rules, array_files_have_form, some_give, zones_of}
 use Rattle.record_lines.proofs.Forward.{name_held, text_held}
 use Rattle.zone_file.proofs.ZoneLemmas.{zones_give}
 use Rattle.zone_file.proofs.zones.read_zones.Goals as goal

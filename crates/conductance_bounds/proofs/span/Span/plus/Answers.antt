@@ -1,11 +1,11 @@
-use Rattle.conductance_bounds.proofs.Arithmetic.{operands, sum_bounds, sum_ordered, sum_reach}
+use Rattle.conductance_bounds.proofs.Arithmetic.{spans_are_operands, sum_bounds, sum_ordered, sum_reach}
 use Rattle.conductance_bounds.proofs.span.Span.plus.Goals as goal
 
 pub add_dn-requires : goal.add_dn-requires
-add_dn-requires c = record { operands = (operands c.args.self c.args.other c.requires.first c.requires.second c.requires.near).0 }
+add_dn-requires c = record { operands = (spans_are_operands c.args.self c.args.other c.requires.first c.requires.second c.requires.near).0 }
 
 pub add_up-requires : goal.add_up-requires
-add_up-requires c = record { operands = (operands c.args.self c.args.other c.requires.first c.requires.second c.requires.near).1 }
+add_up-requires c = record { operands = (spans_are_operands c.args.self c.args.other c.requires.first c.requires.second c.requires.near).1 }
 
 pub returns-clause-ordered : goal.returns-clause-ordered
 returns-clause-ordered c = sum_ordered c.args.self c.args.other _ c.requires.first c.requires.second c.add_dn.ensures.nearest c.add_up.ensures.nearest

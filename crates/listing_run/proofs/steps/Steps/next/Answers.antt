@@ -1,7 +1,7 @@
 use Rattle.listing_run.proofs.Common.{List, ◌+◌, Contains, arith, drop, refl, subst, sym, true, inr, Bound, TimeStep, StopsAt, IsSettledBy, RestsOrSettles}
 use Rattle.listing_run.proofs.Common.{RestsOrSettlesFirst}
 use Rattle.listing_run.proofs.Moves.{moves_by, solved_by, step_stops}
-use Rattle.listing_run.proofs.Settled.{rests_or_settles, settles}
+use Rattle.listing_run.proofs.Settled.{rests_or_settles, led_problem_settles}
 use Rattle.listing_run.proofs.steps.Steps.next.Goals as goal
 
 pub next_step_with-requires-clause-time : goal.next_step_with-requires-clause-time
@@ -23,7 +23,7 @@ returns-in-Ok-step_flows-clause-next g c =
       is = c.in-Ok-step_flows.ensures.step _ (solved_by k at _ same _ _ c.as_slice.ensures _ c.requires.pairs x c.in-Ok.ensures.step);
       heads = refl;
       encloses = c.in-Ok-step_flows.ensures.encloses _ (moves_by k at _ same _ _ c.as_slice.ensures x c.in-Ok.ensures.encloses);
-      led = subst L c.as_slice.ensures (settles k _ at _ same g.S.Settler.leads _ _ true x.problem c.in-Ok.ensures.step.posed.problem c.in-Ok.ensures.leads);
+      led = subst L c.as_slice.ensures (led_problem_settles k _ at _ same g.S.Settler.leads _ _ true x.problem c.in-Ok.ensures.step.posed.problem c.in-Ok.ensures.leads);
       grid = c.in-Ok.ensures.heads;
       few = omega (arith, within, c.requires.walk.few);
       done = refl;
@@ -44,7 +44,7 @@ returns-in-Err-step_flows-clause-led g c =
     let at = c.in-Some.at in
     let H : List Bound → Type 0 = λ old. RestsOrSettles g.S.Settler.leads k at old c.args.settler.now c.next_step_with.new.settler in
     let T : List TimeStep → Type 0 = λ times. RestsOrSettlesFirst g.S.Settler.leads k times c.args.self.now.heads c.args.settler.now c.next_step_with.new.settler in
-    let led = inr (true, settles k _ at _ c.requires.walk.tables.first.digits g.S.Settler.leads _ _ true c.in-Ok.solved.problem c.in-Ok.ensures.step.posed.problem c.in-Ok.ensures.leads) in
+    let led = inr (true, led_problem_settles k _ at _ c.requires.walk.tables.first.digits g.S.Settler.leads _ _ true c.in-Ok.solved.problem c.in-Ok.ensures.step.posed.problem c.in-Ok.ensures.leads) in
     subst T (sym c.in-Some.ensures.left) (subst H c.as_slice.ensures led)
 
 pub returns-in-Err-clause-stop : goal.returns-in-Err-clause-stop
