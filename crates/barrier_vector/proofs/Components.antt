@@ -75,14 +75,14 @@ module _ (p : List Entries) (ok : IsProblem p) where
       let path_at : ℕ → ℕ = λ k. path_by k (cases_lt k (length p)) in
       let (k, k_in, on, is) = greatest_of (length p) (inside c) path_at c h (true_test (LeadTo p c c) (leading_decided p ok c c) (0, refl)) in
       let (j, way) = test_true (LeadTo p c k) (leading_decided p ok c k) on in
-      let (s, lead_is_path) = inner_path k k_in in
-      let s_is = path_is k s (cases_lt k (length p)) k_in lead_is_path in (
+      let (s, path) = inner_path k k_in in
+      let s_is = path_is k s (cases_lt k (length p)) k_in path in (
         s,
         record {
           cell = k;
           links = j;
           reached = way;
-          is_path = lead_is_path;
+          is_path = path;
           longest = λ i l r on_way r_path.
               let l_in = reaches_within p ok i c l h on_way in
               let le = greatest_covers (length p) (inside c) path_at l l_in (true_test (LeadTo p c l) (leading_decided p ok c l) (i, on_way)) in

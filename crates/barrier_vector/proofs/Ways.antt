@@ -34,10 +34,10 @@ at_start p k b (inr by) = by.1
 
 -- two ways through the cells up to k, if ways through the cells below k are joined at m
 one_more : (p : List Entries) (k a m b : ℕ) → ((c d : ℕ) → Through p k c m → Through p k m d → Through p k c d) → Through p (suc k) a m → Through p (suc k) m b → Through p (suc k) a b
-one_more p k a m b leads_join (inl x) (inl y) = inl (leads_join a b x y)
-one_more p k a m b leads_join (inl x) (inr y) = inr (leads_join a k x y.0, y.1)
-one_more p k a m b leads_join (inr x) (inl y) = inr (x.0, leads_join k b x.1 y)
-one_more p k a m b leads_join (inr x) (inr y) = inr (x.0, y.1)
+one_more p k a m b join (inl x) (inl y) = inl (join a b x y)
+one_more p k a m b join (inl x) (inr y) = inr (join a k x y.0, y.1)
+one_more p k a m b join (inr x) (inl y) = inr (x.0, join k b x.1 y)
+one_more p k a m b join (inr x) (inr y) = inr (x.0, y.1)
 
 -- ways are joined at a cell below k
 joined : (p : List Entries) (k a m b : ℕ) → m < k → Through p k a m → Through p k m b → Through p k a b

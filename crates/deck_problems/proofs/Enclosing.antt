@@ -28,9 +28,9 @@ module _ (a b : FlowModel) (at : TimeStep) (first : IsModel a) (second : IsSecon
 
   -- a problem, since no sum of it is too large
   hull_fits : ModelProblemFits → (s : ℕ) (old : List Bound) (p : List Entries) → AreGridHeads a old → IsHullProblem a b s at old p → IsProblem p
-  hull_fits law s old p constant_head_is_enclosed h =
+  hull_fits law s old p heads h =
       let grid : AreGridHeads b old = record { whole = heads.whole ∙ sym (second_cells a b second).count; range = heads.range } in
-      is_problem h.first h.second p (law a s at old h.first first time constant_head_is_enclosed h.is_first) (law b s at old h.second second.model second_time grid h.is_second) h.hull h.sound
+      is_problem h.first h.second p (law a s at old h.first first time heads h.is_first) (law b s at old h.second second.model second_time grid h.is_second) h.hull h.sound
 
   pub hull_encloses_between : (s : ℕ) (old : List Bound) (p : List Entries) → IsHullProblem a b s at old p → (m : FlowModel) → IsBetween a m b → EnclosesSteps s at old p m
   hull_encloses_between s old p h m between before olds =
@@ -69,8 +69,8 @@ encloses_by a (Some b) s at old p first second time h = hull_encloses_between a 
 
 fits_by : ModelProblemFits → (a : FlowModel) (o : Option FlowModel) (s : ℕ) (at : TimeStep) (old : List Bound) (p : List Entries) → IsModel a →
     IfSome o (IsSecond a) → Contains (times a) at → AreGridHeads a old → IsProblemBy a o s at old p → IsProblem p
-fits_by law a None s at old p first second time constant_head_is_enclosed h = law a s at old p first time constant_head_is_enclosed h
-fits_by law a (Some b) s at old p first second time constant_head_is_enclosed h = hull_fits a b at first second time law s old p constant_head_is_enclosed (hull_parts a b s at old p first second.alike h)
+fits_by law a None s at old p first second time heads h = law a s at old p first time heads h
+fits_by law a (Some b) s at old p first second time heads h = hull_fits a b at first second time law s old p heads (hull_parts a b s at old p first second.alike h)
 
 pair_by : (a : FlowModel) (o : Option FlowModel) (at : TimeStep) (c : ℕ) (lo hi low high : ℤ) → IsPairOf a o at c lo hi → IsPairOf a o at c low high → (lo ≡ low) × (hi ≡ high)
 pair_by a None at c lo hi low high h k = (h.0 ∙ sym k.0, h.1 ∙ sym k.1)

@@ -10,7 +10,7 @@ use Rattle.model_reader.proofs.RchForms.{HasOption, evt_is, rch_is}
 use Rattle.model_reader.proofs.PeriodForms.{IsKnown, IsOption, IsStage, no_option, with_entry_list, with_given_list}
 
 -- a list package, from one stage to the next
-module _ {E : Type 0} (limits : Limits) (kind : Kind E) (entry_place_is_cell : (c : CellId) (ds : List Dec) → kind.place (kind.entry c ds) ≡ c.0) (core : FlowModel) (size : HasSize core.grid) (nrchop : ℤ)
+module _ {E : Type 0} (limits : Limits) (kind : Kind E) (placed : (c : CellId) (ds : List Dec) → kind.place (kind.entry c ds) ≡ c.0) (core : FlowModel) (size : HasSize core.grid) (nrchop : ℤ)
     (put : (p : Period) (xs : List E) → IsKnown limits core.grid core.ibound nrchop (pos 0) p → IsListOf limits kind (cell_count core.grid) p xs →
     IsKnown limits core.grid core.ibound nrchop (pos 0) (with_list kind p xs)) where
   abbrev at_stage : List Period → FlowModel
@@ -23,7 +23,7 @@ module _ {E : Type 0} (limits : Limits) (kind : Kind E) (entry_place_is_cell : (
       GivesOnly (IsStage limits core nrchop (pos 0)) (package_of limits kind file bytes (at_stage ps))
   unfolding package_of
   from_stage file bytes ps all same =
-      then_ _ (lists_are limits kind entry_place_is_cell file core.grid size Known Known put bytes ps all) (λ qs are. ok_gives_only (record { is = refl; same = are.1 ∙ same; each = are.0 }))
+      then_ _ (lists_are limits kind placed file core.grid size Known Known put bytes ps all) (λ qs are. ok_gives_only (record { is = refl; same = are.1 ∙ same; each = are.0 }))
 
   pub package_is : (file bytes : List ℕ) (m : FlowModel) → IsStage limits core nrchop (pos 0) m → GivesOnly (IsStage limits core nrchop (pos 0)) (package_of limits kind file bytes m)
   package_is file bytes m stage =
@@ -70,7 +70,7 @@ module _ (limits : Limits) (core : FlowModel) (size : HasSize core.grid) (files 
       → ((p : Period) (xs : List E) → IsKnown limits core.grid core.ibound nrchop (pos 0) p → IsListOf limits kind (cell_count core.grid) p xs →
       IsKnown limits core.grid core.ibound nrchop (pos 0) (with_list kind p xs))
       → (named : Option (List ℕ)) (m : FlowModel) → IsStage limits core nrchop (pos 0) m → GivesOnly (IsStage limits core nrchop (pos 0)) (where_named named (file_in (package_of limits kind) files) m)
-  list_stage kind entry_place_is_cell nrchop put named m stage = named_is _ _ m stage (λ name bytes. package_is limits kind entry_place_is_cell core size nrchop put name bytes m stage) named
+  list_stage kind placed nrchop put named m stage = named_is _ _ m stage (λ name bytes. package_is limits kind placed core size nrchop put name bytes m stage) named
 
   entries_stage : (k : ListKind) (named : Option (List ℕ)) (m : FlowModel) → IsStage limits core (pos 0) (pos 0) m
       → GivesOnly (IsStage limits core (pos 0) (pos 0)) (where_named named (file_in (package_of limits (kind_of k)) files) m)

@@ -74,9 +74,9 @@ module _ (m : FlowModel) (s : ℕ) (at : TimeStep) (old : List Bound) (c : ℕ) 
   pub flows_are : (o : Option Flow) (recharge : Option Dec) (ws : List Flow) (entries : List Entry) (first second : List Flow) →
       first ≡ [] ++ option_to_list o → o ≡ option_map (λ rate. whole_flow m s c (Received rate)) recharge → ws ≡ filter_map (well_of s) entries → second ≡ first ++ ws →
       second ≡ map (whole_flow m s c) (map Received (option_to_list recharge) ++ filter_map as_well entries)
-  flows_are o recharge ws entries first second e recharge_is_whole_flow h f =
+  flows_are o recharge ws entries first second e received h f =
       let F = whole_flow m s c in
-      let a : first ≡ map F (map Received (option_to_list recharge)) = e ∙ ap option_to_list recharge_is_whole_flow ∙ made_list (λ rate. F (Received rate)) recharge ∙ sym
+      let a : first ≡ map F (map Received (option_to_list recharge)) = e ∙ ap option_to_list received ∙ made_list (λ rate. F (Received rate)) recharge ∙ sym
       (map-map F Received (option_to_list recharge)) in
       let b : ws ≡ map F (filter_map as_well entries) = h ∙ made_of F as_well (well_of s) wells entries in
       f ∙ (λ t. a t ++ b t) ∙ sym (map-append F (map Received (option_to_list recharge)) (filter_map as_well entries))
