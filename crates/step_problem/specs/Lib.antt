@@ -9,7 +9,7 @@ pub mod StepRefusals
 pub use Rattle.step_problem.specs.Balances.{balance, bound_on, branch_flow, drain_flow, evap_flow, fixed_flow, flow_bound, least, link_flow, lower_balance}
 pub use Rattle.step_problem.specs.Balances.{most, river_flow, total, upper_balance}
 pub use Rattle.step_problem.specs.Conditions.{CellFits, DrainFits, EvapFits, FixedFits, IsHead, IsMagnitudeAtMost, IsProblem, LinkFits, LinksFit, RiverFits}
-pub use Rattle.step_problem.specs.Conditions.{conductance_of, deep_river, flow_magnitude, full_rate, head_limit, magnitude}
+pub use Rattle.step_problem.specs.Conditions.{cell_limit, conductance_of, deep_river, flow_magnitude, full_rate, head_limit, magnitude}
 pub use Rattle.step_problem.specs.Entries.{ends_in, entries_at, link_at, no_entries, no_link}
 pub use Rattle.step_problem.specs.Heads.{AreOnTheWay, CanRise, CanSink, Edges, Ge, IsBarrier, IsCertificate, IsRaise, IsSettledPair, IsSink, OpenHeads}
 pub use Rattle.step_problem.specs.Heads.{RoundsSettleBoth, head_at, lower_at, no_bound, upper_at}
