@@ -46,7 +46,7 @@ one_more_layer {X = X} size P n xs ys h many here = record {
 
 module _ (files : FileSet) (file : List ℕ) where
   pub layer_is : (rows cols : ℕ) (left : Left) → GivesOnly (λ x. (length x.0 ≡ rows * cols) × All IsDec x.0) (real_layer files file rows cols left)
-  layer_is = arrays.real_layers files file
+  layer_is = array_files_have_form.real_layers files file
 
   -- a layer that the file has, or one number everywhere
   pub layer_or_is : (rows cols : ℕ) (b : Bool) (other : Dec) (left : Left) → IsDec other

@@ -11,8 +11,8 @@ module _ (files : FileSet) (file bytes : List ℕ) where
   basics_are : (g : Grid) → GivesOnly (λ x. (length x.0 ≡ cell_count g) × (length x.1 ≡ cell_count g) × All IsDec x.1) (basics_of files file bytes g)
   unfolding basics_of
   basics_are g =
-      goes_on (option_line file (without_comments (left_from 1 bytes))) _ (λ options a. then_ _ (arrays.integer_grids files file g.layers g.rows g.cols options.1)
-      (λ ibound b. goes_on (head_item file ibound.1) _ (λ hnoflo c. then_ _ (arrays.real_grids files file g.layers g.rows g.cols hnoflo.1)
+      goes_on (option_line file (without_comments (left_from 1 bytes))) _ (λ options a. then_ _ (array_files_have_form.integer_grids files file g.layers g.rows g.cols options.1)
+      (λ ibound b. goes_on (head_item file ibound.1) _ (λ hnoflo c. then_ _ (array_files_have_form.real_grids files file g.layers g.rows g.cols hnoflo.1)
       (λ strt d. ok_gives_only (b, d.0, d.1)))))
 
   pub bas_is : (m : FlowModel) → GivesOnly (HasBasics m) (bas_of files file bytes m)

@@ -92,8 +92,8 @@ module _ (files : FileSet) (file : List ℕ) where
   settings_are : (layers : ℕ) (left : Left) → GivesOnly (λ x. All IsDec x.0.chani × ((length x.0.layvka ≡ layers) × All IsShort x.0.layvka)) (settings_of file layers left)
   unfolding settings_of
   settings_are layers left =
-      goes_on (zero_list file layers left) _ (λ laytyp a. goes_on (zero_list file layers laytyp.1) _ (λ layavg b. then_ _ (lists.numbers file layers layavg.1)
-      (λ chani c. then_ _ (lists.integers file layers chani.1) (λ layvka d. goes_on (zero_list file layers layvka.1) _ (λ laywet e. ok_gives_only (c.1, d))))))
+      goes_on (zero_list file layers left) _ (λ laytyp a. goes_on (zero_list file layers laytyp.1) _ (λ layavg b. then_ _ (list_files_have_form.numbers file layers layavg.1)
+      (λ chani c. then_ _ (list_files_have_form.integers file layers chani.1) (λ layvka d. goes_on (zero_list file layers layvka.1) _ (λ laywet e. ok_gives_only (c.1, d))))))
 
   contents_are : (bytes : List ℕ) (g : Grid) (stores : Bool) →
       GivesOnly (λ c. ((length c.layvka ≡ g.layers) × All IsShort c.layvka) × AreProperties g stores g.layers c.properties)

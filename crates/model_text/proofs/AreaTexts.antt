@@ -65,7 +65,7 @@ module _ (files : FileSet) (file : List ℕ) (g : Grid) (size : HasSize g) where
       → Takes (layers_at files file g) (integer_array g.rows g.cols xs) (λ left. (xs, left))
   unfolding layers_at
   layers_anew xs whole short good =
-      last_takes _ (arrays.integer_layers files file g.rows g.cols xs size.cols.0 whole short)
+      last_takes _ (arrays_read_back.integer_layers files file g.rows g.cols xs size.cols.0 whole short)
       (λ left. rw (layers_pass xs good) refl)
 
   -- an array of layers, which a period has under option 2

@@ -35,7 +35,7 @@ module _ {X : Type 0} (read : Left → Result (List X × Left) Refusal) (g : Gri
 module _ (files : FileSet) (file : List ℕ) (m : FlowModel) (d : IsDiscretized m) (b : IsBasic m) where
   integer_layer_takes : (k : ℕ) → k < m.grid.layers → Takes (integer_layer files file m.grid.rows m.grid.cols) (integer_layer_lines m.grid m.ibound k) (λ left. (layer_values m.grid k m.ibound, left))
   integer_layer_takes k low =
-      arrays.integer_layers files file m.grid.rows m.grid.cols (layer_values m.grid k m.ibound) d.grid.size.cols.0
+      arrays_read_back.integer_layers files file m.grid.rows m.grid.cols (layer_values m.grid k m.ibound) d.grid.size.cols.0
       (layer_length m.grid k m.ibound low b.ibound.0) (layer_has m.grid (λ z. IsShort z) k m.ibound b.ibound.1)
 
   ibound_takes : Takes (layers whole files file m.grid.layers m.grid.rows m.grid.cols) (bas_item_2 m) (λ left. (m.ibound, left))

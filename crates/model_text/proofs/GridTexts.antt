@@ -44,7 +44,7 @@ widths_take files file count xs some h =
 
 module _ (files : FileSet) (file : List ℕ) (g : Grid) (size : HasSize g) where
   pub reals_take : (xs : List Dec) → (length xs ≡ layer_size g) × All IsDec xs → Takes (real_layer files file g.rows g.cols) (real_array g.rows g.cols xs) (λ left. (xs, left))
-  reals_take xs h = arrays.layers files file g.rows g.cols xs size.cols.0 h.0 h.1
+  reals_take xs h = arrays_read_back.layers files file g.rows g.cols xs size.cols.0 h.0 h.1
 
   -- a layer of a list by cell
   pub layer_takes : (xs : List Dec) → (length xs ≡ cell_count g) × All IsDec xs → (k : ℕ) → k < g.layers →

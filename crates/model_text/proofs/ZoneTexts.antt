@@ -54,7 +54,7 @@ module _ (files : FileSet) (file : List ℕ) (g : Grid) (size : HasSize g) (zone
   zones_take : Takes (layers whole files file g.layers g.rows g.cols) (each_layer g (integer_layer_lines g (map pos zones))) (λ left. (map pos zones, left))
   unfolding layers integer_layer
   zones_take = layers_take (layer_array whole files file g.rows g.cols) g (integer_layer_lines g (map pos zones)) (map pos zones) as_many (λ k low.
-      arrays.integer_layers files file g.rows g.cols (layer_values g k (map pos zones)) size.cols.0
+      arrays_read_back.integer_layers files file g.rows g.cols (layer_values g k (map pos zones)) size.cols.0
       (layer_length g k (map pos zones) low as_many) (layer_has g (λ z. IsShort z) k (map pos zones) short))
 
 pub zones_read : ZonesReadAsWritten

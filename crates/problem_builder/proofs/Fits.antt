@@ -82,8 +82,8 @@ module _ (x : EvapSource) (v : IsEvapValid x) where
       let order = floor_below (number x.surface) 9 _ _ (head_floor x.surface) (head_ceiling x.surface) in
       record {
         ordered = capped_ordered (evap_term m x.rate x.depth c) s (evap_holds m x c v.depth);
-        ext_lo = extinctions.0;
-        ext_hi = extinctions.1;
+        ext_lo = extinction_bounds_are_heads.0;
+        ext_hi = extinction_bounds_are_heads.1;
         surf_lo = surf.0;
         surf_hi = surf.1;
         deep = omega (arith, ints, depths.0, depths.1, order);

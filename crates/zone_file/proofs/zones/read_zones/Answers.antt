@@ -15,7 +15,7 @@ pub test_zones-requires-clause-count : goal.test_zones-requires-clause-count
 test_zones-requires-clause-count g c =
     let grid = c.args.model.now.grid in
     rw c.deref-2.ensures.value (some_give (λ files.
-    arrays.integer_grids files c.in_ok-file.file.now grid.layers grid.rows grid.cols c.new-lines.result) c.some_agree.ensures (λ files agree.
+    array_files_have_form.integer_grids files c.in_ok-file.file.now grid.layers grid.rows grid.cols c.new-lines.result) c.some_agree.ensures (λ files agree.
     c.in_ok-zones.ensures.layers files agree))
 
 pub returns-clause-count : goal.returns-clause-count
