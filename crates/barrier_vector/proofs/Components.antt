@@ -1,7 +1,6 @@
 -- What a component of a problem has: a test, its sum of deep flows, a least cell, and a longest path to that cell.
-use Rattle.barrier_vector.proofs.Common.{◌≡◌, ℕ, ◌<◌, ◌≤◌, ◌⊎◌, inl, inr, refl, ap, arith, List, length, Bool, cond, ℤ, pos, ◌<ℤ◌, ◌≤ℤ◌, cases_lt, ints}
-use Rattle.barrier_vector.proofs.Common.{by_lt_z, IsProblem, Entries, entries_at, IsComponent, IsCarried, sum_inside, deep_low, LeastRoot, IsInnerPath}
-use Rattle.barrier_vector.proofs.Common.{IsLongest, lack, sum-same}
+use Rattle.barrier_vector.proofs.Common.{◌≡◌, ℕ, ◌<◌, ◌≤◌, ◌⊎◌, inl, inr, refl, ap, arith, List, length, Bool, cond, ℤ, pos, cases_lt, ints, by_lt_z, IsProblem}
+use Rattle.barrier_vector.proofs.Common.{Entries, entries_at, IsComponent, IsCarried, sum_inside, deep_low, LeastRoot, IsInnerPath, IsLongest, lack, sum-same}
 use Rattle.barrier_vector.proofs.CarriedRoots.{reaches_within}
 use Rattle.barrier_vector.proofs.Uniques.{inner_one, same_tests}
 use Rattle.barrier_vector.proofs.Decided.{Decided, test_of, test_true, true_test, first_or_none, lead_is_path}

@@ -67,9 +67,6 @@ need side p = sum_by (need_on side) p
 abbrev pub lack : List Entries → ℕ
 lack = need Low
 
-abbrev pub surplus : List Entries → ℕ
-surplus = need High
-
 -- a flow, at most 2 ^ 126. Over any conductance of a problem, which is below 2 ^ 60, so great a flow drops farther than heads can lie apart.
 abbrev pub capped_flow : ℕ → ℕ
 capped_flow q = min q (2 ^ 126)

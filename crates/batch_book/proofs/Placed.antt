@@ -1,7 +1,6 @@
 -- Ends in their places.
-use Rattle.batch_book.proofs.Common.{◌≡◌, ℕ, zero, suc, ◌+◌, ◌-◌, ◌<◌, List, [], ◌∷◌, ◌++◌, length, refl, sym, ap, ◌∙◌, subst, get_or, true, false, true≢false}
-use Rattle.batch_book.proofs.Common.{inl, inr, arith, IfSome, is_none, slice_get, end_at, first_of, AreOwn, HasEnd, IsPut, IsMissing, AreJobEnds, those_there}
-use Rattle.batch_book.proofs.Common.{Some}
+use Rattle.batch_book.proofs.Common.{◌≡◌, ℕ, zero, suc, ◌+◌, ◌-◌, ◌<◌, List, [], ◌∷◌, ◌++◌, length, refl, sym, ap, ◌∙◌, subst, get_or, false, true≢false, inl}
+use Rattle.batch_book.proofs.Common.{inr, arith, IfSome, is_none, slice_get, end_at, first_of, AreOwn, HasEnd, IsPut, IsMissing, AreJobEnds, those_there, Some}
 use Rattle.std.proofs.lemmas.Bool.{cases_eq, cases_lt}
 use Rattle.std.proofs.lemmas.List.{append-nil, get_or_read}
 use Rattle.std.specs.Prelude.{Option, None}
@@ -19,10 +18,6 @@ has_more places place x h read test before k l =
       | inl same ↦ (e, ap (end_at places) same ∙ (sym (get_or_read places place x h read None) ∙ is))
       | inr ne ↦ before k (omega arith)
     ]
-
-none_of : {E : Type 0} (x : Option E) → is_none x ≡ true → x ≡ None
-none_of None h = refl
-none_of (Some e) h = absurd (true≢false (sym h))
 
 pub none_left : {E : Type 0} (ends : List E) (rest : List (Option E)) → length rest ≡ 0 → ends ++ those_there rest ≡ ends
 none_left ends [] h = append-nil ends

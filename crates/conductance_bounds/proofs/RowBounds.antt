@@ -12,7 +12,8 @@ pub row_encloses : (a b : Half) (width : Dec) (s : ℕ) → IsHalf a → IsHalf 
 row_encloses a b width s p q w f g x y =
     term_pair_encloses s (row_gives (size width) (size a.along) (Number (size a.hk)) (Within a.thick_lo a.thick_hi f) (size b.along) (Number (size b.hk)) (Within b.thick_lo b.thick_hi g)
     (size_positive width w) (size_positive a.along p.along) (size_positive b.along q.along)
-    (input_is_factor a.hk p.hk) (within_is_factor a.thick_lo a.thick_hi f p.thick.low_size.positive x) (input_is_factor b.hk q.hk) (within_is_factor b.thick_lo b.thick_hi g q.thick.low_size.positive y))
+    (input_is_factor a.hk p.hk) (within_is_factor a.thick_lo a.thick_hi f p.thick.low_size.positive x) (input_is_factor b.hk q.hk)
+    (within_is_factor b.thick_lo b.thick_hi g q.thick.low_size.positive y))
 
 pub column_encloses : (a b : ColHalf) (width : Dec) (s : ℕ) → IsColHalf a → IsColHalf b → IsPositive width → (f g : Ratio) → IsBetween a.thick_lo a.thick_hi f → IsBetween b.thick_lo b.thick_hi g →
     PairEncloses (column_of a b width f g) s (column_exact a b width f g)

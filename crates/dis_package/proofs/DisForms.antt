@@ -1,11 +1,11 @@
 -- What a file of the discretization gives.
 use Rattle.dis_package.proofs.Common.{◌≡◌, ℕ, ℤ, List, length, All, refl, ◌≤◌, sum_by, sym, subst, arith, suc, ◌+◌, nat_le, ◌&&◌, ◌∷◌, IsDec, FileSet, refusal}
 use Rattle.dis_package.proofs.Common.{words, Left, left_from, without_comments, line_at, number_at, number, FlowModel, item_is, GivesOnly, IsShort}
-use Rattle.dis_package.proofs.Common.{ok_gives_only, goes_on, then_, if_passed, gives_only_less, repeated_gives, All-nil, All-cons, Period, model_of_grid}
-use Rattle.dis_package.proofs.Common.{dis_of, IsNewPeriod, periods_of, IsTime, kind_or_refusal, is_time, time_of, period_of, period_at, IsBegun, kind_of}
-use Rattle.dis_package.proofs.Common.{Limits, and_parts, leb-true, BadGrid, number_is, IsGridWithin, All-weaker, IsTimed, Bool, true, false, not, ◌||◌, ◌⊎◌}
-use Rattle.dis_package.proofs.Common.{inl, inr, ◌∙◌, if◌then◌else◌, size, is_growth, IsGrowing, number_one, not-true, is_at_most, is_at_least, is_one}
-use Rattle.dis_package.proofs.Common.{is_positive, positive_of, one_of}
+use Rattle.dis_package.proofs.Common.{ok_gives_only, goes_on, then_, if_passed, gives_only_less, repeated_gives, All-nil, All-cons, Period, dis_of, IsNewPeriod}
+use Rattle.dis_package.proofs.Common.{periods_of, IsTime, kind_or_refusal, is_time, time_of, period_of, period_at, IsBegun, kind_of, Limits, and_parts}
+use Rattle.dis_package.proofs.Common.{leb-true, BadGrid, number_is, IsGridWithin, All-weaker, IsTimed, Bool, true, false, not, ◌||◌, ◌⊎◌, inl, inr, ◌∙◌}
+use Rattle.dis_package.proofs.Common.{if◌then◌else◌, size, is_growth, IsGrowing, number_one, not-true, is_at_most, is_at_least, is_one, is_positive}
+use Rattle.dis_package.proofs.Common.{positive_of, one_of}
 use Rattle.std.proofs.lemmas.List.Sums.{sum_by-cons}
 use Rattle.dis_package.proofs.FrameForms.{head_is, count_is}
 use Rattle.dis_package.proofs.GridForms.{grid_is}

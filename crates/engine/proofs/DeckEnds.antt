@@ -95,7 +95,8 @@ module _ (limits : Limits) (name : Text) (to : Option Text) (files : FileSet) (c
     refused_by : (refusal : Refusal) → IsDecksRefusal (read_by_name name (reads limits files))
         (option_map (λ last. read_by_name last (second_in limits files)) to) refusal → IsEnd (refused_line refusal) (status.Refused refusal) end puts →
         Answers Here n m end puts
-    refused_by refusal (of_first h) e = of_case (Refuses refusal) (sym (ap (λ x. case_decks x (option_map (λ last. read_by_name last (second_in limits files)) to) come) h)) (refused_line_answers refusal e)
+    refused_by refusal (of_first h) e = of_case (Refuses refusal)
+        (sym (ap (λ x. case_decks x (option_map (λ last. read_by_name last (second_in limits files)) to) come) h)) (refused_line_answers refusal e)
     refused_by refusal (of_second a h k) e = of_case (Refuses refusal) (sym (λ i. case_decks (h i) (k i) come)) (refused_line_answers refusal e)
     refused_by refusal (of_both a b d h k first never same) e =
         of_case (Comparing a b (come (two a b.model))) (sym (λ i. case_decks (h i) (k i) come)) (lone_defined (refused_line refusal) (status.Refused refusal)

@@ -31,7 +31,12 @@ module _ {case : Case} {n m : ℕ} {end : Status} {puts : List Put} where
   lone_defined line meant d valid h = record { run = lone_line_is_run (Due (Rose n m) ⊥ case) (CutOf case) line meant end puts (defined meant (line ∷ []) d) h; valid = inr valid }
 
   pub read_fault_line_answers : ReadsFolder case → Rose n m → IsLast read_fault_line status.ReadFault end puts → Answers case n m end puts
-  read_fault_line_answers worded rose h = record { run = lone_line_is_run (Due (Rose n m) ⊥ case) (CutOf case) read_fault_line status.ReadFault end puts (unread (rose, worded)) (inl h); valid = inl (read_stops end puts h) }
+  read_fault_line_answers worded rose h =
+      record {
+        run = lone_line_is_run (Due (Rose n m) ⊥ case) (CutOf case) read_fault_line status.ReadFault end puts (unread (rose, worded)) (inl h);
+        valid =
+            inl (read_stops end puts h);
+      }
 
   -- as the case defines
   pub ends_defined : IsRun (Defines case) (CutOf case) end puts → IsValid case → Answers case n m end puts

@@ -36,7 +36,8 @@ agrees_itself (x ∷ xs) = (record { flows = refl; links = refl; fixed = fixed_a
 over_same : (m : ℕ) (f g : Fraction) (z : ℤ) → Same f g → IsOver m f z → IsOver m g z
 over_same m f g z same h = record {
   is = cancel_same (den f) _ _ (omega arith)
-      (last_factors_swap g.num (pos m) (pos (den f)) ∙ ap (λ (x : ℤ). x *ℤ pos m) (sym same.same) ∙ last_factors_swap f.num (pos (den g)) (pos m) ∙ ap (λ (x : ℤ). x *ℤ pos (den g)) h.is ∙ last_factors_swap z (pos (den f)) (pos (den g)));
+      (last_factors_swap g.num (pos m) (pos (den f)) ∙ ap (λ (x : ℤ). x *ℤ pos m) (sym same.same) ∙ last_factors_swap f.num (pos (den g)) (pos m) ∙ ap
+      (λ (x : ℤ). x *ℤ pos (den g)) h.is ∙ last_factors_swap z (pos (den f)) (pos (den g)));
 }
 
 -- what holds of lists place by place passes on to a list that agrees with the first one
@@ -127,7 +128,8 @@ module _ (m : FlowModel) (p n : ℕ) (old new : ℕ → Fraction) where
 pub over_again : (d k : ℕ) (f : Fraction) (x y : ℤ) → 0 < d → x *ℤ pos k ≡ y *ℤ pos d → IsOver d f x → IsOver k f y
 over_again d k f x y some e over = record {
   is = cancel_same d _ _ some
-      (last_factors_swap f.num (pos k) (pos d) ∙ ap (λ (z : ℤ). z *ℤ pos k) over.is ∙ last_factors_swap x (pos (den f)) (pos k) ∙ ap (λ (z : ℤ). z *ℤ pos (den f)) e ∙ last_factors_swap y (pos d) (pos (den f)));
+      (last_factors_swap f.num (pos k) (pos d) ∙ ap (λ (z : ℤ). z *ℤ pos k) over.is ∙ last_factors_swap x (pos (den f)) (pos k) ∙ ap (λ (z : ℤ).
+      z *ℤ pos (den f)) e ∙ last_factors_swap y (pos d) (pos (den f)));
 }
 
 -- the same heads, however they and those before are written, have zero balances at the same time

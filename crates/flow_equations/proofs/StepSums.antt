@@ -34,7 +34,8 @@ total_more f [] x = same_by (value_plus (own_value (f x)) (value_ratio 0)) (valu
 total_more f (y ∷ xs) x = Same-trans (plus-Same (Same-self (f y)) (total_more f xs x)) (joined (f y) (ratio_total f xs) (f x))
   where
     joined : (a b c : Ratio) → Same (plus a (plus b c)) (plus (plus a b) c)
-    joined a b c = same_by (value_plus (own_value a) (value_plus (own_value b) (own_value c))) (value_plus (value_plus (own_value a) (own_value b)) (own_value c)) (three_sums a.num (den a) b.num (den b) c.num (den c))
+    joined a b c = same_by (value_plus (own_value a) (value_plus (own_value b) (own_value c)))
+        (value_plus (value_plus (own_value a) (own_value b)) (own_value c)) (three_sums a.num (den a) b.num (den b) c.num (den c))
 
 -- terms of a period's length P, a sum g of powers above 0, and others
 module _ (P g : Ratio) (some : 0 < g.num) where
@@ -162,4 +163,5 @@ module _ (p : Period) (h : Lasts p) where
 
   pub storage_times_length : (m : FlowModel) (n c : ℕ) → Same (times (storage m p n c) (step_length p n)) (storage_capacity m c)
   unfolding storage step_length
-  storage_times_length m n c = capacity_over P (G p.nstp) whole_sum (storage_capacity m c) (power T (n - 1)) (size_positive p.perlen h.perlen) (power-positive T (n - 1) (size_positive p.tsmult h.tsmult))
+  storage_times_length m n c = capacity_over P (G p.nstp) whole_sum (storage_capacity m c) (power T (n - 1)) (size_positive p.perlen h.perlen)
+      (power-positive T (n - 1) (size_positive p.tsmult h.tsmult))

@@ -78,7 +78,9 @@ entries_put k s xs = refl
 
 pub lists_keep_limits : ListsKeepLimits
 lists_keep_limits = record {
-  entries = λ limits k file bytes g ps size. gives_only_less (lists_are limits (kind_of k) (entry_place_is_cell k) file g size (λ p. Unit {0}) (λ p. IsEntryList (cell_count g) (entries_in k p.stresses))
+  entries = λ limits k file bytes g ps size.
+      gives_only_less (lists_are limits (kind_of k) (entry_place_is_cell k) file g size (λ p. Unit {0}) (λ p.
+      IsEntryList (cell_count g) (entries_in k p.stresses))
       (λ p xs known is. rw (entries_put k p.stresses xs) (entry_list limits k (cell_count g) p xs is)) bytes ps (λ i d lt. tt)) (λ qs is. is.0);
   given = λ limits file bytes g ps size. gives_only_less (lists_are limits given_heads (λ c xs. refl) file g size (λ p. Unit {0}) (λ p. IsGivenList (cell_count g) p.stresses.given)
       (λ p xs known is. given_list limits (cell_count g) p xs is) bytes ps (λ i d lt. tt)) (λ qs is. is.0);

@@ -35,7 +35,8 @@ module _ (k : Task) (s : ℕ) (at : TimeStep) (old : List Bound) (digits : s ≡
 
   module _ {S : Type 0} (leads : S → List Entries → Edges → Bool → S → Type 0) (before after : S) where
     -- a step's problem, ended with heads or without
-    pub led_problem_settles : (ended : Bool) (p : List Entries) → IsProblemFor k.decks s at old p → LeadsBy leads k.limits k.decks at old p ended before after → IsSettledBy leads k at old ended before after
+    pub led_problem_settles : (ended : Bool) (p : List Entries) → IsProblemFor k.decks s at old p → LeadsBy leads k.limits k.decks at old p ended before after →
+        IsSettledBy leads k at old ended before after
     led_problem_settles ended p is l =
         let P : ℕ → Type 0 = λ n. IsPosed k.limits k.decks n at old p l.barrier in
         record {

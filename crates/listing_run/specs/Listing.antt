@@ -16,7 +16,7 @@ use Rattle.budget_bounds.specs.{BudgetEncloses}
 use Rattle.model_types.specs.declared.model.FlowModel.{FlowModel}
 use Rattle.model_types.specs.{start_head, times}
 use Rattle.flow_equations.specs.{exact_step, heads_of, variable_heads, Solves}
-use Rattle.deck_span.specs.{IsBetween, SolvesBetween, SolvesBetweenFrom}
+use Rattle.deck_span.specs.{SolvesBetween, SolvesBetweenFrom}
 use Rattle.deck_problems.specs.{EachMember}
 use Rattle.step_chain.specs.{LiesWithin, IsMove}
 use Rattle.zone_flows.specs.{EncloseExact}

@@ -105,7 +105,7 @@ module _ (files : FileSet) (file : List ℕ) (g : Grid) where
   unfolding layers_at
   layers_are left =
       then_ _ (array_files_have_form.integer_layers files file g.rows g.cols left) (λ xs many.
-          goes_on (layers_tested file g xs.0) _ (λ tested e. ok_gives_only (record { whole = many; inside = tested_are xs.0 tested e })))
+      goes_on (layers_tested file g xs.0) _ (λ tested e. ok_gives_only (record { whole = many; inside = tested_are xs.0 tested e })))
 
   layers_now : (size : HasSize g) (option : ℤ) (anew : Bool) (before : List ℤ) (left : Left) → (is_int option 2 ≡ true → anew ≡ false → AreOfGrid g before) →
       (is_int option 2 ≡ false → (anew ≡ false) × (before ≡ []))

@@ -28,7 +28,8 @@ module _ (kind : ArrayKind) (files : FileSet) (file : List ℕ) (g : Grid) (size
     tested_is : (s : InForce × Left) → State s → GivesOnly (λ x. IsTested kind file g ibound option x.0 × State x.1) (tested_area kind files file g ibound option s)
     unfolding tested_area
     tested_is s so =
-        then_ _ (area_is files file g kind.evaporates size option s so) (λ area is. goes_on (kind.test file g ibound option area.0) _ (λ test e. ok_gives_only (record { has = is.0; passed = e }, is.1)))
+        then_ _ (area_is files file g kind.evaporates size option s so) (λ area is.
+        goes_on (kind.test file g ibound option area.0) _ (λ test e. ok_gives_only (record { has = is.0; passed = e }, is.1)))
 
     period_is : (p : Period) (s : InForce × Left) → State s → P p → GivesOnly (λ x. Q option x.0 × State x.1 × (steps x.0 ≡ steps p)) (period_at kind files file g ibound option p s)
     unfolding period_at

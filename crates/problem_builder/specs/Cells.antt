@@ -1,7 +1,6 @@
 -- The cells of a step's problem: for each source of a variable cell one entry, in the order of the sources. The
 -- model's definitions say what a source is; these say by which whole numbers it is known (`whole_river` and so on).
 use Rattle.std.specs.Prelude.{ℕ, ◌-ℤ◌, List, map}
-use Rattle.decimal_input.specs.declared.dec.Dec.{Dec}
 use Rattle.step_problem.specs.declared.heads.Bound.{Bound}
 use Rattle.step_problem.specs.declared.entry.FixedKind.{FixedKind}
 use Rattle.step_problem.specs.declared.entry.FixedKind.TheVariants.{Constant, General, Storage}
@@ -18,7 +17,7 @@ use Rattle.step_problem.specs.{lower_at, upper_at}
 use Rattle.model_types.specs.declared.face.Face.{Face}
 use Rattle.model_types.specs.declared.model.FlowModel.{FlowModel}
 use Rattle.model_types.specs.declared.time_steps.TimeStep.{TimeStep}
-use Rattle.model_types.specs.{period_at, index_of, EvapSource, FixedSource, FlowSource, RiverSource, DrainSource, variable_faces, flow_sources, fixed_sources}
+use Rattle.model_types.specs.{index_of, EvapSource, FixedSource, FlowSource, RiverSource, DrainSource, variable_faces, flow_sources, fixed_sources}
 use Rattle.model_types.specs.{river_sources, drain_sources, evap_sources, ToConstant, ToGeneral, FromStorage, Pumped, Received, variable_below, variable_cells}
 use Rattle.conductance_bounds.specs.declared.pair.Pair.{Pair}
 use Rattle.conductance_bounds.specs.declared.pair.FlowPair.{FlowPair}

@@ -91,7 +91,8 @@ module _ (may : List ℕ → Type 0) where
   line_leaves file left rest line e h = record { each = ((line_held (LineMay may) file left h.each).gives (line, rest) e).1 }
 
 -- a reading that keeps all lines leaves lines of which the same is known
-pub rest_has_its_lines : {X : Type 0} (may : List ℕ → Type 0) {read : Result (X × Left) Refusal} (x : X) (rest : Left) → read ≡ Ok (x, rest) → GivesOnly (λ x. All (LineMay may) x.1.lines) read → LinesMay may rest
+pub rest_has_its_lines : {X : Type 0} (may : List ℕ → Type 0) {read : Result (X × Left) Refusal} (x : X) (rest : Left) → read ≡ Ok (x, rest) →
+    GivesOnly (λ x. All (LineMay may) x.1.lines) read → LinesMay may rest
 rest_has_its_lines may x rest e h = record { each = h.gives (x, rest) e }
 
 -- what might be asked for may still be

@@ -51,5 +51,6 @@ module _ (limits : Limits) (text : List ℕ) where
       by_test first h false e = rw e (ok_gives_only (one_stands bytes first h))
 
 -- by the definition of what is read
-pub parts_stand_in_text : (limits : Limits) (text bytes : List ℕ) (p : Parts) → parts_in limits text bytes ≡ Ok p → StandsIn bytes p.first.model (option_map (λ b. b.model) p.second) p.first.zones (last_of p).rest
+pub parts_stand_in_text : (limits : Limits) (text bytes : List ℕ) (p : Parts) → parts_in limits text bytes ≡ Ok p →
+    StandsIn bytes p.first.model (option_map (λ b. b.model) p.second) p.first.zones (last_of p).rest
 parts_stand_in_text limits text bytes p h = (parts_stand limits text bytes).gives p h

@@ -3,7 +3,7 @@ use Rattle.step_chain.proofs.Common.{◌≡◌, ℕ, ◌<◌, inl, inr, true, fa
 use Rattle.step_chain.proofs.Common.{false_from_ne_true, not-true, true≢false, Fraction, Bound, IsHead, no_bound, lower_at, upper_at, AreWords, Entries}
 use Rattle.step_chain.proofs.Common.{FlowModel, TimeStep, cell_count, is_active, is_variable, is_constant, index_of, variable_cells, exact_step, Decks}
 use Rattle.step_chain.proofs.Common.{IsConstantPairFor, AreGridHeads, bound_at, AreHeadsOf, ◌&&◌, not, ints, ExactCell, cell_at, no_cell, ◌+◌, ◌≤◌, cond, set}
-use Rattle.step_chain.proofs.Common.{cases_order, kind_of, HasConstantHeadFor, AreConstantHeadsFor, variable_active, constant_active}
+use Rattle.step_chain.proofs.Common.{cases_order, kind_of, HasConstantHeadFor, variable_active, constant_active}
 use Rattle.std.proofs.lemmas.List.{get_or_default, get_or-map, length-map, length-set, get_or-set_same, get_or-set_other}
 use Rattle.model_types.proofs.Ranks.{passing, rank_below, at_rank}
 use Rattle.flow_equations.proofs.Links.{ids_are, below_is, index_is}
@@ -80,9 +80,6 @@ pub record IsPartly (d : Decks) (at : TimeStep) (bounds heads : List Bound) (n :
   pub other : (c : ℕ) → c < cell_count d.first.grid → is_variable d.first at.period c ≡ false → HasConstantHeadFor d at c (bound_at heads c)
 
 module _ (d : Decks) (at : TimeStep) (bounds heads : List Bound) where
-  pub partly_at_first : AreConstantHeadsFor d at heads → IsPartly d at bounds heads 0
-  partly_at_first h = record { whole = h.count; variable = λ c lt v. absurd (omega (arith, lt)); other = λ c lt v. h.each c lt }
-
   pub partly_other : (n : ℕ) → (is_variable d.first at.period n ≡ true → ⊥) → IsPartly d at bounds heads n → IsPartly d at bounds heads (n + 1)
   partly_other n not_variable h = record {
     whole = h.whole;

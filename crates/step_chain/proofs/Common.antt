@@ -14,9 +14,8 @@ pub use Rattle.certificate_check.specs.{SettledPairEncloses}
 pub use Rattle.decimal_input.specs.{EnclosesSigned, Fraction}
 pub use Rattle.deck_problems.proofs.OneProblem.{HasCellsOf, between_cells, cell_of_member, constant_same, each_member, encloses_first, encloses_member}
 pub use Rattle.deck_problems.proofs.OneProblem.{member_cells, of_member}
-pub use Rattle.deck_problems.specs.{AreConstantHeadsFor, AreDecks, ConstantPairEncloses, ConstantPairFits, ConstantPairIsOne, EachMember, EnclosesSteps}
-pub use Rattle.deck_problems.specs.{HasConstantHeadFor, IsBefore, IsConstantPairFor, IsProblemFor, ProblemEncloses, ProblemFits, StartHeadsEnclose}
-pub use Rattle.deck_problems.specs.{StartHeadsFit, digits_of}
+pub use Rattle.deck_problems.specs.{AreDecks, ConstantPairEncloses, ConstantPairFits, ConstantPairIsOne, EachMember, EnclosesSteps, HasConstantHeadFor}
+pub use Rattle.deck_problems.specs.{IsBefore, IsConstantPairFor, IsProblemFor, ProblemEncloses, ProblemFits, StartHeadsEnclose, StartHeadsFit, digits_of}
 pub use Rattle.deck_problems.specs.declared.decks.Decks.{Decks}
 pub use Rattle.flow_equations.specs.{exact_step, heads_of, variable_heads}
 pub use Rattle.model_types.specs.{cell_count, constant_head, index_of, is_active, is_constant, is_variable, kind_of, start_head, times, variable_cells}
@@ -28,9 +27,9 @@ pub use Rattle.problem_builder.proofs.Members.{In-Contains, constant_active, var
 pub use Rattle.problem_builder.proofs.Steps.{not_refused, same_problem, same_refusal}
 pub use Rattle.problem_builder.specs.{AreGridHeads, HeadsEnclose, IsActive, bound_at}
 pub use Rattle.step_chain.specs.{AreHeadsOf, AreSteps, EnclosesMove, EnclosesMoves, FailsBy, HasNoBarrier, HasNoHeads, HasNoPose, HeadsFit, HistoriesLieWithin}
-pub use Rattle.step_chain.specs.{IsBarrierBy, IsBarrierFault, IsMove, IsNoCertificate, IsPosed, IsStepBy, LeadsBy, LeadsOrRests, LeadsWithout, LeavesRange}
-pub use Rattle.step_chain.specs.{LieBetween, LieWithin, LiesBetweenBy, LiesWithin, RefusalIsOne, SettlesNot, StepEncloses, StepExcludesRefusal, StepIsOne}
-pub use Rattle.step_chain.specs.{WideKeepsSteps, edges_by, of_bound, two}
+pub use Rattle.step_chain.specs.{IsBarrierBy, IsMove, IsNoCertificate, IsPosed, IsStepBy, LeadsBy, LeadsOrRests, LeadsWithout, LeavesRange, LieBetween}
+pub use Rattle.step_chain.specs.{LieWithin, LiesBetweenBy, LiesWithin, RefusalIsOne, SettlesNot, StepEncloses, StepExcludesRefusal, StepIsOne, WideKeepsSteps}
+pub use Rattle.step_chain.specs.{edges_by, two}
 pub use Rattle.step_chain.specs.declared.solved.Solved.{Solved}
 pub use Rattle.step_problem.proofs.Pairs.{either_certifies, given_is}
 pub use Rattle.step_problem.specs.{AreInside, AreSettled, Edges, IsBarrier, IsCertificate, IsGiven, IsHead, IsPairOf, IsProblem, IsSettledPair, PairKind}

@@ -2,9 +2,8 @@
 use Rattle.step_chain.proofs.Common.{◌≡◌, ℕ, inl, inr, subst, List, Bound, Entries, Edges, IsProblem, AreSettled, IsPairOf, PairKind, SettledPairIsOne, Solved}
 use Rattle.step_chain.proofs.Common.{Decks, TimeStep, IsBefore, ProblemFits, CutBarrierExcludesRefusal, CutBarrierIsOne, IsBarrierBy, edges_by, Limits, Plain}
 use Rattle.step_chain.proofs.Common.{Wide, StepExcludesRefusal, RefusalIsOne, NoBound, settled, CutRefusalIsOne, IsRangeRefusal, CertificateExcludesRefusal}
-use Rattle.step_chain.proofs.Common.{RangeRefusalIsOne, HasNoBarrier, HasNoPose, IsPosed, IsStepBy, LeavesRange, IsBarrierFault, IsProblemFor, BoundFault}
-use Rattle.step_chain.proofs.Common.{FailsBy, IsNoCertificate, SettlesNot, of_bound, HasNoHeads, BarrierExcludesRefusal, not_refused, same_problem}
-use Rattle.step_chain.proofs.Common.{same_refusal}
+use Rattle.step_chain.proofs.Common.{RangeRefusalIsOne, HasNoBarrier, HasNoPose, IsPosed, IsStepBy, LeavesRange, IsProblemFor, BoundFault, FailsBy}
+use Rattle.step_chain.proofs.Common.{IsNoCertificate, SettlesNot, HasNoHeads, BarrierExcludesRefusal, not_refused, same_problem, same_refusal}
 use Rattle.barrier_vector.specs.{RefusalIsOne as BarrierRefusalIsOne}
 use Rattle.step_chain.proofs.OneStep.{settled_one}
 use Rattle.step_chain.specs.declared.solved.StepFault.{StepFault}
@@ -82,16 +81,8 @@ module _ (problem_fits : ProblemFits) (plain : BarrierExcludesRefusal) (cut : Cu
   refusals_one of_plain of_cut of_range Wide d s at old a b before (inr x) (inr y) =
       of_range x.problem x.barrier x.bounds a b x.refused (ranges_one problem_fits barrier_one pair_one d s at old x.problem x.barrier x.bounds b before x.posed x.pair y)
 
--- The faults of a step, by those of its builder, its barrier and its settling.
-pub unposed : (limits : Limits) (d : Decks) (s : ℕ) (at : TimeStep) (old : List Bound) (n : NoBound) → HasNoPose limits d s at old n → HasNoHeads limits d s at old n
-unposed Plain d s at old n h = h
-unposed Wide d s at old n h = inl h
-
+-- The faults of the settling of a step.
 module _ (d : Decks) (s : ℕ) (at : TimeStep) (old : List Bound) (rounds : ℕ) (p : List Entries) (is : IsProblemFor d s at old p) where
-  pub barrier_fails : (limits : Limits) (fault : BoundFault) → IsBarrierFault limits p fault → FailsBy limits d s at old rounds (of_bound fault)
-  barrier_fails limits (bound.NoBound n) h = unposed limits d s at old n (inr (p, is, h))
-  barrier_fails limits bound.Memory h = tt
-
   -- a settled pair that is no certificate over its barrier
   out_of_range : (limits : Limits) (b : Edges) → IsBarrierBy limits p b → (n : NoBound) → IsNoCertificate limits p b n → HasNoHeads limits d s at old n
   out_of_range Plain b of_p n h = absurd h

@@ -1,5 +1,5 @@
 -- The flows between zones in one time step: one for each pair of zones that share a face, in order of the pairs; or the first pair whose flow is too large.
-use Rattle.std.specs.Prelude.{ℕ, Bool, ◌&&◌, List, [], ◌∷◌, pos, unsigned_abs, Result, Ok, Err, if◌then◌else◌, ◌≡◌}
+use Rattle.std.specs.Prelude.{Bool, ◌&&◌, List, [], ◌∷◌, pos, unsigned_abs, Result, Ok, Err, if◌then◌else◌, ◌≡◌}
 use Rattle.std.specs.List.{filter, list_any}
 use Rattle.std.specs.Int.Signed.{lt_z}
 use Rattle.step_problem.specs.declared.place.NoBound.{NoBound}

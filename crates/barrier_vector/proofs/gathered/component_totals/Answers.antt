@@ -1,4 +1,4 @@
-use Rattle.barrier_vector.proofs.Common.{arith, ◌≡◌, ◌<◌, ◌^◌, length, ap, ◌∙◌, drop, List, FitsSigned, w128, ints, to_z-of_z, refl, rules, Total, slice_index}
+use Rattle.barrier_vector.proofs.Common.{arith, ◌≡◌, ◌<◌, ◌^◌, length, ap, ◌∙◌, drop, List, FitsSigned, w128, to_z-of_z, refl, rules, Total, slice_index}
 use Rattle.barrier_vector.proofs.Common.{entries_at, deep_low}
 use Rattle.barrier_vector.proofs.Levels.{take_of_append}
 use Rattle.barrier_vector.proofs.Gathering.{sum_more, longest_more, within_more, sum_within}

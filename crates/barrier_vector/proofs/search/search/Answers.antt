@@ -61,7 +61,8 @@ loop-left-preserved c =
           c.loop-left.levels.items c.deref_mut-in-loop-left.result.now c.spread.new.marks c.deref-in-loop-left.result.now _
           c.loop-left.paths.items c.deref_mut-in-loop-left-2.result.now c.extend_paths.new.paths _
           c.loop-left.frontier.items c.deref.result.now c.in_ok-frontier-2.frontier.items c.deref-in-loop-left-2.result.now
-          c.deref_mut-in-loop-left.ensures.value c.deref-in-loop-left.ensures.value (take_of_append c.spread.new.marks (drop (length c.spread.new.marks) c.loop-left.levels.items) c.loop-left.levels.len n)
+          c.deref_mut-in-loop-left.ensures.value c.deref-in-loop-left.ensures.value
+          (take_of_append c.spread.new.marks (drop (length c.spread.new.marks) c.loop-left.levels.items) c.loop-left.levels.len n)
           c.deref_mut-in-loop-left-2.ensures.value (take_of_append c.extend_paths.new.paths (drop (length c.extend_paths.new.paths) c.loop-left.paths.items) c.loop-left.paths.len m)
           c.deref.ensures.value c.deref-in-loop-left-2.ensures.value c.loop-left.invariant.up_to c.in_ok-frontier-2.ensures c.extend_paths.auto.paths
           c.extend_paths.ensures.others c.extend_paths.ensures.paths;

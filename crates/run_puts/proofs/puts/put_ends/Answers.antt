@@ -15,8 +15,11 @@ loop-end-preserved g c = λ start puts h.
     let piece : Text = c.as_slice.result.now in
     let t = text_at ends k e piece within read c.as_slice.ensures.value in
     let i = c.loop-end.invariant start puts h in
-    let p = c.put_piece.ensures start (puts ++ i.0) i.1 in
-    (i.0 ++ p.0, puts_are_joined (λ s. g.K.Sink.leads start s c.put_piece.new.out) puts i.0 p.0 p.1, one_more ends k piece i.0 p.0 t.0 t.1 i.2 (put_was piece piece _ None p.0 refl c.in_default.is p.2))
+    let p = c.put_piece.ensures start (puts ++ i.0) i.1 in (
+      i.0 ++ p.0,
+      puts_are_joined (λ s. g.K.Sink.leads start s c.put_piece.new.out) puts i.0 p.0 p.1,
+      one_more ends k piece i.0 p.0 t.0 t.1 i.2 (put_was piece piece _ None p.0 refl c.in_default.is p.2),
+    )
 
 pub returns-in-Some : goal.returns-in-Some
 returns-in-Some g c = λ start puts h.
