@@ -1,5 +1,5 @@
 -- One value of a list of zeros.
-use Rattle.array_reader.proofs.Common.{◌≡◌, ℕ, List, ℤ, Ok, refl, Left, StopsText, Taking, zero_at, zero_step, TextFault, Refused, Memory}
+use Rattle.array_reader.proofs.Common.{◌≡◌, ℕ, List, ℤ, Result, Ok, Err, refl, Left, StopsText, Taking, zero_at, zero_step, TextFault, Refused, Memory}
 
 pub step_goes : (file : List ℕ) (i : ℕ) (s after : Taking × Left) (z : ℤ) → zero_at file s ≡ Ok (z, after) → zero_step file i s ≡ Ok after
 unfolding zero_step

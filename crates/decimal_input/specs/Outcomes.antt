@@ -1,4 +1,4 @@
-use Rattle.std.specs.Prelude.{◌≡◌, ℕ, ◌*◌, ◌<◌, ◌≤◌, ◌^◌, ◌%◌, ◌⊎◌, List, length, Bool, true, false, Result, Ok, Err, ℤ, pos, neg_ℤ, ◌+ℤ◌, ◌≤ℤ◌, ◌<ℤ◌, min}
+use Rattle.std.specs.Prelude.{◌≡◌, ℕ, ◌*◌, ◌<◌, ◌≤◌, ◌^◌, ◌%◌, ◌⊎◌, not, List, length, Bool, true, false, Result, Ok, Err, ℤ, pos, neg_ℤ, ◌+ℤ◌, ◌≤ℤ◌, ◌<ℤ◌, min}
 use Rattle.std.specs.Prelude.{Option, Some, None, ◌*ℤ◌}
 use Rattle.decimal_input.specs.declared.dec.Dec.{Dec}
 use Rattle.decimal_input.specs.declared.dec.NumFault.{NumFault}

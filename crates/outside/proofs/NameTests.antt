@@ -1,6 +1,6 @@
 -- The test of a file's name.
-use Rattle.outside.proofs.Common.{◌≡◌, ℕ, zero, suc, ◌<◌, true, ◌&&◌, List, [], ◌∷◌, length, get_or, nat_le, arith, refl, All, IsGoodName, IsNameByte}
-use Rattle.outside.proofs.Common.{is_good_name}
+use Rattle.outside.proofs.Common.{◌≡◌, ℕ, zero, suc, ◌<◌, Bool, true, false, ◌&&◌, List, [], ◌∷◌, length, get_or, nat_le, arith, refl, All, IsGoodName}
+use Rattle.outside.proofs.Common.{IsNameByte, is_good_name}
 use Rattle.std.specs.List.{list_all}
 use Rattle.std.proofs.lemmas.Bool.Decides.{nat_tests}
 use Rattle.std.proofs.lemmas.Bool.{and_parts}
