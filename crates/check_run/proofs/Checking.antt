@@ -1,9 +1,9 @@
 -- A check, step by step.
 use Rattle.check_run.proofs.Common.{Limits, All, Contains, ◌≡◌, ℕ, suc, List, [], ◌∷◌, ◌+◌, ◌<◌, ◌≤◌, subst, sym, ap, refl, arith, ◌∙◌, inl, inr, drop, length}
-use Rattle.check_run.proofs.Common.{get_or, Option, AllZip, All-head, All-tail, All-contains_itself, drop_more, drop_all, Bound, ZoneFlow, TimeStep, start_head}
-use Rattle.check_run.proofs.Common.{times, AreGridHeads, HeadsEnclose, pairs_in, ListedStep, AreFlows, IsListedAt, AreListed, AllZip-length, IsListedStep}
-use Rattle.check_run.proofs.Common.{step_in, BoundsMoves, CheckFault, ListingVerdict, Certified, Fails, Refused, FailsBy, IsVerdictAt, heads_before, Passes}
-use Rattle.check_run.proofs.Common.{Checks, StopsAt, IsVerdict, ListingEncloses, checked_task, step_of, steps_of, Decks, AreDecks, EachMember, HaveOneHistory}
+use Rattle.check_run.proofs.Common.{get_or, Option, AllZip, All-head, All-tail, All-contains_itself, drop_more, drop_all, Bound, ZoneFlow, TimeStep, times}
+use Rattle.check_run.proofs.Common.{AreGridHeads, pairs_in, ListedStep, AreFlows, IsListedAt, AreListed, AllZip-length, IsListedStep, step_in, BoundsMoves}
+use Rattle.check_run.proofs.Common.{CheckFault, ListingVerdict, Certified, Fails, Refused, FailsBy, IsVerdictAt, heads_before, Passes, Checks, StopsAt}
+use Rattle.check_run.proofs.Common.{IsVerdict, ListingEncloses, checked_task, step_of, steps_of, Decks, AreDecks, EnclosesStarts, HaveOneHistory}
 use Rattle.check_run.proofs.Common.{histories_bound, AreStartHeadsFor}
 use Rattle.check_run.proofs.Passed.{ArePassed, all_move, have_one}
 use Rattle.check_run.proofs.RunText.{grid_of}
@@ -27,7 +27,7 @@ module _ (limits : Limits) (ds : Decks) (s : ℕ) (zones : Option (List ℕ)) (a
     pub grid : AreGridHeads ds.first old
     pub goes_on : (end : ListingVerdict) → Checks limits ds s zones old rest steps end → IsVerdict limits ds s zones all end
     pub start : List Bound
-    pub starts : EachMember ds (λ m. HeadsEnclose m start (start_head m))
+    pub starts : EnclosesStarts ds start
     pub passed : ArePassed limits ds s zones old rest steps → ArePassed limits ds s zones start (times ds.first) all
     pub left : All (Contains (times ds.first)) rest
     pub listed : AllZip (IsListedAt ds.first (pairs_in ds.first zones)) rest steps
@@ -38,7 +38,7 @@ module _ (limits : Limits) (ds : Decks) (s : ℕ) (zones : Option (List ℕ)) (a
   pub step_there : (i : ℕ) (items : List TimeStep) → items ≡ times ds.first → AreListed ds.first (pairs_in ds.first zones) all → i < length items → i < length all
   step_there i items is listed below = omega (arith, below, ap length is, whole_of listed)
 
-  pub at_first : (start : List Bound) → AreStartHeadsFor ds start → AreGridHeads ds.first start → EachMember ds (λ m. HeadsEnclose m start (start_head m)) →
+  pub at_first : (start : List Bound) → AreStartHeadsFor ds start → AreGridHeads ds.first start → EnclosesStarts ds start →
       AreListed ds.first (pairs_in ds.first zones) all → IsSoFar start (times ds.first) all
   at_first start is grid encloses listed = record {
     grid = grid;

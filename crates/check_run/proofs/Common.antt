@@ -10,8 +10,8 @@ pub use Rattle.std.proofs.lemmas.List.Elements.{All-contains_itself, All-head, A
 pub use Rattle.std.proofs.lemmas.Result.{IfErr-weaker, IfOk-weaker, err_from_is_err_and}
 pub use Rattle.std.specs.List.{AllZip, concat, filter_map, flat_map}
 pub use Rattle.std.specs.Prelude.{IfSome, filter, if◌then◌else◌, nat_lt, slice_index}
-pub use Rattle.budget_bounds.specs.{BudgetEncloses, CoverEncloses, Covers, EnclosesBudgets, HeadsAreWithin, IsFirstUncovered, all_terms, is_small, line_of}
-pub use Rattle.budget_bounds.specs.{no_pair, term_limit, too_large}
+pub use Rattle.budget_bounds.specs.{CoverEncloses, Covers, EnclosesBudgets, HeadsAreWithin, IsFirstUncovered, all_terms, is_small, line_of, no_pair, term_limit}
+pub use Rattle.budget_bounds.specs.{too_large}
 unfoldable pub use Rattle.budget_bounds.specs.{budget_of, parts, singles, term_of, term_pair, terms_of}
 pub use Rattle.budget_bounds.specs.declared.pair.Budget.{Budget}
 pub use Rattle.budget_bounds.specs.declared.pair.TermPair.{TermPair}
@@ -28,11 +28,12 @@ pub use Rattle.check_run.specs.declared.listing.CheckFault.{CheckFault}
 pub use Rattle.check_run.specs.declared.verdict.ListingVerdict.{ListingVerdict}
 pub use Rattle.check_run.specs.declared.verdict.ListingVerdict.TheVariants.{Certified, Fails, Refused}
 pub use Rattle.decimal_input.specs.{EnclosesSigned, Fraction}
-pub use Rattle.deck_problems.proofs.OneProblem.{HasCellsOf, cell_of_member, each_member, encloses_member, hull_parts, member_cells, of_member}
-pub use Rattle.deck_problems.specs.{AreConstantHeadsFor, AreDeckTables, AreDecks, AreStartHeadsFor, ConstantPairEncloses, ConstantPairIsOne, EachMember}
-pub use Rattle.deck_problems.specs.{EnclosesSteps, HoldsOf, IsBefore, IsMember, IsProblemBy, IsProblemFor, IsSecond, ProblemFits, StartHeadsAreOne}
+pub use Rattle.deck_problems.proofs.OneProblem.{chosen_cells, hull_parts}
+pub use Rattle.deck_problems.specs.{AreConstantHeadsFor, AreDeckTables, AreDecks, AreStartHeadsFor, ConstantPairEncloses, ConstantPairIsOne, EnclosesChoices}
+pub use Rattle.deck_problems.specs.{EnclosesStarts, IsBefore, IsChoiceOf, IsProblemBy, IsProblemFor, IsSecond, IsStartOf, ProblemFits, StartHeadsAreOne}
 pub use Rattle.deck_problems.specs.{StartHeadsFit, digits_of}
 pub use Rattle.deck_problems.specs.declared.decks.Decks.{Decks}
+pub use Rattle.deck_span.specs.{Choice, step_from}
 pub use Rattle.exact_histories.specs.{HaveOneBy, HaveOneHistory}
 pub use Rattle.flow_equations.proofs.Links.{below_is, index_is}
 pub use Rattle.flow_equations.specs.{exact_step, heads_of, variable_heads}
@@ -40,17 +41,17 @@ pub use Rattle.listing_io.specs.{AreCellBounds, AreFlows, AreListed, IsCellBound
 pub use Rattle.listing_io.specs.{ListingsAreReadAgain, all_lines, ended_line, first_line, has_evt, is_printed, listing_at, step_in, step_lines, zone_pair}
 unfoldable pub use Rattle.listing_io.specs.{all_step_lines, first_text, step_text}
 pub use Rattle.listing_io.specs.declared.listing.ListedStep.{ListedStep}
-pub use Rattle.listing_run.proofs.HistoriesBound.{AllBoundMoves, BoundsMovesOf, histories_bound}
+pub use Rattle.listing_run.proofs.HistoriesBound.{AllBoundMoves, histories_bound}
 pub use Rattle.listing_run.proofs.Unique.{IsRest, large_one, none_large, ok_not_err, one_err, one_ok, rest_more, rest_whole, same_flows}
-pub use Rattle.listing_run.specs.{AllSteps, AreFlowsAt, AreFlowsOf, BoundAll, BoundBetween, Bounds, BoundsMoves, EnclosesHistories, HasLargeFlowOf}
-pub use Rattle.listing_run.specs.{HistoriesBound, IsStep, Steps, budget_at, deck_task, faces_of, listing, pairs_of, text_of}
+pub use Rattle.listing_run.specs.{AllSteps, AreFlowsAt, AreFlowsOf, BoundAll, BoundChoices, Bounds, BoundsMoves, BoundsMovesOf, EnclosesHistories}
+pub use Rattle.listing_run.specs.{HasLargeFlowOf, HistoriesBound, IsStep, Steps, budget_at, deck_task, faces_of, listing, pairs_of, text_of}
 pub use Rattle.listing_run.specs.declared.solving.Step.{Step}
 pub use Rattle.listing_run.specs.declared.steps.Task.{Task}
 pub use Rattle.listing_run.specs.declared.text.ListingEnd.TheVariants.{Whole}
 pub use Rattle.model_types.proofs.Ranks.{IsAt, at_rank, is_at, passing}
-pub use Rattle.model_types.specs.{FixedSource, FromStorage, HasSize, IsModel, ToConstant, ToGeneral, as_general, cell_count, constant_faces, constant_head}
-pub use Rattle.model_types.specs.{evap_sources, fixed_sources, index_of, is_active, is_chosen, is_constant, is_nonzero, is_variable, kind_of, local_entries}
-pub use Rattle.model_types.specs.{start_head, storage_at, times, variable_cells, variable_faces}
+pub use Rattle.model_types.specs.{FixedSource, FromStorage, HasSize, IsModel, ToConstant, ToGeneral, as_general, cell_count, constant_faces, evap_sources}
+pub use Rattle.model_types.specs.{fixed_sources, index_of, is_active, is_chosen, is_constant, is_nonzero, is_variable, kind_of, local_entries, start_head}
+pub use Rattle.model_types.specs.{storage_at, times, variable_cells, variable_faces}
 pub use Rattle.model_types.specs.declared.limits.Limits.{Limits}
 pub use Rattle.model_types.specs.declared.model.FlowModel.{FlowModel}
 pub use Rattle.model_types.specs.declared.time_steps.TimeStep.{TimeStep}
@@ -60,10 +61,10 @@ pub use Rattle.problem_builder.proofs.Zipped.{left_of, right_of, zip_image}
 pub use Rattle.problem_builder.specs.{AreGridHeads, HeadsEnclose, IsActive, IsCellNamed, IsProblemOf, bound_at, whole_cell, whole_evap, whole_fixed, whole_link}
 pub use Rattle.problem_hull.specs.{cell_hull, cell_shape, evap_hull, fixed_hull, fixed_shape, zip_with}
 pub use Rattle.step_chain.proofs.Assembled.{constant_not_variable, index_below}
-pub use Rattle.step_chain.proofs.Histories.{first_in, lies_encloses, lies_in_first}
+pub use Rattle.step_chain.proofs.Histories.{first_in, lies_encloses}
 pub use Rattle.step_chain.proofs.Limits.{cut_by}
 pub use Rattle.step_chain.proofs.OneStep.{follows, pair_words, same_bound, same_bounds}
-pub use Rattle.step_chain.specs.{EnclosesMoves, HasNoPose, HeadsFit, IsBarrierBy, IsBarrierFault, IsMove, IsPosed, IsStepBy, edges_by}
+pub use Rattle.step_chain.specs.{EnclosesMoves, HasNoPose, HeadsFit, IsBarrierBy, IsBarrierFault, IsPosed, IsStepBy, edges_by}
 pub use Rattle.step_chain.specs.declared.solved.Solved.{Solved}
 pub use Rattle.step_problem.specs.{Edges, IsCertificate, IsHead, IsProblem, PairKind, entries_at, lower_at, no_bound, no_entries, total, upper_at}
 pub use Rattle.step_problem.specs.Entries.{Entries}

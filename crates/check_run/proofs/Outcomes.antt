@@ -3,10 +3,10 @@ use Rattle.check_run.proofs.Common.{Limits, ◌≡◌, ℕ, ◌∙◌, List, Con
 use Rattle.check_run.proofs.Common.{lower_at, upper_at, IsCertificate, Budget, CoverEncloses, EnclosesBudgets, HeadsAreWithin, budget_of, EnclosesSolutions}
 use Rattle.check_run.proofs.Common.{IsFirstFailing, TimeStep, times, bound_at, BoundsMoves, CheckFault, AreNarrow, ArePosed, AreWide, FailsBy, IsCovered}
 use Rattle.check_run.proofs.Common.{IsUncovered, ConstantsReach, IsFirstShort, variable_bounds, HeadsHold, Passes, TermsHold, at_constant, at_variable, at_term}
-use Rattle.check_run.proofs.Common.{at_zones, no_budget, no_flows, checked_task, step_of, Decks, AreDecks, ConstantPairEncloses, each_member, BoundsMovesOf}
+use Rattle.check_run.proofs.Common.{at_zones, no_budget, no_flows, checked_task, step_of, Decks, AreDecks, ConstantPairEncloses}
 use Rattle.check_run.specs.declared.posed.Posed.{Posed}
 use Rattle.check_run.proofs.RunText.{bounds_are}
-use Rattle.check_run.proofs.Passing.{member_moves}
+use Rattle.check_run.proofs.Passing.{choice_moves}
 use Rattle.step_problem.specs.declared.place.Place.TheVariants as places
 use Rattle.check_run.specs.declared.listing.CheckFault.TheVariants as fault
 
@@ -63,6 +63,5 @@ module _ (limits : Limits) (ds : Decks) (s : ℕ) (zones : Option (List ℕ)) (a
     step_moves valid time pair_encloses cover within solutions h wide =
         let S : List Bound → Type 0 = λ v. EnclosesSolutions x.problem (lower_at v) (upper_at v) in
         let E : List Bound → Type 0 = λ v. EnclosesBudgets x.problem (lower_at v) (upper_at v) h.budget in
-        each_member ds (BoundsMovesOf (checked_task ds s zones) at old (step_of at (record { heads = heads; budget = listed; zones = flows })))
-        (λ m member. member_moves ds s at old x.problem x.constant_heads heads valid time posed.constant pair_encloses posed.encloses posed.named reach
-        (subst S same solutions) m member cover within listed h.budget h.covers (subst E same h.encloses) zones flows wide)
+        λ y chosen. choice_moves ds s at old x.problem x.constant_heads heads valid time posed.constant pair_encloses posed.encloses posed.named reach
+        (subst S same solutions) y chosen cover within listed h.budget h.covers (subst E same h.encloses) zones flows wide

@@ -1,7 +1,7 @@
 -- Steps that passed the check in turn: they bound every move of their decks, and the decks have one history each.
-use Rattle.check_run.proofs.Common.{Limits, Contains, ℕ, ℤ, List, [], ◌∷◌, Option, map, Bound, TimeStep, FlowModel, start_head, times, Fraction, AreGridHeads}
-use Rattle.check_run.proofs.Common.{HeadsEnclose, ListedStep, BoundsMoves, Passes, checked_task, step_of, steps_of, Decks, AreDecks, HoldsOf, encloses_member}
-use Rattle.check_run.proofs.Common.{AllBoundMoves, HaveOneBy, IsMove, Bounds, member_cells, of_member, lies_encloses, lies_in_first}
+use Rattle.check_run.proofs.Common.{Limits, Contains, ℕ, List, [], ◌∷◌, Option, map, refl, Bound, TimeStep, FlowModel, times, Fraction, AreGridHeads}
+use Rattle.check_run.proofs.Common.{HeadsEnclose, ListedStep, BoundsMoves, Passes, checked_task, step_of, steps_of, Decks, AreDecks, IsStartOf, AllBoundMoves}
+use Rattle.check_run.proofs.Common.{HaveOneBy, lies_encloses}
 use Rattle.exact_histories.proofs.OneTurn.{Lands}
 use Rattle.exact_histories.proofs.Turns.{AreTurns}
 use Rattle.exact_histories.proofs.HaveOne.{have_one_by}
@@ -26,7 +26,7 @@ module _ (limits : Limits) (ds : Decks) (s : ℕ) (zones : Option (List ℕ)) wh
   all_move old [] [] h = tt
   all_move old [] (w ∷ steps) h = absurd h
   all_move old (at ∷ rest) [] h = absurd h
-  all_move old (at ∷ rest) (w ∷ steps) (p, h) = (p.moves, all_move w.heads rest steps h)
+  all_move old (at ∷ rest) (w ∷ steps) (p, h) = (refl, p.moves, all_move w.heads rest steps h)
 
 -- Each step that passed is a turn.
 module _ (limits : Limits) (ds : Decks) (s : ℕ) (zones : Option (List ℕ)) (valid : AreDecks ds) where
@@ -35,12 +35,9 @@ module _ (limits : Limits) (ds : Decks) (s : ℕ) (zones : Option (List ℕ)) (v
 
   -- a solution of a step that bounds them all lies within its heads
   lands : (at : TimeStep) (old : List Bound) (w : ListedStep) → IsPassed limits ds s zones at old w → Lands limits ds s at old w.heads
-  lands at old w p m member before d X olds some solves =
-      let cells = member_cells ds m member in
-      let bound = of_member ds (λ (m : FlowModel). (before : ℕ → Fraction) (d : ℕ) (X : ℕ → ℤ) → IsMove m at old before d X →
-      Bounds (checked_task ds s zones) m (step_of at w) before d X) p.moves m member before d X
-      (record { within = encloses_member ds.first m cells old before olds; some = some; solves = solves }) in
-      lies_encloses ds.first w.heads d X some (lies_in_first ds.first m cells w.heads d X bound.heads)
+  lands at old w p x chosen before d X olds some solves =
+      let bound = p.moves x chosen before d X (record { within = olds; some = some; solves = solves }) in
+      lies_encloses ds.first w.heads d X some bound.heads
 
   turns_of : (old : List Bound) (rest : List TimeStep) (steps : List ListedStep) → ArePassed limits ds s zones old rest steps → AreTurns limits ds s old rest (map heads_at steps)
   turns_of old [] [] h = tt
@@ -52,7 +49,7 @@ module _ (limits : Limits) (ds : Decks) (s : ℕ) (zones : Option (List ℕ)) (v
   )
 
 pub have_one : (limits : Limits) (a : FlowModel) (o : Option FlowModel) (s : ℕ) (zones : Option (List ℕ)) → AreDecks (record { first = a; second = o }) → (start : List Bound) (all : List ListedStep) →
-    HoldsOf a o (λ m. HeadsEnclose m start (start_head m)) → ArePassed limits (record { first = a; second = o }) s zones start (times a) all → HaveOneBy a o
+    ((f : ℕ → Fraction) → IsStartOf a o f → HeadsEnclose a start f) → ArePassed limits (record { first = a; second = o }) s zones start (times a) all → HaveOneBy a o
 have_one limits a o s zones valid start all starts h =
     have_one_by limits a o s start (map (heads_at limits (record { first = a; second = o }) s zones valid) all) starts
     (turns_of limits (record { first = a; second = o }) s zones valid start (times a) all h)

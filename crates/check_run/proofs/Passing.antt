@@ -1,11 +1,11 @@
 -- A listed step that passes bounds every solution.
 use Rattle.check_run.proofs.Common.{◌≡◌, ℕ, ◌+◌, ◌<◌, true, List, length, Contains, Option, Some, None, sym, subst, arith, ℤ, ◌≤ℤ◌, AllZip, IfSome, Fraction}
 use Rattle.check_run.proofs.Common.{Bound, Low, High, ZoneFlow, Entries, lower_at, upper_at, Budget, CoverEncloses, Covers, EnclosesBudgets, HeadsAreWithin}
-use Rattle.check_run.proofs.Common.{EnclosesSolutions, exact_step, heads_of, variable_heads, FlowModel, TimeStep, cell_count, constant_head, is_constant, times}
+use Rattle.check_run.proofs.Common.{EnclosesSolutions, heads_of, variable_heads, TimeStep, cell_count, is_constant, times, Choice, step_from, chosen_cells}
 use Rattle.check_run.proofs.Common.{IsActive, bound_at, EncloseExact, exact_faces, exact_flow, ZonePair, CoversFlow, AreWide, ConstantsReach, IsConstantCell}
-use Rattle.check_run.proofs.Common.{variable_bounds, checked_task, step_of, Decks, AreDecks, EachMember, IsMember, AreConstantHeadsFor, ConstantPairEncloses}
-use Rattle.check_run.proofs.Common.{HasCellsOf, cell_of_member, member_cells, of_member, BoundsMovesOf, EnclosesSteps, AllZip-at, AllZip-length, get_or}
-use Rattle.check_run.proofs.Common.{EnclosesSigned, ExactCell, follows, EnclosesMoves, Solved, lies_encloses, IsCellNamed}
+use Rattle.check_run.proofs.Common.{variable_bounds, checked_task, step_of, Decks, AreDecks, EnclosesChoices, IsChoiceOf, AreConstantHeadsFor}
+use Rattle.check_run.proofs.Common.{ConstantPairEncloses, BoundsMovesOf, AllZip-at, AllZip-length, get_or, EnclosesSigned, ExactCell, follows, EnclosesMoves}
+use Rattle.check_run.proofs.Common.{Solved, lies_encloses, IsCellNamed}
 use Rattle.decimal_input.specs.Fractions.{den}
 use Rattle.decimal_input.proofs.FloorLaws.{mul_mono_right}
 use Rattle.cell_balance.proofs.Deep.{le_trans_z}
@@ -31,44 +31,39 @@ wide_enclose s e (Some zones) h listed flows covers encloses = λ k d lt.
 
 module _ (ds : Decks) (s : ℕ) (at : TimeStep) (old : List Bound) (p : List Entries) (constant_heads heads : List Bound)
     (valid : AreDecks ds) (time : Contains (times ds.first) at) (are : AreConstantHeadsFor ds at constant_heads) (pair_encloses : ConstantPairEncloses)
-    (all_enclose : EachMember ds (EnclosesSteps s at old p))
+    (all_enclose : EnclosesChoices ds s at old p)
     (named : (c : ℕ) → IsCellNamed p c → IsActive ds.first c)
     (constants : ConstantsReach ds at heads)
     (solutions : EnclosesSolutions p (lower_at (variable_bounds ds at heads)) (upper_at (variable_bounds ds at heads)))
-    (m : FlowModel) (member : IsMember ds m) where
-  cells : HasCellsOf ds.first m
-  cells = member_cells ds m member
-
-  constant : (c : ℕ) → c < cell_count ds.first.grid → is_constant ds.first at.period c ≡ true → EnclosesSigned (lower_at heads c) (upper_at heads c) 9 (constant_head m at.period at.step c)
+    (y : Choice) (chosen : IsChoiceOf ds.first ds.second at y) where
+  constant : (c : ℕ) → c < cell_count ds.first.grid → is_constant ds.first at.period c ≡ true → EnclosesSigned (lower_at heads c) (upper_at heads c) 9 (y.heads c)
   constant c lt e =
       let pair = bound_at constant_heads c in
       let held = (are.each c lt).constant e in
-      let H : FlowModel → Type 0 = λ n. EnclosesSigned pair.low pair.high 9 (constant_head n at.period at.step c) in
-      let here = of_member ds H (pair_encloses ds at c pair.low pair.high (record { decks = valid; time = time; within = lt; constant = e }) held) m member in
+      let here = pair_encloses ds at c pair.low pair.high (record { decks = valid; time = time; within = lt; constant = e }) held y chosen in
       let cell : IsConstantCell ds at c = record { within = lt; constant = e } in
-      wider pair.low pair.high (lower_at heads c) (upper_at heads c) 9 (constant_head m at.period at.step c) (constants c cell Low pair held) (constants c cell High pair held) here
+      wider pair.low pair.high (lower_at heads c) (upper_at heads c) 9 (y.heads c) (constants c cell Low pair held) (constants c cell High pair held) here
 
   abbrev solved : Solved
   solved = record { problem = p; bounds = variable_bounds ds at heads; heads = heads }
 
-  moves : EnclosesMoves m s at old solved
-  moves = follows ds m s at old solved cells (of_member ds (EnclosesSteps s at old p) all_enclose m member) (λ c lt v. sym (variable_listed ds at heads c v lt)) constant solutions
+  moves : EnclosesMoves ds.first s at y old solved
+  moves = follows ds s at old solved y (chosen_cells ds at y chosen) (all_enclose y chosen) (λ c lt v. sym (variable_listed ds at heads c v lt)) constant solutions
 
-  -- the listed step bounds each move of the member
-  pub member_moves : CoverEncloses → HeadsAreWithin → (listed computed : Budget) → Covers listed computed →
+  -- the listed step bounds each move of the choice
+  pub choice_moves : CoverEncloses → HeadsAreWithin → (listed computed : Budget) → Covers listed computed →
       EnclosesBudgets p (lower_at (variable_bounds ds at heads)) (upper_at (variable_bounds ds at heads)) computed →
       (zones : Option (List ℕ)) (flows : List ZoneFlow) → AreWide p heads zones flows →
-      BoundsMovesOf (checked_task ds s zones) at old (step_of at (record { heads = heads; budget = listed; zones = flows })) m
-  member_moves cover within listed computed covers terms zones flows wide before d X move =
-      let e = exact_step m at.period at.step before in
+      BoundsMovesOf (checked_task ds s zones) ds.first at old (step_of at (record { heads = heads; budget = listed; zones = flows })) y
+  choice_moves cover within listed computed covers terms zones flows wide before d X move =
+      let e : List ExactCell = step_from before y.cells in
       let moved = moves before d X move in
       let Y : ℕ → ℤ = variable_heads e X in
       let inside = within (length p) d Y (lower_at (variable_bounds ds at heads)) (upper_at (variable_bounds ds at heads)) move.some moved.variables in
-      let active = λ (c : ℕ) (k : IsCellNamed p c). cell_of_member ds.first m cells c (named c k) in
       record {
         heads = moved.heads;
         budget = cover listed computed s e (heads_of d Y) covers (terms s e (heads_of d Y) moved.step inside);
         zones = wide_enclose s e zones (heads_of d X) flows wide.flows wide.wide
             (flows_enclose zones p heads wide.flows wide.encloses s e (heads_of d X) moved.step
-            (heads_named m p active heads (heads_of d X) (lies_encloses m heads d X move.some moved.heads)));
+            (heads_named ds.first p named heads (heads_of d X) (lies_encloses ds.first heads d X move.some moved.heads)));
       }

@@ -19,7 +19,7 @@ use Rattle.model_types.specs.declared.time_steps.TimeStep.{TimeStep}
 use Rattle.model_types.specs.{variable_cells}
 use Rattle.problem_builder.specs.{IsActive, IsCellNamed}
 use Rattle.deck_problems.specs.declared.decks.Decks.{Decks}
-use Rattle.deck_problems.specs.{AreConstantHeadsFor, EachMember, EnclosesSteps}
+use Rattle.deck_problems.specs.{AreConstantHeadsFor, EnclosesChoices}
 use Rattle.step_chain.specs.{IsPosed, HasNoPose}
 use Rattle.listing_run.specs.{AreFlowsOf, FlowsEnclose, HasLargeFlowOf}
 use Rattle.listing_io.specs.declared.listing.ListedStep.{ListedStep}
@@ -58,7 +58,7 @@ pub record ArePosed (limits : Limits) (d : Decks) (s : ℕ) (at : TimeStep) (old
   pub solutions : EnclosesUncut x.problem x.barrier
   pub named : (c : ℕ) → IsCellNamed x.problem c → IsActive d.first c
   pub cells : map (λ e. e.id) x.problem ≡ variable_cells d.first at.period
-  pub encloses : EachMember d (EnclosesSteps s at old x.problem)
+  pub encloses : EnclosesChoices d s at old x.problem
   pub constant : AreConstantHeadsFor d at x.constant_heads
 
 -- the heads before a step of a listing, by its index

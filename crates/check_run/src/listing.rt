@@ -115,7 +115,7 @@ pub fn check_listing(
     // Where it is certified, every history that solves the model, or that lies between the two, lies within it, whoever
     // wrote it.
     ensures encloses { IfOk result (λ v. v ≡ Certified → ListingEncloses decks.now s (option_map (λ z. z.now) zones.entry) listing.now) }
-    // And there is exactly one such history; of two decks one for each choice of models between them.
+    // And there is exactly one such history; of two decks one for each choice between them.
     ensures history { IfOk result (λ v. v ≡ Certified → HaveOneHistory decks.now) }
 {
     match DeckTables::new(alloc, decks, s) {

@@ -1,22 +1,22 @@
 -- Names that several proofs of this crate cite, of the crates below and of its own definitions, passed on from one place. Declares nothing.
-pub use Rattle.std.proofs.Common.{Contains, List, None, Option, Some, [], ap, arith, get_or, inl, inr, length, map, pos, refl, set, subst, sym, true, ℕ, ℤ, ◌+◌}
-pub use Rattle.std.proofs.Common.{◌<◌, ◌∙◌, ◌∷◌, ◌≡◌, ◌≤◌}
+pub use Rattle.std.proofs.Common.{Contains, List, None, Option, Some, [], ap, arith, get_or, inl, inr, length, map, refl, set, subst, sym, true, ℕ, ℤ, ◌+◌, ◌<◌}
+pub use Rattle.std.proofs.Common.{◌∙◌, ◌∷◌, ◌≡◌, ◌≤◌}
 pub use Rattle.std.proofs.lemmas.List.{ext_get_or, get_or-map, get_or-set_other, get_or-set_same, get_or_default, length-map, length-set}
 pub use Rattle.std.specs.Option.{option_to_list}
 pub use Rattle.std.specs.Prelude.{Bool, Err, IfSome, Ok, Result, cond, false, not, ◌&&◌}
+pub use Rattle.cell_balance.specs.{EnclosesStep, ExactCell, SolvesStep}
 pub use Rattle.decimal_input.specs.{EnclosesSigned, Fraction}
 pub use Rattle.deck_problems.specs.{AreConstantHeadsFor, AreDecks, AreHullBounds, AreStartHeadsFor, AreStartHulls, AreStartsBy, ConstantPairEncloses}
-pub use Rattle.deck_problems.specs.{ConstantPairFits, ConstantPairIsOne, EachMember, EnclosesSteps, HasCellsOf, HoldsOf, IsConstantHull, IsFaultFor}
-pub use Rattle.deck_problems.specs.{IsHullBound, IsHullRefusal, IsMember, IsOf, IsPairOf, IsProblemBy, IsProblemFor, IsSecond, ProblemEncloses, ProblemFits}
-pub use Rattle.deck_problems.specs.{ProblemsAreAlike, StartHeadsAreOne, StartHeadsEnclose, StartHeadsFit, hull_or_refusal, one_deck, problem_by}
+pub use Rattle.deck_problems.specs.{ConstantPairFits, ConstantPairIsOne, EnclosesChoice, EnclosesSteps, HasCellsOf, IsChoiceOf, IsConstantHull, IsFaultFor}
+pub use Rattle.deck_problems.specs.{IsHullBound, IsHullRefusal, IsOwnChoice, IsPairOf, IsProblemBy, IsProblemFor, IsSecond, IsStartOf, ProblemEncloses}
+pub use Rattle.deck_problems.specs.{ProblemFits, ProblemsAreAlike, StartHeadsAreOne, StartHeadsEnclose, StartHeadsFit, hull_or_refusal, one_deck, problem_by}
 pub use Rattle.deck_problems.specs.declared.decks.Decks.{Decks}
 pub use Rattle.deck_span.proofs.AlikeBetween.{alike_between}
 pub use Rattle.deck_span.proofs.HullBounds.{hull_of_numbers}
-pub use Rattle.deck_span.proofs.SameFrames.{active_is, constants_between, count_is, index_is, starts_between, times_are, variable_same}
-pub use Rattle.deck_span.proofs.StepsBetween.{framed_is, steps_between}
-pub use Rattle.deck_span.specs.{AllThree, AreAlike, IsBetween, IsPeriodBetween, next, none}
-pub use Rattle.model_types.specs.{FixedSource, FlowSource, IsModel, cell_count, constant_head, index_of, is_active, is_constant, is_variable, period_at}
-pub use Rattle.model_types.specs.{start_head, times, variable_cells, variable_faces}
+pub use Rattle.deck_span.specs.{AllThree, AreAlike, Choice, IsBetween, IsChoiceBetween, IsFractionBetween, IsPeriodBetween, IsStepBetween, SolvesChoiceAt, next}
+pub use Rattle.deck_span.specs.{none, own_choice, step_from}
+pub use Rattle.model_types.specs.{FixedSource, FlowSource, IsModel, cell_count, constant_head, index_of, is_active, is_constant, is_variable, start_head, times}
+pub use Rattle.model_types.specs.{variable_cells, variable_faces}
 pub use Rattle.model_types.specs.declared.model.FlowModel.{FlowModel}
 pub use Rattle.model_types.specs.declared.time_steps.TimeStep.{TimeStep}
 pub use Rattle.problem_builder.proofs.CellFits.{item_is, starts_enclose, starts_fit}

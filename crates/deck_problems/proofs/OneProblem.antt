@@ -1,9 +1,14 @@
--- The problem of two decks is the hull of their problems; and what the members of decks share with the first one.
-use Rattle.deck_problems.proofs.Common.{◌≡◌, ℕ, Option, Some, None, List, sym, subst, Contains, ◌<◌, ◌∙◌, refl, Bound, Entries, FlowModel, TimeStep, times}
-use Rattle.deck_problems.proofs.Common.{IsModel, cell_count, is_variable, is_constant, index_of, is_active, IsProblemOf, IsActive, HeadsEnclose, IsHull}
-use Rattle.deck_problems.proofs.Common.{IsProblemBy, one_deck, AreDecks, IsOf, IsMember, HoldsOf, zip_with, ap, [], EachMember, ◌&&◌, not, Fraction, IsBetween}
-use Rattle.deck_problems.proofs.Common.{count_is, active_is, variable_same, index_is, times_are, Decks, unless_parts, Result, Ok, Err, option_to_list, NoBound}
-use Rattle.deck_problems.proofs.Common.{problem_of, cell_hull, first_refusal, AreAlike, hull_or_refusal}
+-- The problem of two decks is the hull of their problems; and what the models and choices of decks share with the first one.
+use Rattle.deck_problems.proofs.Common.{◌≡◌, ℕ, Option, Some, None, List, map, sym, subst, Contains, ◌<◌, ◌∙◌, ◌∷◌, refl, Bound, Entries, FlowModel, TimeStep}
+use Rattle.deck_problems.proofs.Common.{times, IsModel, cell_count, is_variable, is_constant, index_of, is_active, IsProblemOf, IsActive, HeadsEnclose, IsHull}
+use Rattle.deck_problems.proofs.Common.{IsProblemBy, one_deck, AreDecks, zip_with, ap, [], ◌&&◌, not, Fraction, IsBetween, variable_cells, start_head, Decks}
+use Rattle.deck_problems.proofs.Common.{unless_parts, Result, Ok, Err, option_to_list, NoBound, problem_of, cell_hull, first_refusal, AreAlike, hull_or_refusal}
+use Rattle.deck_problems.proofs.Common.{ExactCell, Choice, IsStepBetween, IsChoiceOf, IsOwnChoice, step_from, own_choice, none, next, ℤ, SolvesChoiceAt}
+use Rattle.deck_problems.proofs.Common.{SolvesStep}
+use Rattle.deck_span.proofs.SameFrames.{count_is, active_is, variable_same, index_is, times_are}
+use Rattle.flow_equations.specs.{exact_step, SolvesAt, variable_heads}
+use Rattle.flow_equations.proofs.Links.{ids_are}
+use Rattle.deck_span.proofs.OwnChoices.{own_step}
 use Rattle.deck_problems.proofs.ProblemsAlike.{problems_alike}
 
 -- the problem of two models is the hull of their problems, and no sum of it is too large
@@ -26,7 +31,7 @@ hull_parts a b s at old r valid alike = parts (problem_of a s at old) (problem_o
     parts (Err n) y i j e = absurd cc
     parts (Ok p) (Err n) i j e = absurd cc
     parts (Ok p) (Ok q) i j e =
-        let (is, none) = unless_parts (option_to_list (first_refusal (zip_with cell_hull p q))) (zip_with cell_hull p q) r e in
+        let (is, sound) = unless_parts (option_to_list (first_refusal (zip_with cell_hull p q))) (zip_with cell_hull p q) r e in
         record {
           first = p;
           is_first = i;
@@ -34,27 +39,13 @@ hull_parts a b s at old r valid alike = parts (problem_of a s at old) (problem_o
           is_second = j;
           hull = record { alike = problems_alike a b s at old p q valid alike i j; is = is };
           sound =
-              ap first_refusal is ∙ none_listed _ none;
+              ap first_refusal is ∙ none_listed _ sound;
         }
 
--- The members of decks, and what they share with the first deck.
+-- The models of decks, and what they share with the first deck.
 -- one valid deck meets the conditions on decks
 pub one_valid : (m : FlowModel) → IsModel m → AreDecks (one_deck m)
 one_valid m valid = record { first = valid; second = tt }
-
-all_of : (a : FlowModel) (o : Option FlowModel) (P : FlowModel → Type 0) → ((m : FlowModel) → IsOf a o m → P m) → HoldsOf a o P
-all_of a None P f = f a refl
-all_of a (Some b) P f = f
-
-one_of : (a : FlowModel) (o : Option FlowModel) (P : FlowModel → Type 0) → HoldsOf a o P → (m : FlowModel) → IsOf a o m → P m
-one_of a None P h m e = subst P (sym e) h
-one_of a (Some b) P h m k = h m k
-
-pub each_member : (d : Decks) (P : FlowModel → Type 0) → ((m : FlowModel) → IsMember d m → P m) → EachMember d P
-each_member d P f = all_of d.first d.second P f
-
-pub of_member : (d : Decks) (P : FlowModel → Type 0) → EachMember d P → (m : FlowModel) → IsMember d m → P m
-of_member d P h m k = one_of d.first d.second P h m k
 
 -- the model m has the cells and the times of a
 pub record HasCellsOf (a m : FlowModel) : Type 0 where
@@ -73,15 +64,6 @@ between_cells a m b h = record {
   steps = times_are a m b h;
 }
 
-cells_of : (a : FlowModel) (o : Option FlowModel) (m : FlowModel) → IsOf a o m → HasCellsOf a m
-cells_of a None m e =
-    let P : FlowModel → Type 0 = HasCellsOf a in
-    subst P (sym e) (record { count = refl; active = λ c. refl; variable = λ p c. refl; index = λ p c. refl; steps = refl })
-cells_of a (Some b) m h = between_cells a m b h
-
-pub member_cells : (d : Decks) (m : FlowModel) → IsMember d m → HasCellsOf d.first m
-member_cells d m h = cells_of d.first d.second m h
-
 module _ (a m : FlowModel) (h : HasCellsOf a m) where
   pub constant_same : (p c : ℕ) → is_constant m p c ≡ is_constant a p c
   constant_same p c = λ i. h.active c i && not (h.variable p c i)
@@ -95,8 +77,35 @@ module _ (a m : FlowModel) (h : HasCellsOf a m) where
   pub cell_of_member : (c : ℕ) → IsActive a c → IsActive m c
   cell_of_member c k = record { within = subst (λ (n : ℕ). c < n) (sym h.count) k.within; active = h.active c ∙ k.active }
 
-  pub encloses_first : (old : List Bound) (before : ℕ → Fraction) → HeadsEnclose m old before → HeadsEnclose a old before
-  encloses_first old before olds c k = olds c (cell_of_member c k)
-
   pub time_of_member : (at : TimeStep) → Contains (times a) at → Contains (times m) at
   time_of_member at k = subst (λ (ts : List TimeStep). Contains ts at) (sym h.steps) k
+
+-- The cells of a choice are the variable cells of the first deck.
+ids_between : (es fs gs : List ExactCell) → IsStepBetween es fs gs → map (λ e. e.id) fs ≡ map (λ e. e.id) es
+ids_between es fs gs none = refl
+ids_between es fs gs (next h hs) = λ i. h.id i ∷ ids_between _ _ _ hs i
+
+choice_cells : (a : FlowModel) (o : Option FlowModel) (at : TimeStep) (x : Choice) → IsChoiceOf a o at x → (before : ℕ → Fraction) →
+    map (λ e. e.id) (step_from before x.cells) ≡ variable_cells a at.period
+choice_cells a None at x h before = ap (map (λ (e : ExactCell). e.id)) (h.cells before) ∙ ids_are a at.period at.step before
+choice_cells a (Some b) at x h before =
+    ids_between (exact_step a at.period at.step before) (step_from before x.cells) (exact_step b at.period at.step before) (h.cells before) ∙ ids_are a at.period at.step before
+
+pub chosen_cells : (d : Decks) (at : TimeStep) (x : Choice) → IsChoiceOf d.first d.second at x → (before : ℕ → Fraction) →
+    map (λ e. e.id) (step_from before x.cells) ≡ variable_cells d.first at.period
+chosen_cells d at x h before = choice_cells d.first d.second at x h before
+
+-- the equations of one deck are its choice
+pub own_choice_is : (m : FlowModel) (at : TimeStep) → IsOwnChoice m at (own_choice m at)
+own_choice_is m at = record { heads = λ c. refl; cells = own_step m at.period at.step (start_head m) }
+
+-- its solutions are those of the choice
+module _ (m : FlowModel) (at : TimeStep) (before : ℕ → Fraction) (d : ℕ) (X : ℕ → ℤ) where
+  abbrev Solved : List ExactCell → Type 0
+  Solved e = SolvesStep e d (variable_heads e X)
+
+  pub own_solves : SolvesAt m at before d X → SolvesChoiceAt m at (own_choice m at) before d X
+  own_solves h = record { constant = h.constant; balances = subst Solved (sym ((own_choice_is m at).cells before)) h.balances }
+
+  pub solves_own : SolvesChoiceAt m at (own_choice m at) before d X → SolvesAt m at before d X
+  solves_own h = record { constant = h.constant; balances = subst Solved ((own_choice_is m at).cells before) h.balances }

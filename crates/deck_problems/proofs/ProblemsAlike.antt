@@ -1,8 +1,9 @@
 -- The problems of two valid models that are alike are alike.
 use Rattle.deck_problems.proofs.Common.{◌≡◌, ◌∙◌, ℕ, refl, sym, ap, subst, List, length, map, ◌∷◌, [], Bound, Entries, FlowModel, TimeStep, cell_count}
 use Rattle.deck_problems.proofs.Common.{FixedSource, FlowSource, variable_faces, AllThree, flow_shape, fixed_shape, river_shape, drain_shape, evap_shape}
-use Rattle.deck_problems.proofs.Common.{cell_shape, IsPeriodBetween, alike_between, framed_is, IsProblemOf, ProblemsAreAlike, none, next, whole_flow}
-use Rattle.deck_problems.proofs.Common.{whole_link, whole_fixed, whole_river, whole_drain, whole_evap, whole_cell, cells_of, variable_cells}
+use Rattle.deck_problems.proofs.Common.{cell_shape, IsPeriodBetween, alike_between, IsProblemOf, ProblemsAreAlike, none, next, whole_flow, whole_link}
+use Rattle.deck_problems.proofs.Common.{whole_fixed, whole_river, whole_drain, whole_evap, whole_cell, cells_of, variable_cells}
+use Rattle.deck_span.proofs.StepsBetween.{framed_is}
 use Rattle.decimal_input.specs.declared.dec.Dec.{Dec}
 use Rattle.model_types.specs.declared.face.Axis.{Axis}
 use Rattle.model_types.specs.declared.face.Axis.TheVariants.{Row, Column, Vertical}

@@ -1,11 +1,11 @@
 -- The bounds of the starting heads of decks.
 use Rattle.deck_problems.proofs.Common.{◌≡◌, ◌<◌, ◌∙◌, ℕ, Option, Some, None, List, length, sym, subst, arith, IfSome, get_or_default, Bound, IsHead, no_bound}
 use Rattle.deck_problems.proofs.Common.{lower_at, upper_at, FlowModel, start_head, IsModel, AreGridHeads, HeadsEnclose, bound_at, lower_head, upper_head}
-use Rattle.deck_problems.proofs.Common.{IsBetween, hull_of_numbers, starts_between, Decks, IsSecond, HoldsOf, IsHullBound, AreHullBounds, StartHeadsAreOne}
+use Rattle.deck_problems.proofs.Common.{IsFractionBetween, IsStartOf, Fraction, hull_of_numbers, Decks, IsSecond, IsHullBound, AreHullBounds, StartHeadsAreOne}
 use Rattle.deck_problems.proofs.Common.{StartHeadsFit, StartHeadsEnclose, AreStartHeads, AreStartHulls, AreStartsBy, AreStartHeadsFor, refl, ext_get_or}
 use Rattle.deck_problems.proofs.Common.{each_cell, start_bound, starts_fit, starts_enclose}
 use Rattle.deck_problems.proofs.Enclosing.{second_cells}
-use Rattle.deck_problems.proofs.OneProblem.{between_cells, cell_of_first, cell_of_member}
+use Rattle.deck_problems.proofs.OneProblem.{cell_of_member}
 
 same_hull : (a b x y : Bound) → IsHullBound a b x → IsHullBound a b y → x ≡ y
 same_hull a b x y h k = grind (arith)
@@ -42,12 +42,10 @@ module _ (a b : FlowModel) (valid : IsModel a) (second : IsSecond a b) (x : List
         range = λ c d lt. subst AreHeads (get_or_default x c no_bound d lt) (each_fits c (omega (arith, lt, h.whole)));
       }
 
-  hulls_enclose_starts : (m : FlowModel) → IsBetween a m b → HeadsEnclose m x (start_head m)
-  hulls_enclose_starts m between c active =
-      let of_a = cell_of_first a m (between_cells a m b between) c active in
-      let of_b = cell_of_member a b (second_cells a b second) c of_a in
-      hull_of_numbers _ _ _ _ (lower_at x c) (upper_at x c) 9 (start_head a c) (start_head m c) (start_head b c) (h.each c (omega (arith, of_a.within, first_grid.whole)))
-      (starts_enclose a xs refl c of_a) (starts_enclose b ys refl c of_b) (starts_between a m b between c)
+  hulls_enclose_starts : (f : ℕ → Fraction) → ((c : ℕ) → IsFractionBetween (start_head a c) (f c) (start_head b c)) → HeadsEnclose a x f
+  hulls_enclose_starts f between c active =
+      hull_of_numbers _ _ _ _ (lower_at x c) (upper_at x c) 9 (start_head a c) (f c) (start_head b c) (h.each c (omega (arith, active.within, first_grid.whole)))
+      (starts_enclose a xs refl c active) (starts_enclose b ys refl c (cell_of_member a b (second_cells a b second) c active)) (between c)
 
 one_by : (a : FlowModel) (o : Option FlowModel) (x y : List Bound) → AreStartsBy a o x → AreStartsBy a o y → x ≡ y
 one_by a None x y h k = h ∙ sym k
@@ -57,9 +55,10 @@ fit_by : (a : FlowModel) (o : Option FlowModel) (x : List Bound) → IsModel a �
 fit_by a None x valid second h = starts_fit a x valid h
 fit_by a (Some b) x valid second h = hulls_fit a b valid second x h
 
-enclose_by : (a : FlowModel) (o : Option FlowModel) (x : List Bound) → IsModel a → IfSome o (IsSecond a) → AreStartsBy a o x → HoldsOf a o (λ m. HeadsEnclose m x (start_head m))
-enclose_by a None x valid second h = starts_enclose a x h
-enclose_by a (Some b) x valid second h = hulls_enclose_starts a b valid second x h
+enclose_by : (a : FlowModel) (o : Option FlowModel) (x : List Bound) → IsModel a → IfSome o (IsSecond a) → AreStartsBy a o x →
+    (f : ℕ → Fraction) → IsStartOf a o f → HeadsEnclose a x f
+enclose_by a None x valid second h f is = subst (HeadsEnclose a x) (sym is) (starts_enclose a x h)
+enclose_by a (Some b) x valid second h f is = hulls_enclose_starts a b valid second x h f is
 
 pub starts_are_one : StartHeadsAreOne
 starts_are_one d x y decks h k = one_by d.first d.second x y h k
@@ -67,8 +66,8 @@ starts_are_one d x y decks h k = one_by d.first d.second x y h k
 pub starts_fit_decks : StartHeadsFit
 starts_fit_decks d x decks h = fit_by d.first d.second x decks.first decks.second h
 
-pub starts_enclose_members : StartHeadsEnclose
-starts_enclose_members d x decks h = enclose_by d.first d.second x decks.first decks.second h
+pub starts_enclose_all : StartHeadsEnclose
+starts_enclose_all d x decks h = enclose_by d.first d.second x decks.first decks.second h
 
 pub starts_hulled : (d : Decks) (b : FlowModel) → d.second ≡ Some b → (xs ys rs : List Bound) → AreStartHeads d.first xs → AreStartHeads b ys → AreHullBounds xs ys rs → AreStartHeadsFor d rs
 starts_hulled d b is xs ys rs h k r = grind (arith)

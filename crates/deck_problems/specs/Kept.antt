@@ -1,7 +1,7 @@
 -- The tables that a run keeps from step to step.
 use Rattle.std.specs.Prelude.{◌≡◌, ℕ, ◌<◌, List, length, map, ℤ, true, false, Option, Some, None, IfSome}
 use Rattle.model_types.specs.declared.model.FlowModel.{FlowModel}
-use Rattle.model_types.specs.{given_heads, variable_cells, cell_count, is_constant, IsModel}
+use Rattle.model_types.specs.{given_heads, variable_cells, cell_count, constant_head, is_constant, start_head, IsModel}
 use Rattle.problem_builder.specs.{AreTables, ArePeriodTables, AreEvenStorages, BothOrNone, AreConstantHeads, HeadsEnclose, IsActive, IsProblemOf}
 use Rattle.problem_builder.specs.{IsConstantPair, AreStartHeads, bound_at, Filled, each_cell, start_bound, constant_bound, IsCellNamed}
 use Rattle.deck_problems.specs.declared.decks.Decks.{Decks}
@@ -18,7 +18,7 @@ use Rattle.step_problem.specs.declared.refusal.BoundFault.TheVariants.{NoBound a
 use Rattle.problem_hull.specs.{IsTooLarge, IsHullPair}
 use Rattle.deck_problems.specs.declared.problem.DeckProblem.{DeckProblem}
 use Rattle.step_problem.specs.{no_bound}
-use Rattle.deck_span.specs.{AreAlike, IsBetween}
+use Rattle.deck_span.specs.{AreAlike, Choice, IsBetween, IsChoiceBetween, IsFractionBetween, step_from}
 
 -- the digits of conductances
 abbrev pub digits_of : RunTables → ℕ
@@ -45,6 +45,10 @@ pub record AreDeckTables (d : Decks) (s : ℕ) (t : DeckTables) : Type 0 where
 -- p encloses the exact step of a model from all exact heads within the old ones
 abbrev pub EnclosesSteps : ℕ → TimeStep → List Bound → List Entries → FlowModel → Type 0
 EnclosesSteps s at old p m = (before : ℕ → Fraction) → HeadsEnclose m old before → EnclosesStep s p (exact_step m at.period at.step before)
+
+-- p encloses the chosen equations of a step from all exact heads within the old ones, which are heads of the cells of m
+abbrev pub EnclosesChoice : FlowModel → ℕ → List Bound → List Entries → Choice → Type 0
+EnclosesChoice m s old p x = (before : ℕ → Fraction) → HeadsEnclose m old before → EnclosesStep s p (step_from before x.cells)
 
 -- the variable cells of a problem are those of a model, and each cell that it names is active
 pub record HasCellsOf (m : FlowModel) (at : TimeStep) (p : List Entries) : Type 0 where
@@ -107,7 +111,7 @@ AreStartsBy a (Some b) heads = AreStartHulls a b heads
 abbrev pub AreStartHeadsFor : Decks → List Bound → Type 0
 AreStartHeadsFor d heads = AreStartsBy d.first d.second heads
 
--- The models of a run: that of one deck, or all models between those of two decks.
+-- The decks of a run, and the models of one deck or between two.
 -- the model of one deck
 abbrev pub one_deck : FlowModel → Decks
 one_deck m = record { first = m; second = None }
@@ -130,10 +134,29 @@ IsOf a (Some b) m = IsBetween a m b
 abbrev pub IsMember : Decks → FlowModel → Type 0
 IsMember d m = IsOf d.first d.second m
 
--- P holds of the model of the one deck, or of every model between those of the two
-abbrev pub HoldsOf : FlowModel → Option FlowModel → (FlowModel → Type 0) → Type 0
-HoldsOf a None P = P a
-HoldsOf a (Some b) P = (m : FlowModel) → IsBetween a m b → P m
+-- The choices of a time step: that of one deck, or all choices between two decks.
+-- the equations of m itself
+pub record IsOwnChoice (m : FlowModel) (at : TimeStep) (x : Choice) : Type 0 where
+  pub heads : (c : ℕ) → x.heads c ≡ constant_head m at.period at.step c
+  pub cells : (old : ℕ → Fraction) → step_from old x.cells ≡ exact_step m at.period at.step old
 
-abbrev pub EachMember : Decks → (FlowModel → Type 0) → Type 0
-EachMember d P = HoldsOf d.first d.second P
+abbrev pub IsChoiceOf : FlowModel → Option FlowModel → TimeStep → Choice → Type 0
+IsChoiceOf a None at x = IsOwnChoice a at x
+IsChoiceOf a (Some b) at x = IsChoiceBetween a b at x
+
+-- P holds of each choice
+abbrev pub EachChoice : Decks → TimeStep → (Choice → Type 0) → Type 0
+EachChoice d at P = (x : Choice) → IsChoiceOf d.first d.second at x → P x
+
+-- p encloses each choice of a step from all exact heads within the old ones
+abbrev pub EnclosesChoices : Decks → ℕ → TimeStep → List Bound → List Entries → Type 0
+EnclosesChoices d s at old p = EachChoice d at (EnclosesChoice d.first s old p)
+
+-- The starting heads: STRT of one deck, or any heads between those of two decks.
+abbrev pub IsStartOf : FlowModel → Option FlowModel → (ℕ → Fraction) → Type 0
+IsStartOf a None f = f ≡ start_head a
+IsStartOf a (Some b) f = (c : ℕ) → IsFractionBetween (start_head a c) (f c) (start_head b c)
+
+-- the bounds enclose all starting heads of the decks
+abbrev pub EnclosesStarts : Decks → List Bound → Type 0
+EnclosesStarts d heads = (f : ℕ → Fraction) → IsStartOf d.first d.second f → HeadsEnclose d.first heads f

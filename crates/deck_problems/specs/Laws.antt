@@ -8,12 +8,12 @@ use Rattle.step_problem.specs.{IsProblem, IsHead}
 use Rattle.step_problem.specs.Entries.{Entries}
 use Rattle.model_types.specs.declared.model.FlowModel.{FlowModel}
 use Rattle.model_types.specs.declared.time_steps.TimeStep.{TimeStep}
-use Rattle.model_types.specs.{cell_count, constant_head, start_head, is_constant, times, IsModel}
-use Rattle.problem_builder.specs.{AreGridHeads, HeadsEnclose, IsProblemOf, problem_of, unless_refused}
+use Rattle.model_types.specs.{cell_count, is_constant, times, IsModel}
+use Rattle.problem_builder.specs.{AreGridHeads, IsProblemOf, problem_of, unless_refused}
 use Rattle.problem_hull.specs.{AreAlike as AreProblemsAlike, cell_hull, zip_with, first_refusal}
 use Rattle.deck_span.specs.{AreAlike}
 use Rattle.deck_problems.specs.declared.decks.Decks.{Decks}
-use Rattle.deck_problems.specs.Kept.{AreDecks, EachMember, IsConstantPairFor, AreStartHeadsFor, EnclosesSteps}
+use Rattle.deck_problems.specs.Kept.{AreDecks, EachChoice, IsConstantPairFor, AreStartHeadsFor, EnclosesChoices, EnclosesStarts}
 use Rattle.step_problem.specs.declared.refusal.BoundFault.{BoundFault}
 use Rattle.step_problem.specs.declared.refusal.BoundFault.TheVariants.{NoBound as Refused, Memory}
 
@@ -64,13 +64,13 @@ pub record IsBefore (d : Decks) (at : TimeStep) (old : List Bound) : Type 0 wher
 abbrev pub ProblemFits : Type 0
 ProblemFits = (d : Decks) (s : ℕ) (at : TimeStep) (old : List Bound) (p : List Entries) → IsBefore d at old → IsProblemFor d s at old p → IsProblem p
 
--- from all exact heads within the old ones, it encloses the exact step of each member
+-- from all exact heads within the old ones, it encloses each choice of the step
 abbrev pub ProblemEncloses : Type 0
 ProblemEncloses =
     (d : Decks) (s : ℕ) (at : TimeStep) (old : List Bound) (p : List Entries) → IsBefore d at old → IsProblemFor d s at old p →
-    EachMember d (EnclosesSteps s at old p)
+    EnclosesChoices d s at old p
 
--- A constant-head cell has one pair at a time, of heads in range, and it encloses the exact head of each member.
+-- A constant-head cell has one pair at a time, of heads in range, and it encloses the head of each choice.
 module _ (d : Decks) (at : TimeStep) (c : ℕ) where
   pub record IsConstantCell : Type 0 where
     pub decks : AreDecks d
@@ -89,9 +89,9 @@ ConstantPairFits = (d : Decks) (at : TimeStep) (c : ℕ) (lo hi : ℤ) → IsCon
 abbrev pub ConstantPairEncloses : Type 0
 ConstantPairEncloses =
     (d : Decks) (at : TimeStep) (c : ℕ) (lo hi : ℤ) → IsConstantCell d at c → IsConstantPairFor d at c lo hi →
-    EachMember d (λ m. EnclosesSigned lo hi 9 (constant_head m at.period at.step c))
+    EachChoice d at (λ x. EnclosesSigned lo hi 9 (x.heads c))
 
--- the bounds of the starting heads are one list, of heads in range, and enclose the starting heads of each member
+-- the bounds of the starting heads are one list, of heads in range, and enclose all starting heads of the decks
 abbrev pub StartHeadsAreOne : Type 0
 StartHeadsAreOne = (d : Decks) (x y : List Bound) → AreDecks d → AreStartHeadsFor d x → AreStartHeadsFor d y → x ≡ y
 
@@ -99,4 +99,4 @@ abbrev pub StartHeadsFit : Type 0
 StartHeadsFit = (d : Decks) (x : List Bound) → AreDecks d → AreStartHeadsFor d x → AreGridHeads d.first x
 
 abbrev pub StartHeadsEnclose : Type 0
-StartHeadsEnclose = (d : Decks) (x : List Bound) → AreDecks d → AreStartHeadsFor d x → EachMember d (λ m. HeadsEnclose m x (start_head m))
+StartHeadsEnclose = (d : Decks) (x : List Bound) → AreDecks d → AreStartHeadsFor d x → EnclosesStarts d x

@@ -8,7 +8,7 @@ pub fn problems_are_alike()
     ensures { ProblemsAreAlike }
 {}
 
-/// A problem that the definition gives meets the conditions on problems, and encloses the exact step of each member.
+/// A problem that the definition gives meets the conditions on problems, and encloses each choice of the step.
 pub fn problems_fit()
     ensures fit { ProblemFits }
     ensures enclose { ProblemEncloses }
@@ -16,14 +16,14 @@ pub fn problems_fit()
     problem_builder::laws::problems_fit();
 }
 
-/// A constant-head cell has one pair at a time, of heads in range, and it encloses the exact head of each member.
+/// A constant-head cell has one pair at a time, of heads in range, and it encloses the head of each choice.
 pub fn constant_pairs()
     ensures one { ConstantPairIsOne }
     ensures fit { ConstantPairFits }
     ensures encloses { ConstantPairEncloses }
 {}
 
-/// The bounds of the starting heads are one list, of heads in range, and enclose the starting heads of each member.
+/// The bounds of the starting heads are one list, of heads in range, and enclose all starting heads of the decks.
 pub fn start_heads()
     ensures one { StartHeadsAreOne }
     ensures fit { StartHeadsFit }

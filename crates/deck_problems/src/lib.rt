@@ -1,5 +1,5 @@
-//! The problem of a time step of one deck, or of two decks at once: the hull of their problems, which encloses the
-//! exact step of every model between them.
+//! The problem of a time step of one deck, or of two decks at once: the hull of their problems, which encloses
+//! every exact step between theirs.
 #![tactic(auto)]
 
 pub mod decks;

@@ -4,8 +4,8 @@ ghost use Rattle.step_problem.specs.{IsProblem};
 ghost use Rattle.model_types.specs.{times, IsModel};
 ghost use Rattle.problem_builder.specs.{AreGridHeads, IsBuildFault, BothOrNone};
 ghost use Rattle.problem_hull.specs.{IsHull, AreAlike as AreProblemsAlike};
-ghost use Rattle.deck_problems.specs.{AreDecks, EachMember, AreConstantHeadsFor, AreDeckTables, digits_of, EnclosesSteps, HasCellsOf, IsHullRefusal};
-ghost use Rattle.deck_problems.specs.{AreRunTables, AreTablesOf, IsModelProblem, IsProblemFor, IsFaultFor};
+ghost use Rattle.deck_problems.specs.{AreDecks, AreConstantHeadsFor, AreDeckTables, digits_of, EnclosesChoices, HasCellsOf, IsHullRefusal, AreRunTables};
+ghost use Rattle.deck_problems.specs.{AreTablesOf, IsModelProblem, IsProblemFor, IsFaultFor};
 
 use crate::decks::Decks;
 use crate::kept::RunTables;
@@ -61,8 +61,8 @@ pub fn problem_for(
     ensures constant { IfOk result (λ x. AreConstantHeadsFor decks.now at x.constant_heads) }
     ensures fault { IfErr result (IsFaultFor decks.now (digits_of tables.old.first) at old.now) }
     ensures cells { IfOk result (λ x. HasCellsOf decks.now.first at x.problem) }
-    // From all exact heads within the old ones, it encloses the exact step of each member.
-    ensures encloses { IfOk result (λ x. EachMember decks.now (EnclosesSteps (digits_of tables.old.first) at old.now x.problem)) }
+    // From all exact heads within the old ones, it encloses each choice of the step.
+    ensures encloses { IfOk result (λ x. EnclosesChoices decks.now (digits_of tables.old.first) at old.now x.problem) }
 {
     let s = tables.first.tables.digits;
     let first = model_problem(alloc, &decks.first, &mut tables.first, at, old)?;

@@ -1,8 +1,7 @@
 // The heads before the first time step.
 ghost use Rattle.std.specs.Prelude.{IfOk, ◌≡◌, ◌<◌, length};
-ghost use Rattle.model_types.specs.{start_head};
-ghost use Rattle.problem_builder.specs.{AreGridHeads, HeadsEnclose, bound_at};
-ghost use Rattle.deck_problems.specs.{AreDecks, EachMember, AreStartHeadsFor, IsHullBound, AreHullBounds};
+ghost use Rattle.problem_builder.specs.{AreGridHeads, bound_at};
+ghost use Rattle.deck_problems.specs.{AreDecks, EnclosesStarts, AreStartHeadsFor, IsHullBound, AreHullBounds};
 
 use crate::decks::Decks;
 use crate::laws;
@@ -17,7 +16,7 @@ pub fn start_heads_for(alloc: Global, decks: &Decks) -> Result<Listed<Bound>, Al
     requires { AreDecks decks.now }
     ensures bounds { IfOk result (AreStartHeadsFor decks.now) }
     ensures heads { IfOk result (AreGridHeads decks.now.first) }
-    ensures encloses { IfOk result (λ v. EachMember decks.now (λ m. HeadsEnclose m v (start_head m))) }
+    ensures encloses { IfOk result (EnclosesStarts decks.now) }
 {
     laws::start_heads();
     let first = Listed::new(start_heads(alloc, &decks.first)?);

@@ -1,9 +1,8 @@
 -- Each of two models that are alike lies between the two.
 use Rattle.deck_span.proofs.Common.{◌≡◌, ◌*◌, ◌⊎◌, [], ◌∷◌, refl, subst, inl, inr, arith, List, length, AllZip, cases_lt, Dec, number, size, Ratio, Fraction}
 use Rattle.deck_span.proofs.Common.{Entry, Given, CellId, FlowModel, Period, AllThree, none, next, IsFractionBetween, IsRatioBetween, IsDecBetween}
-use Rattle.deck_span.proofs.Common.{IsSizeBetween, IsEntryBetween, IsGivenAtMost, IsGivenBetween, IsRateBetween, IsPeriodBetween, IsBetween, wells, rivers}
-use Rattle.deck_span.proofs.Common.{drains, generals, AreGivenAlike, ArePeriodsAlike, AreAlike, AreEntriesAlike, AreRatesAlike, LiesBetween, AtMost-refl}
-use Rattle.deck_span.proofs.Common.{by_lt_z}
+use Rattle.deck_span.proofs.Common.{IsSizeBetween, IsEntryBetween, IsGivenBetween, IsRateBetween, IsPeriodBetween, IsBetween, wells, rivers, drains, generals}
+use Rattle.deck_span.proofs.Common.{AreGivenAlike, ArePeriodsAlike, AreAlike, AreEntriesAlike, AreRatesAlike, LiesBetween, AtMost-refl, by_lt_z, between_heads}
 use Rattle.deck_span.proofs.HullBounds.{at_most_is_reflexive}
 use Rattle.decimal_input.specs.Ratios.{den as ratio_den, AtMost as IsRatioAtMost}
 use Rattle.model_types.specs.declared.entry.Entry.TheVariants.{Well, River, Drain, General}
@@ -65,11 +64,13 @@ entries (General c s₁ k₁) (General d s₂ k₂) e =
     subst (λ (k : CellId). Both IsEntryBetween (General c s₁ k₁) (General k s₂ k₂)) same (generals (decs s₁ s₂).0 (sizes k₁ k₂).0, generals (decs s₁ s₂).1 (sizes k₁ k₂).1)
 entries x y e = absurd (cc)
 
-at_most_itself : (x : Given) → IsGivenAtMost x x
-at_most_itself x = record { start = at_most_is_reflexive (number x.shead); end = at_most_is_reflexive (number x.ehead) }
-
 given_heads : (x y : Given) → AreGivenAlike x y → Both IsGivenBetween x y
-given_heads x y h = grind (arith, both_between, at_most_itself)
+given_heads x y e =
+    let at = λ (part : Ratio). fractions (between_heads x part) (between_heads y part) in
+    let end = decs x.ehead y.ehead in (
+      record { cell = refl; alike = e; heads = λ part whole. (at part).0; end = end.0 },
+      record { cell = e; alike = e; heads = λ part whole. (at part).1; end = end.1 },
+    )
 
 rates : (x y : Dec) → AreRatesAlike x y → Both IsRateBetween x y
 rates x y e = (record { rate = (sizes x y).0; idle = refl; alike = e }, record { rate = (sizes x y).1; idle = e; alike = e })

@@ -3,9 +3,14 @@ use Rattle.deck_span.proofs.Common.{◌≡◌, ℕ, ◌<◌, List, [], ◌∷◌
 use Rattle.deck_span.proofs.Common.{inr, AllZip, each_same, get_or_from_slice_get, slice_get_read, Dec, Package, Dis, Lpf, FlowModel, Period, cell_count}
 use Rattle.deck_span.proofs.Common.{layer_size, AreSame, IsFirst, Finds, InOrder, IsFirstOfLayers, IsLayerCell, IsListCell, IsFound, apart, array_at}
 use Rattle.deck_span.proofs.Common.{cell_in_grid, AreArraysSame, SharesGrid, SharesIn, SharesProperties, IsCellIn, IsHeadCell, IsPeriodCell, SharesOptions}
-use Rattle.deck_span.proofs.Common.{SharesSizes, bottoms, properties, CellId}
+use Rattle.deck_span.proofs.Common.{SharesSizes, bottoms, properties, CellId, Bool, true, false, MatchBool}
 use Rattle.model_types.specs.declared.grid.Grid.{Grid}
 use Rattle.deck_span.proofs.Layers.{first_not_all}
+
+-- a fact in place of another one that holds exactly where it does
+pub turned_to : (r : Bool) (P Q : Type 0) → (P → Q) → (Q → P) → MatchBool r P (P → ⊥) → MatchBool r Q (Q → ⊥)
+turned_to true P Q to from h = to h
+turned_to false P Q to from h = λ q. h (from q)
 
 -- what one part finds, told of the whole
 pub finds_more : (S T : Type 0) (M N : Option CellId → Type 0) (r : Result (Unit {0}) (Option CellId)) → (S → T) → (T → S) → ((c : Option CellId) → M c → N c) → Finds S M r → Finds T N r

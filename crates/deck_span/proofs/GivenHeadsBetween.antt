@@ -1,8 +1,9 @@
--- A given head lies between those of the other two decks at each step.
+-- A given head whose two ends lie between those of two others, in one order, lies between theirs at each part of the period; and at a step of a
+-- period the part that has passed is at most 1.
 use Rattle.deck_span.proofs.Common.{◌≡◌, ℕ, zero, suc, ◌+◌, ◌*◌, ◌-◌, ◌≤◌, arith, subst, Bool, true, false, cond, ℤ, pos, neg_ℤ, ◌+ℤ◌, ◌*ℤ◌, mul-pos, ints}
 use Rattle.deck_span.proofs.Common.{◌==◌, ◌||◌, number, Ratio, AtMost, mul_mono_right, le_over, over_le, own_share, AtMost-refl, num_plus, den_plus, Period}
-use Rattle.deck_span.proofs.Common.{Given, one, power, geometric, multiplier, part_passed, between_heads, IsFractionBetween, IsGivenAtMost, IsGivenBetween}
-use Rattle.deck_span.proofs.Common.{AtMost-trans, le-add}
+use Rattle.deck_span.proofs.Common.{Given, one, power, geometric, multiplier, part_passed, between_heads, IsFractionBetween, IsGivenAtMost, LiesBetween}
+use Rattle.deck_span.proofs.Common.{AtMost-trans, le-add, OrderedHeadsLieBetween}
 use Rattle.decimal_input.specs.{over as size_over, ratio as size_ratio}
 use Rattle.decimal_input.proofs.Differences.{diffs, as_diff, same_diff}
 use Rattle.decimal_input.specs.Ratios.{den as size_den, AtMost as IsRatioAtMost, plus as size_plus}
@@ -32,8 +33,16 @@ module _ (F : Ratio) (part : F.num ≤ size_den F) where
       (le-add _ _ _ _ (mul_mono_right (k - F.num) o.a o.p (over_le d s u o.a o.p o.f_over o.h_over h.start))
       (mul_mono_right F.num o.b o.q (over_le d e v o.b o.q o.g_over o.k_over h.end))))
 
-  pub heads_between : (x y z : Given) → IsGivenBetween x y z → IsFractionBetween (between_heads x F) (between_heads y F) (between_heads z F)
-  heads_between x y z h = between_image IsGivenAtMost AtMost (λ a. between_heads a F) keeps x y z h.heads
+  heads_between : (x y z : Given) → LiesBetween IsGivenAtMost x y z → IsFractionBetween (between_heads x F) (between_heads y F) (between_heads z F)
+  heads_between x y z h = between_image IsGivenAtMost AtMost (λ a. between_heads a F) keeps x y z h
+
+pub ordered_between : OrderedHeadsLieBetween
+ordered_between x y z cell alike h = record {
+  cell = cell;
+  alike = alike;
+  heads = λ F part. heads_between F part x y z h;
+  end = between_image IsGivenAtMost AtMost (λ a. number a.ehead) (λ a b k. k.end) x y z h;
+}
 
 -- the part of a period that has passed is at most 1
 

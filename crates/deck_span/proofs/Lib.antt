@@ -1,5 +1,4 @@
 mod Common
-pub mod NumberOrders
 pub mod Layers
 pub mod Finding
 pub mod AlikeParts
@@ -12,3 +11,4 @@ pub mod SourcesBetween
 pub mod StepsBetween
 pub mod SameFrames
 pub mod AlikeBetween
+pub mod OwnChoices

@@ -1,12 +1,11 @@
 -- What a model between two others has in common with them; and where some model lies between two, the two are alike.
 use Rattle.deck_span.proofs.Common.{◌≡◌, ℕ, ◌≤◌, ap, subst, List, length, map, flat_map, range_with_len, AllZip, Dec, FlowModel, Period, cell_count, is_active}
 use Rattle.deck_span.proofs.Common.{period_at, is_variable, index_of, start_head, constant_head, AllThree, IsFractionBetween, IsDecBetween, IsPeriodBetween}
-use Rattle.deck_span.proofs.Common.{IsBetween, none, next, IsEntryBetween, IsGivenAtMost, IsGivenBetween, IsRateBetween, wells, rivers, drains, generals}
-use Rattle.deck_span.proofs.Common.{AreGivenAlike, ArePeriodsAlike, AreAlike, AreEntriesAlike, AreRatesAlike, Fraction, inl, inr, refl, Entry, Given}
+use Rattle.deck_span.proofs.Common.{IsBetween, none, next, IsEntryBetween, IsGivenBetween, IsRateBetween, wells, rivers, drains, generals, AreGivenAlike}
+use Rattle.deck_span.proofs.Common.{ArePeriodsAlike, AreAlike, AreEntriesAlike, AreRatesAlike, Fraction, refl, Entry}
 use Rattle.model_types.specs.{times}
 use Rattle.deck_span.proofs.SourcesBetween.{framed, no_dec, at_period, variable_is, cells_are}
 use Rattle.deck_span.proofs.StepsBetween.{framed_is, constant_between}
-use Rattle.decimal_input.proofs.FloorLaws.{AtMost-trans}
 use Rattle.deck_span.proofs.ThreeLists.{three_at, three_lengths}
 
 framed_times : (f : FlowModel) (s₁ s₂ s₃ : List Dec) (ps qs rs : List Period) → AllThree IsPeriodBetween ps qs rs → times (framed f s₂ qs) ≡ times (framed f s₁ ps)
@@ -54,15 +53,6 @@ same_entry x y z (rivers h k r) = refl
 same_entry x y z (drains h k) = refl
 same_entry x y z (generals h k) = refl
 
-same_order : (x y z : Given) → IsGivenAtMost x y → IsGivenAtMost y z → IsGivenAtMost x z
-same_order x y z h k = record { start = AtMost-trans h.start k.start; end = AtMost-trans h.end k.end }
-
-same_given : (x y z : Given) → IsGivenBetween x y z → AreGivenAlike x z
-same_given x y z h = record {
-  cell = h.alike;
-  heads = elim h.heads.lies [ inl o ↦ inl (same_order x y z o.0 o.1) | inr o ↦ inr (same_order z y x o.0 o.1) ];
-}
-
 same_period : (p m q : Period) → IsPeriodBetween p m q → ArePeriodsAlike p q
 same_period p m q h = record {
   same = h.alike;
@@ -70,7 +60,7 @@ same_period p m q h = record {
   rivers = same_items IsEntryBetween AreEntriesAlike same_entry _ _ _ h.rivers;
   drains = same_items IsEntryBetween AreEntriesAlike same_entry _ _ _ h.drains;
   generals = same_items IsEntryBetween AreEntriesAlike same_entry _ _ _ h.generals;
-  given = same_items IsGivenBetween AreGivenAlike same_given _ _ _ h.given;
+  given = same_items IsGivenBetween AreGivenAlike (λ x y z k. k.alike) _ _ _ h.given;
   recharge = (three_lengths IsDecBetween _ _ _ h.recharge).1;
   surf = (three_lengths IsDecBetween _ _ _ h.surf).1;
   evtr = same_items IsRateBetween AreRatesAlike (λ x y z k. k.alike) _ _ _ h.evtr;

@@ -6,8 +6,8 @@ use Rattle.deck_span.proofs.Common.{column_conductance, vertical_conductance, ve
 use Rattle.deck_span.proofs.Common.{variable_cells, start_head, kept_head, head_or_kept, constant_head, between_heads, EvapSource, FixedSource, FlowSource}
 use Rattle.deck_span.proofs.Common.{variable_faces, evap_sources, storage, IsModel, IsEvapValid, AllThree, none, next, IsFractionBetween, IsRatioBetween}
 use Rattle.deck_span.proofs.Common.{IsDecBetween, IsFlowBetween, IsFixedBetween, IsRiverBetween, IsDrainBetween, IsEvapBetween, IsCellBetween, IsStepBetween}
-use Rattle.deck_span.proofs.Common.{IsGivenBetween, IsPeriodBetween, IsBetween, IsGivenAtMost, frame, period_frame, get_or_default, and_parts, exact_river}
-use Rattle.deck_span.proofs.Common.{exact_drain, exact_link, exact_fixed, exact_flow, exact_evap, exact_cell, exact_step, All-head, All-tail}
+use Rattle.deck_span.proofs.Common.{IsGivenBetween, IsPeriodBetween, IsBetween, frame, period_frame, get_or_default, and_parts, exact_river, exact_drain}
+use Rattle.deck_span.proofs.Common.{exact_link, exact_fixed, exact_flow, exact_evap, exact_cell, exact_step, All-head, All-tail}
 use Rattle.std.specs.Prelude.{pos, ℤ}
 use Rattle.decimal_input.specs.Fractions.{times}
 use Rattle.decimal_input.specs.Ratios.{times as size_times, AtMost as IsRatioAtMost}
@@ -18,7 +18,7 @@ use Rattle.std.proofs.lemmas.Bool.Decides.{nat_tests}
 use Rattle.deck_span.proofs.ThreeLists.{OptionThree, three_at, three_map}
 use Rattle.deck_span.proofs.ThreeLists.OptionThree.{nothing, something}
 use Rattle.deck_span.proofs.HullBounds.{number_itself, size_itself, between_image, times_keeps, plus_keeps, rate_keeps}
-use Rattle.deck_span.proofs.GivenHeadsBetween.{heads_between, part_of}
+use Rattle.deck_span.proofs.GivenHeadsBetween.{part_of}
 use Rattle.deck_span.proofs.SourcesBetween.{IsFlowSourceBetween, IsFixedSourceBetween, IsRiverSourceBetween, IsDrainSourceBetween, IsEvapSourceBetween, framed}
 use Rattle.deck_span.proofs.SourcesBetween.{no_dec, given_three, last_three, at_period, cells_are, faces_are, three_flows, three_fixed, three_rivers}
 use Rattle.deck_span.proofs.SourcesBetween.{three_drains, three_evaps}
@@ -78,12 +78,9 @@ module _ (f : FlowModel) (s₁ s₂ s₃ : List Dec) (ps qs rs : List Period) (s
   pub started : (c : ℕ) → IsFractionBetween (start_head A c) (start_head M c) (start_head B c)
   started c = three_at IsDecBetween s₁ s₂ s₃ c no_number no_number no_number starts no_dec
 
-  ended : (x y z : Given) → IsGivenBetween x y z → IsFractionBetween (number x.ehead) (number y.ehead) (number z.ehead)
-  ended x y z h = between_image IsGivenAtMost AtMost (λ a. number a.ehead) (λ a b k. k.end) x y z h.heads
-
   kept : (c : ℕ) (o q r : Option Given) → OptionThree IsGivenBetween o q r → IsFractionBetween (kept_head A o c) (kept_head M q c) (kept_head B r c)
   kept c o q r nothing = started c
-  kept c o q r (something h) = ended _ _ _ h
+  kept c o q r (something h) = h.end
 
   given_or_kept : (c : ℕ) (o q r : Option Given) → OptionThree IsGivenBetween o q r → IsFractionBetween (head_or_kept A p n o c) (head_or_kept M p n q c) (head_or_kept B p n r c)
   given_or_kept c o q r nothing = kept c _ _ _ (last_three c (p - 1) ps qs rs periods)
@@ -91,7 +88,7 @@ module _ (f : FlowModel) (s₁ s₂ s₃ : List Dec) (ps qs rs : List Period) (s
       subst (λ (F : Ratio). IsFractionBetween (between_heads x (part_passed (period_at A p) n)) (between_heads y F) (between_heads z (part_passed (period_at B p) n))) (sym (passed_is _ _ n here.same))
       (subst (λ (F : Ratio). IsFractionBetween (between_heads x (part_passed (period_at A p) n)) (between_heads y (part_passed (period_at A p) n))
       (between_heads z F)) (sym (passed_is _ _ n here.alike))
-      (heads_between (part_passed (period_at A p) n) (part_of (period_at A p) n few) x y z h))
+      (h.heads (part_passed (period_at A p) n) (part_of (period_at A p) n few)))
 
   pub constant_between : (c : ℕ) → IsFractionBetween (constant_head A p n c) (constant_head M p n c) (constant_head B p n c)
   unfolding constant_head

@@ -1,47 +1,27 @@
 -- When a model lies between two others: the three differ in numbers of their stresses and in STRT alone, and each of
 -- these lies between the two others' number at its place. Which number may differ:
 -- WEL: the rate. RIV: stage, conductance, bottom. DRN: elevation, conductance. GHB: head, conductance. RCH: the flux.
--- EVT: surface and rate, and a rate is 0 in all three or in none. CHD: both heads, in one order. BAS6: STRT.
-use Rattle.std.specs.Prelude.{◌≡◌, ◌⊎◌, ◌==◌, [], ℕ, ◌<◌, ℤ, List, ◌∷◌}
+-- EVT: surface and rate, and a rate is 0 in all three or in none. CHD: the head at each part of the period. BAS6: STRT.
+use Rattle.std.specs.Prelude.{◌≡◌, ◌==◌, [], ◌≤◌}
 use Rattle.decimal_input.specs.declared.dec.Dec.{Dec}
-use Rattle.decimal_input.specs.{number, size, Fraction, Ratio}
-use Rattle.decimal_input.specs.Fractions.{AtMost}
+use Rattle.decimal_input.specs.{number, size, Ratio}
+use Rattle.decimal_input.specs.Ratios.{den}
 use Rattle.model_types.specs.declared.grid.CellId.{CellId}
 use Rattle.model_types.specs.declared.model.FlowModel.{FlowModel}
 use Rattle.model_types.specs.declared.period.Period.{Period}
-use Rattle.model_types.specs.{no_stresses, times, start_head}
+use Rattle.model_types.specs.{no_stresses, between_heads}
 use Rattle.model_types.specs.declared.entry.Given.{Given}
 use Rattle.model_types.specs.declared.entry.Entry.{Entry}
 use Rattle.model_types.specs.declared.entry.Entry.TheVariants.{Well, River, Drain, General}
-use Rattle.decimal_input.specs.Ratios.{AtMost as IsRatioAtMost}
-use Rattle.model_types.specs.declared.time_steps.TimeStep.{TimeStep}
-use Rattle.flow_equations.specs.{SolvesAt, heads_of}
+use Rattle.deck_span.specs.Steps.{AllThree, IsFractionBetween, IsRatioBetween}
 
--- When a number lies between two others, whichever of these is the greater one.
--- a ≤ m ≤ b, or b ≤ m ≤ a, by the order Le
-pub record LiesBetween {X : Type 0} (Le : X → X → Type 0) (a m b : X) : Type 0 where
-  pub lies : (Le a m × Le m b) ⊎ (Le b m × Le m a)
-
-abbrev pub IsFractionBetween : Fraction → Fraction → Fraction → Type 0
-IsFractionBetween = LiesBetween AtMost
-
--- the same of numbers that aren't negative
-abbrev pub IsRatioBetween : Ratio → Ratio → Ratio → Type 0
-IsRatioBetween = LiesBetween IsRatioAtMost
-
--- the same of numbers of a file
+-- numbers of a file
 abbrev pub IsDecBetween : Dec → Dec → Dec → Type 0
 IsDecBetween a m b = IsFractionBetween (number a) (number m) (number b)
 
--- the same of numbers of a file that can't be negative, as conductances
+-- numbers of a file that can't be negative, as conductances
 abbrev pub IsSizeBetween : Dec → Dec → Dec → Type 0
 IsSizeBetween a m b = IsRatioBetween (size a) (size m) (size b)
-
--- Three lists that are related place by place.
--- The lists are equally long, and R holds of the three items at each place.
-pub data AllThree {X Y Z : Type 0} (R : X → Y → Z → Type 0) : List X → List Y → List Z → Type 0 where
-  none : AllThree R [] [] []
-  next : {x : X} {y : Y} {z : Z} {xs : List X} {ys : List Y} {zs : List Z} → R x y z → AllThree R xs ys zs → AllThree R (x ∷ xs) (y ∷ ys) (z ∷ zs)
 
 -- entries of WEL, RIV, DRN and GHB: the same package and cell, and each number between
 pub data IsEntryBetween : Entry → Entry → Entry → Type 0 where
@@ -53,15 +33,13 @@ pub data IsEntryBetween : Entry → Entry → Entry → Type 0 where
   generals : {cell : CellId} {h₁ h₂ h₃ k₁ k₂ k₃ : Dec} → IsDecBetween h₁ h₂ h₃ → IsSizeBetween k₁ k₂ k₃ →
       IsEntryBetween (General cell h₁ k₁) (General cell h₂ k₂) (General cell h₃ k₃)
 
--- Entries of CHD: both heads of one are at most those of the other. A head within a period is a mean of both.
-pub record IsGivenAtMost (a b : Given) : Type 0 where
-  pub start : AtMost (number a.shead) (number b.shead)
-  pub end : AtMost (number a.ehead) (number b.ehead)
-
+-- Entries of CHD: the head at each part of the period lies between the others' heads there, and so does Ehead, which later periods keep
+-- (TM 6-A16, chapter 6, CHD: a head goes linearly from Shead to Ehead).
 pub record IsGivenBetween (a m b : Given) : Type 0 where
   pub cell : m.cell ≡ a.cell
   pub alike : b.cell ≡ a.cell
-  pub heads : LiesBetween IsGivenAtMost a m b
+  pub heads : (part : Ratio) → part.num ≤ den part → IsFractionBetween (between_heads a part) (between_heads m part) (between_heads b part)
+  pub end : IsFractionBetween (number a.ehead) (number m.ehead) (number b.ehead)
 
 -- rates of EVT: a cell whose rate is 0 has no evapotranspiration
 pub record IsRateBetween (a m b : Dec) : Type 0 where
@@ -95,25 +73,3 @@ pub record IsBetween (a m b : FlowModel) : Type 0 where
   pub alike : frame b ≡ frame a
   pub strt : AllThree IsDecBetween a.strt m.strt b.strt
   pub periods : AllThree IsPeriodBetween a.periods m.periods b.periods
-
--- Histories in which the stresses of each time step lie anywhere between those of two models, chosen anew at each step.
--- X over d solves a time step of some model between a and b, where the heads of the step before are `old`
-pub record SolvesBetweenAt (a b : FlowModel) (at : TimeStep) (old : ℕ → Fraction) (d : ℕ) (X : ℕ → ℤ) : Type 0 where
-  pub model : FlowModel
-  pub between : IsBetween a model b
-  pub solves : SolvesAt model at old d X
-
--- one vector for each of these time steps, each from the heads of the vector before
-abbrev pub SolvesBetweenFrom : FlowModel → FlowModel → ℕ → (ℕ → Fraction) → List TimeStep → List (ℕ → ℤ) → Type 0
-SolvesBetweenFrom a b d old [] [] = Unit {0}
-SolvesBetweenFrom a b d old (at ∷ steps) (X ∷ Xs) = SolvesBetweenAt a b at old d X × SolvesBetweenFrom a b d (heads_of d X) steps Xs
-SolvesBetweenFrom a b d old [] (X ∷ Xs) = ⊥
-SolvesBetweenFrom a b d old (at ∷ steps) [] = ⊥
-
--- The history Xs over d solves models between a and b: d is above 0, and its vectors solve all time steps in turn,
--- each of some model between, from the starting heads of some model between.
-pub record SolvesBetween (a b : FlowModel) (d : ℕ) (Xs : List (ℕ → ℤ)) : Type 0 where
-  pub some : 0 < d
-  pub first : FlowModel
-  pub between : IsBetween a first b
-  pub steps : SolvesBetweenFrom a b d (start_head first) (times a) Xs

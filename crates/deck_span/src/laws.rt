@@ -1,5 +1,6 @@
-// Which models and exact steps lie between two others, and what the hull of two problems encloses.
-ghost use Rattle.deck_span.specs.{AlikeLieBetween, BetweenAreAlike, HullsEnclose, StepsLieBetween, DifferenceIsOne, SharedPackagesAreAlike};
+// Which models, exact steps and choices lie between two others, and what the hull of two problems encloses.
+ghost use Rattle.deck_span.specs.{AlikeLieBetween, BetweenAreAlike, HullsEnclose, ModelsGiveChoices, ModelsSolveChoices, OrderedHeadsLieBetween};
+ghost use Rattle.deck_span.specs.{StepsLieBetween, DifferenceIsOne, SharedPackagesAreAlike};
 
 /// Each of two models that are alike lies between the two; and where some model lies between two, the two are alike.
 pub fn alike_lie_between()
@@ -16,6 +17,18 @@ pub fn hulls_enclose()
 #[tactic(auto, using(crate::proofs::StepsBetween::steps_between))]
 pub fn steps_lie_between()
     ensures { StepsLieBetween }
+{}
+
+/// An entry of CHD whose two heads lie between those of two others, in one order, lies between the two.
+#[tactic(auto, using(crate::proofs::GivenHeadsBetween::ordered_between))]
+pub fn ordered_heads_lie_between()
+    ensures { OrderedHeadsLieBetween }
+{}
+
+/// A model between two others gives a choice between them for each time step, which its solutions solve.
+pub fn models_give_choices()
+    ensures give { ModelsGiveChoices }
+    ensures solve { ModelsSolveChoices }
 {}
 
 /// Two models are alike exactly where they share each package.

@@ -7,7 +7,6 @@ mod difference;
 pub mod laws;
 mod lists;
 mod once;
-mod order;
 mod periods;
 
 pub use difference::{Difference, first_difference};

@@ -3,11 +3,9 @@ ghost use Rattle.std.specs.Prelude.{◌≡◌, None, ℕ, MatchBool, MatchOption
 ghost use Rattle.std.specs.List.{AllZip};
 ghost use Rattle.model_types.specs.{cell_of};
 ghost use Rattle.deck_span.specs.Alike.{AreRatesAlike, AreEntriesAlike, AreGivenAlike};
-ghost use Rattle.deck_span.specs.Models.{IsGivenAtMost};
 ghost use Rattle.deck_span.specs.Order.{Finds, IsArrayCell, IsListCell, AreSame, IsFirst};
 
 use crate::cells::{numbered_cell, place_apart};
-use crate::order::is_at_most;
 use decimal_input::dec::Dec;
 use model_types::{CellId, Entry, Given};
 
@@ -113,20 +111,13 @@ impl Compared for Entry {
     }
 }
 
-// Whether both heads of one entry are at most those of the other.
-fn are_at_most(a: Given, b: Given) -> bool
-    ensures { MatchBool result (IsGivenAtMost a b) (IsGivenAtMost a b → ⊥) }
-{
-    is_at_most(a.shead, b.shead) && is_at_most(a.ehead, b.ehead)
-}
-
 impl Compared for Given {
     ghost alike = { AreGivenAlike };
 
     ghost number = { λ place x. x.cell.0 };
 
     fn is_alike(self, other: Given) -> bool {
-        self.cell.0 == other.cell.0 && (are_at_most(self, other) || are_at_most(other, self))
+        self.cell.0 == other.cell.0
     }
 
     fn number(self, _place: usize) -> usize {

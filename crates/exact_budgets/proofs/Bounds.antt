@@ -79,7 +79,7 @@ module _ (limits : Limits) (m : FlowModel) (s : ℕ) (zones : Option (List ℕ))
   abbrev task : Task
   task = one_task limits m s zones rounds quick
 
-  one_step : (v : Step) (before : ℕ → Fraction) (X : ℕ → ℤ) → SolvesAt m v.at before d X → Bounds task m v before d X → NetTermsLieAt m s v before d X
+  one_step : (v : Step) (before : ℕ → Fraction) (X : ℕ → ℤ) → SolvesAt m v.at before d X → Bounds task m v (exact_step m v.at.period v.at.step before) d X → NetTermsLieAt m s v before d X
   one_step v before X solves bounds = record {
     balanced = solutions_balance e d Y linked some solves.balances;
     nets = net_terms_lie s e (heads_of d Y) v.budget (terms_over e d Y linked some solves.balances) bounds.budget;

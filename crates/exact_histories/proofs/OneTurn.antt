@@ -1,21 +1,21 @@
--- One step of one deck or of two: the step of each member has a solution, from exact heads within the old ones, and one alone.
-use Rattle.exact_histories.proofs.Common.{Limits, ◌≡◌, ◌<◌, ℕ, true, inl, inr, refl, sym, subst, arith, ℤ, List, Option, length, All, Fraction, Same, Same-sym}
-use Rattle.exact_histories.proofs.Common.{Same-trans, FlowModel, TimeStep, Bound, share, heads_of, variable_heads, SolvesAt, HeadsEnclose, AreSameHeads}
-use Rattle.exact_histories.proofs.Common.{IsBefore, problem_encloses, pair_encloses, encloses_member, IsPosed, IsStepBy, Entries, cases_Bool, cell_count}
-use Rattle.exact_histories.proofs.Common.{HasSize, is_variable, is_constant, index_of, variable_cells, exact_step, PairKind, Solved, None, Some, Decks}
-use Rattle.exact_histories.proofs.Common.{IsMember, IsOf, HasCellsOf, member_cells, of_member, cell_of_first, cell_of_member, lies_encloses, lies_in_first}
-use Rattle.exact_histories.proofs.Common.{HasAtMostOne, steps_enclose, Edges, IsProblem, EnclosesStep, EnclosesSteps, EnclosesMoves, problem_fits}
+-- One step of one deck or of two: each choice of the step has a solution, from exact heads within the old ones, and one alone.
+use Rattle.exact_histories.proofs.Common.{Limits, ◌≡◌, ◌<◌, ◌∙◌, [], ◌∷◌, ℕ, true, inl, inr, refl, sym, subst, arith, ℤ, List, Option, length, map, All}
+use Rattle.exact_histories.proofs.Common.{Fraction, Same, Same-sym, Same-trans, FlowModel, TimeStep, Bound, share, heads_of, variable_heads, HeadsEnclose}
+use Rattle.exact_histories.proofs.Common.{AreSameHeads, IsBefore, problem_encloses, pair_encloses, IsPosed, IsStepBy, Entries, cases_Bool, cell_count, cell_at}
+use Rattle.exact_histories.proofs.Common.{no_cell, HasSize, is_variable, is_constant, index_of, variable_cells, exact_step, PairKind, Solved, None, Some, Decks}
+use Rattle.exact_histories.proofs.Common.{IsChoiceOf, Choice, SolvesChoiceAt, step_from, chosen_cells, lies_encloses, ExactCell, ExactLink, HasAtMostOne}
+use Rattle.exact_histories.proofs.Common.{steps_enclose, Edges, IsProblem, EnclosesStep, problem_fits, IsCellBetween, IsStepBetween, none, are_linked, time_of}
+use Rattle.deck_span.proofs.ThreeLists.{three_at, three_lengths}
 use Rattle.model_types.proofs.Members.{All-In}
 use Rattle.exact_solutions.proofs.HeldSteps.{solution_exists, solution_is_one, same_share}
 use Rattle.problem_builder.proofs.Members.{variable_active, variable-In}
 use Rattle.step_chain.proofs.Limits.{cut_by, held_by}
-use Rattle.step_chain.proofs.Assembled.{active_constant, index_below, count_is, number_is}
+use Rattle.step_chain.proofs.Assembled.{active_constant, index_below, count_of, number_of}
 use Rattle.certificate_check.proofs.Cut.{words_enclose}
 use Rattle.problem_builder.specs.{ProblemFits as ModelProblemFits}
 use Rattle.problem_builder.proofs.Steps.{cells_of}
 use Rattle.problem_builder.proofs.Problems.{is_problem}
-use Rattle.problem_builder.proofs.TimesOf.{time_of}
-use Rattle.exact_histories.proofs.GridVectors.{HasVector, vector_exists}
+use Rattle.exact_histories.proofs.GridVectors.{HasVector, LinkedWithin, vector_exists}
 use Rattle.exact_histories.proofs.SameSteps.{balances_same}
 use Rattle.exact_histories.proofs.Ceilings.{held_above}
 
@@ -24,16 +24,34 @@ model_fits : ModelProblemFits
 model_fits m s at old p valid time grid h =
     is_problem m s at old valid (time_of m at valid time) grid p (cells_of m s at old p h)
 
-has_size : (a : FlowModel) (o : Option FlowModel) (m : FlowModel) → IsOf a o m → HasSize a.grid → HasSize m.grid
-has_size a None m h size = subst (λ (x : FlowModel). HasSize x.grid) (sym h) size
-has_size a (Some b) m h size = subst (λ (x : FlowModel). HasSize x.grid) (sym h.same) size
+-- the links of a choice lead to cells of its step
+no_cell_between : IsCellBetween no_cell no_cell no_cell
+no_cell_between = record { id = refl; flows = none; links = refl; fixed = none; rivers = none; drains = none; evaps = none }
+
+linked_between : (e f g : List ExactCell) → IsStepBetween e f g → LinkedWithin e → LinkedWithin f
+linked_between e f g h linked c i =
+    let count : length f ≡ length e = (three_lengths IsCellBetween e f g h).0 in
+    let links : (cell_at f c).links ≡ (cell_at e c).links = (three_at IsCellBetween e f g c no_cell no_cell no_cell h no_cell_between).links in
+    let P : ℕ → Type 0 = λ n. All (λ (x : ExactLink). x.cell < n) (cell_at f c).links in
+    let Q : List ExactLink → Type 0 = All (λ (x : ExactLink). x.cell < length e) in
+    subst P (sym count) (subst Q (sym links) (linked c (omega (arith, i, count))))
+
+linked : (a : FlowModel) (o : Option FlowModel) (at : TimeStep) (x : Choice) → IsChoiceOf a o at x → HasSize a.grid → (before : ℕ → Fraction) → LinkedWithin (step_from before x.cells)
+linked a None at x h size before = subst LinkedWithin (sym (h.cells before)) (are_linked a at.period at.step before size).range
+linked a (Some b) at x h size before =
+    linked_between (exact_step a at.period at.step before) (step_from before x.cells) (exact_step b at.period at.step before) (h.cells before) (are_linked a at.period at.step before size).range
+
+-- the numbers of a choice's cells don't depend on the heads before
+ids_from : (before : ℕ → Fraction) (cs : List ExactCell) → map (λ z. z.id) cs ≡ map (λ z. z.id) (step_from before cs)
+ids_from before [] = refl
+ids_from before (c ∷ cs) = λ i. c.id ∷ ids_from before cs i
 
 module _ (limits : Limits) (ds : Decks) (s : ℕ) (at : TimeStep) (old : List Bound) where
-  -- each solution of a member, from exact heads within the old ones, lands within the new ones
+  -- each solution of a choice, from exact heads within the old ones, lands within the new ones
   abbrev pub Lands : List Bound → Type 0
   Lands new =
-      (m : FlowModel) → IsMember ds m → (before : ℕ → Fraction) (d : ℕ) (X : ℕ → ℤ) → HeadsEnclose ds.first old before → 0 < d →
-      SolvesAt m at before d X → HeadsEnclose ds.first new (heads_of d X)
+      (x : Choice) → IsChoiceOf ds.first ds.second at x → (before : ℕ → Fraction) (d : ℕ) (X : ℕ → ℤ) → HeadsEnclose ds.first old before → 0 < d →
+      SolvesChoiceAt ds.first at x before d X → HeadsEnclose ds.first new (heads_of d X)
 
   pub record IsTurn (new : List Bound) : Type 0 where
     pub start : IsBefore ds at old
@@ -46,58 +64,56 @@ module _ (limits : Limits) (ds : Decks) (s : ℕ) (at : TimeStep) (old : List Bo
   turn_of kind x start step = record { start = start; problem = x.problem; barrier = step.barrier; posed = step.posed; lands = lands }
     where
       lands : Lands x.heads
-      lands m member before d X olds some solves =
-          let cells = member_cells ds m member in
-          let move = of_member ds (λ (m : FlowModel). EnclosesMoves m s at old x)
-          (steps_enclose (problem_fits model_fits) problem_encloses pair_encloses words_enclose limits ds s at old kind x start step) m member before d
-          X
-          (record { within = encloses_member ds.first m cells old before olds; some = some; solves = solves }) in
-          lies_encloses ds.first x.heads d X some (lies_in_first ds.first m cells x.heads d X move.heads)
+      lands y chosen before d X olds some solves =
+          let move = steps_enclose (problem_fits model_fits) problem_encloses pair_encloses words_enclose limits ds s at old kind x start step y chosen before d X
+          (record { within = olds; some = some; solves = solves }) in
+          lies_encloses ds.first x.heads d X some move.heads
 
 -- a turn's problem
-module _ (limits : Limits) (ds : Decks) (s : ℕ) (at : TimeStep) (old new : List Bound) (turn : IsTurn limits ds s at old new) (m : FlowModel)
-    (h : IsMember ds m) (before : ℕ → Fraction) (olds : HeadsEnclose ds.first old before) where
-  cells : HasCellsOf ds.first m
-  cells = member_cells ds m h
+module _ (limits : Limits) (ds : Decks) (s : ℕ) (at : TimeStep) (old new : List Bound) (turn : IsTurn limits ds s at old new) (x : Choice)
+    (chosen : IsChoiceOf ds.first ds.second at x) (before : ℕ → Fraction) (olds : HeadsEnclose ds.first old before) where
+  abbrev step : List ExactCell
+  step = step_from before x.cells
+
+  ids : map (λ z. z.id) step ≡ variable_cells ds.first at.period
+  ids = chosen_cells ds at x chosen before
 
   fits : IsProblem turn.problem
   fits = problem_fits model_fits ds s at old turn.problem turn.start turn.posed.problem
 
-  encloses : EnclosesStep s turn.problem (exact_step m at.period at.step before)
-  encloses = of_member ds (EnclosesSteps s at old turn.problem) (problem_encloses ds s at old turn.problem turn.start turn.posed.problem) m h before (encloses_member ds.first m cells old before olds)
+  encloses : EnclosesStep s turn.problem step
+  encloses = problem_encloses ds s at old turn.problem turn.start turn.posed.problem x chosen before olds
 
-  pub has_vector : HasVector m at before
+  pub has_vector : HasVector ds.first at x before
   has_vector =
       let (d, X, some, solves) = solution_exists turn.problem fits (held_by limits turn.problem turn.barrier turn.posed.barrier)
-      (held_above turn.problem turn.barrier.ceiling (cut_by limits turn.problem turn.barrier turn.posed.barrier).ceilings) s
-      (exact_step m at.period at.step before)
-      encloses in
-      vector_exists m at before d X (has_size ds.first ds.second m h turn.start.decks.first.grid.size) some solves
+      (held_above turn.problem turn.barrier.ceiling (cut_by limits turn.problem turn.barrier turn.posed.barrier).ceilings) s step encloses in
+      vector_exists ds.first at x before d X ids (linked ds.first ds.second at x chosen turn.start.decks.first.grid.size before) some solves
 
-  has_at_most_one : HasAtMostOne (exact_step m at.period at.step before)
-  has_at_most_one = solution_is_one turn.problem fits (held_by limits turn.problem turn.barrier turn.posed.barrier) s (exact_step m at.period at.step before) encloses
+  has_at_most_one : HasAtMostOne step
+  has_at_most_one = solution_is_one turn.problem fits (held_by limits turn.problem turn.barrier turn.posed.barrier) s step encloses
 
   -- two solutions, from heads before that are the same numbers
   module _ (other : ℕ → Fraction) (same : AreSameHeads ds.first other before) (d e : ℕ) (X Y : ℕ → ℤ) (some_d : 0 < d) (some_e : 0 < e)
-      (first : SolvesAt m at before d X) (second : SolvesAt m at other e Y) where
-    all_same : All (λ c. Same (other c) (before c)) (variable_cells m at.period)
-    all_same = All-In (λ c. Same (other c) (before c)) (variable_cells m at.period) (λ c in_cells.
-        let (v, lt) = variable-In m at.period (cell_count m.grid) c in_cells in same c
-        (cell_of_first ds.first m cells c (record { within = lt; active = variable_active m at.period c v })))
+      (first : SolvesChoiceAt ds.first at x before d X) (second : SolvesChoiceAt ds.first at x other e Y) where
+    all_same : All (λ c. Same (other c) (before c)) (map (λ z. z.id) x.cells)
+    all_same = subst (λ (cs : List ℕ). All (λ c. Same (other c) (before c)) cs) (sym (ids_from before x.cells ∙ ids))
+        (All-In (λ c. Same (other c) (before c)) (variable_cells ds.first at.period) (λ c in_cells.
+        let (v, lt) = variable-In ds.first at.period (cell_count ds.first.grid) c in_cells in
+        same c (record { within = lt; active = variable_active ds.first at.period c v })))
 
-    variable_same : (c : ℕ) → c < cell_count m.grid → is_variable m at.period c ≡ true → Same (share d (X c)) (share e (Y c))
+    variable_same : (c : ℕ) → c < cell_count ds.first.grid → is_variable ds.first at.period c ≡ true → Same (share d (X c)) (share e (Y c))
     variable_same c lt v =
-        let step = exact_step m at.period at.step before in
-        let turned = balances_same m at.period at.step other before all_same e e Y Y some_e some_e (λ z. refl) second.balances in
-        let inside : index_of m at.period c < length step = omega (arith, count_is m at.period at.step before, index_below m at.period c v lt) in
-        let one = has_at_most_one d e (variable_heads step X) (variable_heads step Y) some_d some_e first.balances turned (index_of m at.period c) inside in
-        subst (λ (i : ℕ). Same (share d (X i)) (share e (Y i))) (number_is m at.period at.step c before v lt) one
+        let turned = balances_same x.cells other before all_same e e Y Y some_e some_e (λ z. refl) second.balances in
+        let inside : index_of ds.first at.period c < length step = omega (arith, count_of ds.first at.period step ids, index_below ds.first at.period c v lt) in
+        let one = has_at_most_one d e (variable_heads step X) (variable_heads step Y) some_d some_e first.balances turned (index_of ds.first at.period c) inside in
+        subst (λ (i : ℕ). Same (share d (X i)) (share e (Y i))) (number_of ds.first at.period c step ids v lt) one
 
-    constant_same : (c : ℕ) → c < cell_count m.grid → is_constant m at.period c ≡ true → Same (share d (X c)) (share e (Y c))
+    constant_same : (c : ℕ) → c < cell_count ds.first.grid → is_constant ds.first at.period c ≡ true → Same (share d (X c)) (share e (Y c))
     constant_same c lt k = Same-trans (Same-sym (same_share d _ (X c) some_d (first.constant c lt k))) (same_share e _ (Y c) some_e (second.constant c lt k))
 
     pub heads_same : AreSameHeads ds.first (heads_of d X) (heads_of e Y)
-    heads_same c act = let here = cell_of_member ds.first m cells c act in elim (cases_Bool (is_variable m at.period c)) [
-      | inl v ↦ variable_same c here.within v
-      | inr v ↦ constant_same c here.within (active_constant m at.period c here.active v)
+    heads_same c act = elim (cases_Bool (is_variable ds.first at.period c)) [
+      | inl v ↦ variable_same c act.within v
+      | inr v ↦ constant_same c act.within (active_constant ds.first at.period c act.active v)
     ]

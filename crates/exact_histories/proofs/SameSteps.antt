@@ -1,9 +1,10 @@
 -- The same heads, however their fractions are written, solve the same step, however its known heads are written.
 use Rattle.exact_histories.proofs.Common.{◌≡◌, ◌*◌, ◌<◌, ◌∙◌, ◌*ℤ◌, [], ◌∷◌, refl, ℕ, sym, ap, subst, arith, ℤ, pos, List, length, mul-pos, Fraction, den, Same}
 use Rattle.exact_histories.proofs.Common.{IsOver, mul_assoc, balance, share, SolvesStep, ExactFixed, ExactCell, cell_at, no_cell, zero, suc, map, get_or, All}
-use Rattle.exact_histories.proofs.Common.{All-nil, All-cons, All-head, All-tail, variable_cells, FlowModel, TimeStep, exact_step, exact_cell, exact_fixed}
-use Rattle.exact_histories.proofs.Common.{variable_heads, SolvesAt, FixedSource, fixed_sources, ToConstant, ToGeneral, FromStorage, last_factors_swap}
-use Rattle.std.specs.List.{AllZip}
+use Rattle.exact_histories.proofs.Common.{All-nil, All-cons, All-head, All-tail, FlowModel, TimeStep, step_from, fixed_from, head_from, Choice, SolvesChoiceAt}
+use Rattle.exact_histories.proofs.Common.{variable_heads, last_factors_swap, AllZip}
+use Rattle.step_problem.specs.declared.entry.FixedKind.{FixedKind}
+use Rattle.step_problem.specs.declared.entry.FixedKind.TheVariants.{Storage, Constant, General}
 use Rattle.exact_solutions.proofs.LinearSteps.{cancel_same}
 use Rattle.cell_balance.proofs.Denominators.{step_common}
 use Rattle.cell_balance.proofs.Encloses.{share_is, whole_solves, whole_step}
@@ -96,30 +97,33 @@ same_heads_solve e f agrees d k X Y some_d some_k same solves c i =
     others : (n z : ℕ) → IsOver (n * (d * k)) (share k (Y z)) (X z *ℤ pos (k * n))
     others n z = subst (λ (t : ℕ). IsOver t (share k (Y z)) (X z *ℤ pos (k * n))) (other n d k) (subst (λ (t : ℤ). IsOver (k * (d * n)) (share k (Y z)) t) (turn n z) (share_is k (d * n) (Y z) some_k))
 
--- A time is solved by the same heads, however they and those before it are written.
+-- A choice is solved by the same heads, however they and those before it are written.
 -- heads before a step that are the same numbers give steps that agree
-module _ (m : FlowModel) (p n : ℕ) (old new : ℕ → Fraction) where
-  fixed_agree : (c : ℕ) → Same (old c) (new c) → (xs : List FixedSource) → AllZip FixedAgrees (map (exact_fixed m p n old c) xs) (map (exact_fixed m p n new c) xs)
-  fixed_agree c same [] = tt
-  fixed_agree c same (ToConstant x ∷ xs) = (record { conductance = refl; head = record { same = refl } }, fixed_agree c same xs)
-  fixed_agree c same (ToGeneral head cond ∷ xs) = (record { conductance = refl; head = record { same = refl } }, fixed_agree c same xs)
-  fixed_agree c same (FromStorage ∷ xs) = (record { conductance = refl; head = same }, fixed_agree c same xs)
+head_agrees : (kind : FixedKind) (f g head : Fraction) → Same f g → Same (head_from kind f head) (head_from kind g head)
+head_agrees Storage f g head same = same
+head_agrees Constant f g head same = record { same = refl }
+head_agrees General f g head same = record { same = refl }
 
-  pub cells_agree : (cs : List ℕ) → All (λ c. Same (old c) (new c)) cs → AllZip CellAgrees (map (exact_cell m p n old) cs) (map (exact_cell m p n new) cs)
+fixed_agree : (f g : Fraction) → Same f g → (xs : List ExactFixed) → AllZip FixedAgrees (map (fixed_from f) xs) (map (fixed_from g) xs)
+fixed_agree f g same [] = tt
+fixed_agree f g same (x ∷ xs) = (record { conductance = refl; head = head_agrees x.kind f g x.head same }, fixed_agree f g same xs)
+
+module _ (old new : ℕ → Fraction) where
+  pub cells_agree : (cs : List ExactCell) → All (λ c. Same (old c) (new c)) (map (λ z. z.id) cs) → AllZip CellAgrees (step_from old cs) (step_from new cs)
   cells_agree [] same = tt
   cells_agree (c ∷ cs) same = (
     record {
       flows = refl;
       links = refl;
-      fixed = fixed_agree c (All-head (λ c. Same (old c) (new c)) c cs same) (fixed_sources m p c);
+      fixed = fixed_agree (old c.id) (new c.id) (All-head (λ c. Same (old c) (new c)) c.id (map (λ (z : ExactCell). z.id) cs) same) c.fixed;
       rivers = refl;
       drains = refl;
       evaps = refl;
     },
-    cells_agree cs (All-tail (λ c. Same (old c) (new c)) c cs same),
+    cells_agree cs (All-tail (λ c. Same (old c) (new c)) c.id (map (λ (z : ExactCell). z.id) cs) same),
   )
 
-  pub ids_agree : (cs : List ℕ) (k : ℕ) → (get_or (map (exact_cell m p n old) cs) k no_cell).id ≡ (get_or (map (exact_cell m p n new) cs) k no_cell).id
+  pub ids_agree : (cs : List ExactCell) (k : ℕ) → (get_or (step_from old cs) k no_cell).id ≡ (get_or (step_from new cs) k no_cell).id
   ids_agree [] k = refl
   ids_agree (c ∷ cs) zero = refl
   ids_agree (c ∷ cs) (suc k) = ids_agree cs k
@@ -132,19 +136,19 @@ over_again d k f x y some e over = record {
       z *ℤ pos (den f)) e ∙ last_factors_swap y (pos d) (pos (den f)));
 }
 
--- the same heads, however they and those before are written, have zero balances at the same time
-pub balances_same : (m : FlowModel) (p n : ℕ) (old new : ℕ → Fraction) → All (λ c. Same (old c) (new c)) (variable_cells m p) → (d k : ℕ) (X Y : ℕ → ℤ) →
-    0 < d → 0 < k → ((c : ℕ) → X c *ℤ pos k ≡ Y c *ℤ pos d) → SolvesStep (exact_step m p n old) d (variable_heads (exact_step m p n old) X) →
-    SolvesStep (exact_step m p n new) k (variable_heads (exact_step m p n new) Y)
-balances_same m p n old new same d k X Y some_d some_k heads solves =
-    same_heads_solve (exact_step m p n old) (exact_step m p n new) (cells_agree m p n old new (variable_cells m p) same) d k _ _ some_d some_k
-    (λ c. heads (cell_at (exact_step m p n old) c).id ∙ ap (λ (i : ℕ). Y i *ℤ pos d) (ids_agree m p n old new (variable_cells m p) c)) solves
+-- the same heads, however they and those before are written, have zero balances
+pub balances_same : (cs : List ExactCell) (old new : ℕ → Fraction) → All (λ c. Same (old c) (new c)) (map (λ z. z.id) cs) → (d k : ℕ) (X Y : ℕ → ℤ) →
+    0 < d → 0 < k → ((c : ℕ) → X c *ℤ pos k ≡ Y c *ℤ pos d) → SolvesStep (step_from old cs) d (variable_heads (step_from old cs) X) →
+    SolvesStep (step_from new cs) k (variable_heads (step_from new cs) Y)
+balances_same cs old new same d k X Y some_d some_k heads solves =
+    same_heads_solve (step_from old cs) (step_from new cs) (cells_agree old new cs same) d k _ _ some_d some_k
+    (λ c. heads (cell_at (step_from old cs) c).id ∙ ap (λ (i : ℕ). Y i *ℤ pos d) (ids_agree old new cs c)) solves
 
-pub solves_same : (m : FlowModel) (at : TimeStep) (old new : ℕ → Fraction) → ((c : ℕ) → Same (old c) (new c)) → (d k : ℕ) (X Y : ℕ → ℤ) → 0 < d → 0 < k →
-    ((c : ℕ) → X c *ℤ pos k ≡ Y c *ℤ pos d) → SolvesAt m at old d X → SolvesAt m at new k Y
-solves_same m at old new same d k X Y some_d some_k heads solves = record {
+pub solves_same : (m : FlowModel) (at : TimeStep) (x : Choice) (old new : ℕ → Fraction) → ((c : ℕ) → Same (old c) (new c)) → (d k : ℕ) (X Y : ℕ → ℤ) → 0 < d → 0 < k →
+    ((c : ℕ) → X c *ℤ pos k ≡ Y c *ℤ pos d) → SolvesChoiceAt m at x old d X → SolvesChoiceAt m at x new k Y
+solves_same m at x old new same d k X Y some_d some_k heads solves = record {
   constant = λ c h is. over_again d k _ (X c) (Y c) some_d (heads c) (solves.constant c h is);
-  balances = balances_same m at.period at.step old new (all_same (variable_cells m at.period)) d k X Y some_d some_k heads solves.balances;
+  balances = balances_same x.cells old new (all_same (map (λ (z : ExactCell). z.id) x.cells)) d k X Y some_d some_k heads solves.balances;
 }
   where
     all_same : (cs : List ℕ) → All (λ c. Same (old c) (new c)) cs

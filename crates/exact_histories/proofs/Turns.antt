@@ -1,14 +1,10 @@
--- Turns of one deck or of two: a problem for each time, and heads that each solution of a member lands within. By them each
--- choice of members has a history, and one alone, by induction on the choices.
-use Rattle.exact_histories.proofs.Common.{Limits, ◌<◌, [], ◌∷◌, ℕ, ℤ, List, All, Contains, map, All-head, All-tail, Fraction, Same-sym, TimeStep, Bound}
-use Rattle.exact_histories.proofs.Common.{heads_of, HeadsEnclose, AreGridHeads, AreSameHeads, AreSame, IsBefore, AreDecks, Choice, SolvesChoicesFrom, times}
-use Rattle.exact_histories.proofs.Common.{AreSteps, Solved, PairKind, pair_fits, Decks, IsMember, first_in, next_in, all_fit}
+-- Turns of one deck or of two: a problem for each time, and heads that each solution of a choice lands within. By them the choices have a
+-- history, and one alone, by induction on the time steps.
+use Rattle.exact_histories.proofs.Common.{Limits, ◌<◌, [], ◌∷◌, ℕ, ℤ, List, Contains, map, Fraction, Same-sym, TimeStep, Bound, heads_of, HeadsEnclose}
+use Rattle.exact_histories.proofs.Common.{AreGridHeads, AreSameHeads, AreSame, IsBefore, AreDecks, Choice, SolvesChoicesFrom, times, AreSteps, Solved, PairKind}
+use Rattle.exact_histories.proofs.Common.{pair_fits, Decks, IsChoiceOf, first_in, next_in, all_fit, AllZip}
 use Rattle.exact_histories.proofs.GridVectors.{GoOn}
 use Rattle.exact_histories.proofs.OneTurn.{IsTurn, turn_of, has_vector, heads_same}
-
--- the time of a choice
-abbrev pub time_of : Choice → TimeStep
-time_of c = c.at
 
 abbrev pub heads_at : Solved → List Bound
 heads_at x = x.heads
@@ -31,33 +27,35 @@ module _ (limits : Limits) (ds : Decks) (s : ℕ) where
       let start : IsBefore ds at old = record { decks = decks; time = these at (first_in at ats); heads = grid } in
       (turn_of limits ds s at old kind x start step, turns_of kind decks x.heads ats xs (λ u k. these u (next_in at ats u k)) (all_fit pair_fits limits ds s at old kind x start step) steps)
 
-  -- the model of each of these choices is a member
-  abbrev pub AreMembers : List Choice → Type 0
-  AreMembers cs = All (λ c. IsMember ds c.model) cs
+  -- each is a choice of the decks for its time
+  abbrev pub AreChosen : List TimeStep → List Choice → Type 0
+  AreChosen = AllZip (λ at x. IsChoiceOf ds.first ds.second at x)
 
-  pub goes_on : (cs : List Choice) → AreMembers cs → (old : List Bound) (news : List (List Bound)) (before : ℕ → Fraction) → HeadsEnclose ds.first old before →
-      AreTurns old (map time_of cs) news → GoOn cs before
-  goes_on [] members old news before olds turns = tt
-  goes_on (c ∷ cs) members old [] before olds turns = absurd turns
-  goes_on (c ∷ cs) members old (new ∷ news) before olds (turn, turns) =
-      let here = All-head (λ c. IsMember ds c.model) c cs members in (
-        has_vector limits ds s c.at old new turn c.model here before olds,
-        (λ d X some solves. goes_on cs (All-tail (λ c. IsMember ds c.model) c cs members) new news (heads_of d X) (turn.lands c.model here before d X olds some solves) turns),
-      )
+  pub goes_on : (ats : List TimeStep) (xs : List Choice) → AreChosen ats xs → (old : List Bound) (news : List (List Bound)) (before : ℕ → Fraction) → HeadsEnclose ds.first old before →
+      AreTurns old ats news → GoOn ds.first ats xs before
+  goes_on [] [] chosen old news before olds turns = tt
+  goes_on (at ∷ ats) (x ∷ xs) chosen old (new ∷ news) before olds (turn, turns) = (
+    has_vector limits ds s at old new turn x chosen.0 before olds,
+    (λ d X some solves. goes_on ats xs chosen.1 new news (heads_of d X) (turn.lands x chosen.0 before d X olds some solves) turns),
+  )
+  goes_on [] (x ∷ xs) chosen old news before olds turns = absurd chosen
+  goes_on (at ∷ ats) [] chosen old news before olds turns = absurd chosen
+  goes_on (at ∷ ats) (x ∷ xs) chosen old [] before olds turns = absurd turns
 
-  pub are_one : (cs : List Choice) → AreMembers cs → (old : List Bound) (news : List (List Bound)) (before other : ℕ → Fraction) →
-      HeadsEnclose ds.first old before → AreSameHeads ds.first other before → AreTurns old (map time_of cs) news →
-      (d e : ℕ) (Xs Ys : List (ℕ → ℤ)) → 0 < d → 0 < e → SolvesChoicesFrom d before cs Xs → SolvesChoicesFrom e other cs Ys → AreSame ds.first d e Xs Ys
-  are_one [] members old news before other olds same turns d e [] [] some_d some_e first second = tt
-  are_one [] members old news before other olds same turns d e [] (Y ∷ Ys) some_d some_e first second = absurd second
-  are_one [] members old news before other olds same turns d e (X ∷ Xs) Ys some_d some_e first second = absurd first
-  are_one (c ∷ cs) members old [] before other olds same turns d e Xs Ys some_d some_e first second = absurd turns
-  are_one (c ∷ cs) members old (new ∷ news) before other olds same turns d e [] Ys some_d some_e first second = absurd first
-  are_one (c ∷ cs) members old (new ∷ news) before other olds same turns d e (X ∷ Xs) [] some_d some_e first second = absurd second
-  are_one (c ∷ cs) members old (new ∷ news) before other olds same (turn, turns) d e (X ∷ Xs) (Y ∷ Ys) some_d some_e (first, firsts) (second, seconds) =
-      let chosen = All-head (λ c. IsMember ds c.model) c cs members in
-      let here = heads_same limits ds s c.at old new turn c.model chosen before olds other same d e X Y some_d some_e first second in (
+  pub are_one : (ats : List TimeStep) (xs : List Choice) → AreChosen ats xs → (old : List Bound) (news : List (List Bound)) (before other : ℕ → Fraction) →
+      HeadsEnclose ds.first old before → AreSameHeads ds.first other before → AreTurns old ats news →
+      (d e : ℕ) (Xs Ys : List (ℕ → ℤ)) → 0 < d → 0 < e → SolvesChoicesFrom ds.first d before ats xs Xs → SolvesChoicesFrom ds.first e other ats xs Ys → AreSame ds.first d e Xs Ys
+  are_one [] [] chosen old news before other olds same turns d e [] [] some_d some_e first second = tt
+  are_one (at ∷ ats) (x ∷ xs) chosen old (new ∷ news) before other olds same (turn, turns) d e (X ∷ Xs) (Y ∷ Ys) some_d some_e (first, firsts) (second, seconds) =
+      let here = heads_same limits ds s at old new turn x chosen.0 before olds other same d e X Y some_d some_e first second in (
         here,
-        are_one cs (All-tail (λ c. IsMember ds c.model) c cs members) new news (heads_of d X) (heads_of e Y)
-            (turn.lands c.model chosen before d X olds some_d first) (λ k act. Same-sym (here k act)) turns d e Xs Ys some_d some_e firsts seconds,
+        are_one ats xs chosen.1 new news (heads_of d X) (heads_of e Y)
+            (turn.lands x chosen.0 before d X olds some_d first) (λ k act. Same-sym (here k act)) turns d e Xs Ys some_d some_e firsts seconds,
       )
+  are_one [] [] chosen old news before other olds same turns d e [] (Y ∷ Ys) some_d some_e first second = absurd second
+  are_one [] [] chosen old news before other olds same turns d e (X ∷ Xs) Ys some_d some_e first second = absurd first
+  are_one [] (x ∷ xs) chosen old news before other olds same turns d e Xs Ys some_d some_e first second = absurd chosen
+  are_one (at ∷ ats) [] chosen old news before other olds same turns d e Xs Ys some_d some_e first second = absurd chosen
+  are_one (at ∷ ats) (x ∷ xs) chosen old [] before other olds same turns d e Xs Ys some_d some_e first second = absurd turns
+  are_one (at ∷ ats) (x ∷ xs) chosen old (new ∷ news) before other olds same turns d e [] Ys some_d some_e first second = absurd first
+  are_one (at ∷ ats) (x ∷ xs) chosen old (new ∷ news) before other olds same turns d e (X ∷ Xs) [] some_d some_e first second = absurd second

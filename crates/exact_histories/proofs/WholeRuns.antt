@@ -1,6 +1,6 @@
--- Where all steps of a task have values, the model of its one deck has a history, and one alone, or so has each choice of models between two.
-use Rattle.exact_histories.proofs.Common.{◌∷◌, [], subst, List, map, times, TimeStep, Bound, AreSteps, starts_enclose_members, Solved, starts_fit_decks}
-use Rattle.exact_histories.proofs.Common.{one_valid, RunsHaveAHistory, RunsHaveOneHistory, AreDecks, HaveOneHistory}
+-- Where all steps of a task have values, the model of its one deck has a history, and one alone, or so has each choice between two.
+use Rattle.exact_histories.proofs.Common.{◌∷◌, [], subst, List, map, times, TimeStep, Bound, AreSteps, starts_enclose_all, Solved, starts_fit_decks, one_valid}
+use Rattle.exact_histories.proofs.Common.{RunsHaveAHistory, RunsHaveOneHistory, AreDecks, HaveOneHistory}
 use Rattle.listing_run.specs.declared.text.ListingEnd.TheVariants.{Whole}
 use Rattle.listing_run.specs.{AllSteps, one_task, pairs_of, Steps}
 use Rattle.listing_run.specs.declared.solving.Step.{Step}
@@ -19,7 +19,7 @@ module _ (k : Task) where
   pub have_one : (values : List Step) → AreDecks k.decks → AllSteps k values Whole → HaveOneHistory k.decks
   have_one values decks all =
       let (xs, steps) = solved_steps (times k.decks.first) values all.start all.steps in
-      have_one_by k.limits k.decks.first k.decks.second k.digits all.start (map heads_at xs) (starts_enclose_members k.decks all.start decks all.is_start)
+      have_one_by k.limits k.decks.first k.decks.second k.digits all.start (map heads_at xs) (starts_enclose_all k.decks all.start decks all.is_start)
       (turns_of k.limits k.decks k.digits (pairs_of k) decks all.start (times k.decks.first) xs (λ at k. k) (starts_fit_decks k.decks all.start decks all.is_start) steps)
 
 pub history_exists : RunsHaveAHistory

@@ -1,3 +1,3 @@
 pub mod Histories
-pub use Rattle.exact_histories.specs.Histories.{AreSame, AreSameHeads, Choice, ChoicesHaveAHistory, ChoicesHaveOne, ChoicesHaveOneHistory, ChoicesLieBetween}
-pub use Rattle.exact_histories.specs.Histories.{HasHistory, HasOneHistory, HaveOneBy, HaveOneHistory, RunsHaveAHistory, RunsHaveOneHistory, SolvesChoicesFrom}
+pub use Rattle.exact_histories.specs.Histories.{AreSame, AreSameHeads, ChoicesHaveOne, ChoicesHaveOneHistory, HasHistory, HasOneHistory, HaveOneBy}
+pub use Rattle.exact_histories.specs.Histories.{HaveOneHistory, ModelsAreChosen, RunsHaveAHistory, RunsHaveOneHistory}

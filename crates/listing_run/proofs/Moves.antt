@@ -1,11 +1,10 @@
 -- A step of a listing, by the clauses of the calls that gave its parts.
 use Rattle.listing_run.proofs.Common.{◌≡◌, ℕ, length, List, ◌∷◌, ℤ, Ok, Err, Result, subst, refl, ◌-◌, ◌<◌, inl, inr, All, arith, Option, Some, None, []}
 use Rattle.listing_run.proofs.Common.{Fraction, EnclosesSigned, Bound, NoBound, ZoneFlow, RoundsSettleBoth, lower_at, upper_at, PairKind, entries_at, Budget}
-use Rattle.listing_run.proofs.Common.{TimeStep, heads_of, variable_heads, exact_step, Solved, EachMember, each_member, of_member, member_cells, cell_of_member}
-use Rattle.listing_run.proofs.Common.{IsMove, EnclosesMoves, IsStepBy, edges_by, WideKeepsSteps, Task, Step, IsActive, HeadsEnclose, AreFlowsAt, IsStep}
-use Rattle.listing_run.proofs.Common.{HasNoBound, no_heads, no_budget, no_zones, budget_at, Bounds, BoundsMoves, HasLargeFlow, StopsAt, stop_of, pairs_of}
-use Rattle.listing_run.proofs.Common.{IsSolved, FlowsEnclose, WideKeepsListings, deck_task, IfSome, Entries, FlowModel, cell_count, times, EnclosesStep}
-use Rattle.listing_run.proofs.Common.{ExactCell, Limits, Plain, Wide, lies_encloses, IsCellNamed}
+use Rattle.listing_run.proofs.Common.{TimeStep, heads_of, variable_heads, step_from, Solved, EachChoice, EnclosesMoves, IsStepBy, edges_by, WideKeepsSteps}
+use Rattle.listing_run.proofs.Common.{Task, Step, IsActive, HeadsEnclose, AreFlowsAt, IsStep, HasNoBound, no_heads, no_budget, no_zones, budget_at, BoundsMoves}
+use Rattle.listing_run.proofs.Common.{HasLargeFlow, StopsAt, stop_of, pairs_of, IsSolved, FlowsEnclose, WideKeepsListings, deck_task, IfSome, Entries}
+use Rattle.listing_run.proofs.Common.{FlowModel, cell_count, times, EnclosesStep, ExactCell, Limits, Plain, Wide, lies_encloses, IsCellNamed}
 use Rattle.zone_flows.specs.{EncloseExact, HeadsLieWithin}
 use Rattle.step_chain.specs.{FailsBy as StepFailsBy}
 use Rattle.budget_bounds.specs.{EnclosesBudgets, HeadsAreWithin, budget_of}
@@ -69,8 +68,8 @@ module _ (k : Task) (at : TimeStep) where
     pub solved_by : (kind : PairKind) → kind ≡ pairs_of k → (x : Solved) → IsStepBy k.limits k.decks s at lent kind x → IsSolved k at old x
     solved_by kind kinds x h = let Q : PairKind → Type 0 = λ pairs. IsStepBy k.limits k.decks k.digits at old pairs x in subst Q kinds (by_task (λ n o. IsStepBy k.limits k.decks n at o kind x) h)
 
-    pub moves_by : (x : Solved) → EachMember k.decks (λ m. EnclosesMoves m s at lent x) → EachMember k.decks (λ m. EnclosesMoves m k.digits at old x)
-    moves_by x h = by_task (λ n o. EachMember k.decks (λ m. EnclosesMoves m n at o x)) h
+    pub moves_by : (x : Solved) → EachChoice k.decks at (λ y. EnclosesMoves k.decks.first s at y lent x) → EachChoice k.decks at (λ y. EnclosesMoves k.decks.first k.digits at y old x)
+    moves_by x h = by_task (λ n o. EachChoice k.decks at (λ y. EnclosesMoves k.decks.first n at y o x)) h
 
   -- The budget and the flows between zones of a solved step, where its bounds were lent.
   module _ (x : Solved) (lent : List Bound) (same : lent ≡ x.bounds) where
@@ -87,21 +86,21 @@ module _ (k : Task) (at : TimeStep) where
 
     pub bounds_moves : HeadsAreWithin → (b : Budget) (flows : List ZoneFlow) → EnclosesBudgets x.problem (lower_at lent) (upper_at lent) b →
         ((c : ℕ) → IsCellNamed x.problem c → IsActive k.decks.first c) → FlowsEnclose x.problem x.heads k.zones flows →
-        (old : List Bound) → EachMember k.decks (λ m. EnclosesMoves m k.digits at old x) → BoundsMoves k at old (record { at = at; heads = x.heads; budget = b; zones = flows })
+        (old : List Bound) → EachChoice k.decks at (λ y. EnclosesMoves k.decks.first k.digits at y old x) → BoundsMoves k at old (record { at = at; heads = x.heads; budget = b; zones = flows })
     bounds_moves within b flows budget named zones old encloses =
         let v : Step = record { at = at; heads = x.heads; budget = b; zones = flows } in
         let B : List Bound → Type 0 = λ v. EnclosesBudgets x.problem (lower_at v) (upper_at v) b in
         let terms : EnclosesBudgets x.problem (lower_at x.bounds) (upper_at x.bounds) b = subst B same budget in
-        each_member k.decks (λ m. (before : ℕ → Fraction) (d : ℕ) (X : ℕ → ℤ) → IsMove m at old before d X → Bounds k m v before d X) (λ m member before d X move.
-        let named_in = λ (c : ℕ) (n : IsCellNamed x.problem c). cell_of_member k.decks.first m (member_cells k.decks m member) c (named c n) in
-        let e = of_member k.decks (λ f. EnclosesMoves f k.digits at old x) encloses m member before d X move in
-        let Y : ℕ → ℤ = variable_heads (exact_step m at.period at.step before) X in
+        λ y chosen before d X move.
+        let e = encloses y chosen before d X move in
+        let step : List ExactCell = step_from before y.cells in
+        let Y : ℕ → ℤ = variable_heads step X in
         record {
           heads = e.heads;
-          budget = terms k.digits (exact_step m at.period at.step before) (heads_of d Y) e.step (within (length x.problem) d Y (lower_at x.bounds) (upper_at x.bounds) move.some e.variables);
-          zones = flows_enclose k.zones x.problem x.heads flows zones k.digits (exact_step m at.period at.step before) (heads_of d X) e.step
-              (heads_named m x.problem named_in x.heads (heads_of d X) (lies_encloses m x.heads d X move.some e.heads));
-        })
+          budget = terms k.digits step (heads_of d Y) e.step (within (length x.problem) d Y (lower_at x.bounds) (upper_at x.bounds) move.some e.variables);
+          zones = flows_enclose k.zones x.problem x.heads flows zones k.digits step (heads_of d X) e.step
+              (heads_named k.decks.first x.problem named x.heads (heads_of d X) (lies_encloses k.decks.first x.heads d X move.some e.heads));
+        }
 
 -- What is listed with plain limits is listed with wide ones: step by step.
 module _ (keeps : WideKeepsSteps) (d : Decks) (s : ℕ) (zones : Option (List ℕ)) (rounds : ℕ) (quick : Bool) where

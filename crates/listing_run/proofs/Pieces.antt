@@ -4,9 +4,8 @@ use Rattle.listing_run.proofs.Common.{Put, whole_put, Entries, Edges, Text, IsRu
 use Rattle.listing_run.proofs.Common.{lacks_after, stops_at, ListingEnd, Step, Steps, Task, IsCutListing, IsListing, IsPushed, first_pieces, last_line, listing}
 use Rattle.listing_run.proofs.Common.{status_of, text_of, EndsAt, IsAtFirst, IsNextText, IsWalk, times_left, is_between, first_text, map, inl, inr, SinkError}
 use Rattle.listing_run.proofs.Common.{TimeStep, whole, IsLate, late_not_ok, tail_late, run_of_less, IsStopEnd, IsListingBeside, left, listed, memory_put}
-use Rattle.listing_run.proofs.Common.{status_after, wanting}
+use Rattle.listing_run.proofs.Common.{status_after, wanting, concat}
 use Rattle.std.proofs.Common.{IfOk}
-use Rattle.std.specs.List.{concat}
 use Rattle.listing_run.proofs.UnderWay.{IsSolved, cut_listing, encloses_if_whole, solved_steps_are_all, is_listing, none_solved, one_more_solved}
 use Rattle.outside.specs.declared.traits.SinkError.TheVariants as error
 use Rattle.run_puts.specs.declared.puts.Status.TheVariants as status

@@ -1,10 +1,10 @@
 -- What a step does to its settler, by the clause of the call that solved it.
 use Rattle.listing_run.proofs.Common.{IfErr, IfOk, ◌≡◌, ◌∙◌, ℕ, List, length, Bool, true, false, inl, inr, sym, subst, refl, ℤ, Option, None, [], ◌∷◌, Result}
-use Rattle.listing_run.proofs.Common.{Ok, Err, SinkError, Bound, Entries, Edges, IsSettledPair, lower_at, upper_at, TimeStep, times, EachMember}
-use Rattle.listing_run.proofs.Common.{AreStartHeadsFor, IsProblemFor, each_member, of_member, Text, end_line, LieBetween, IsPosed, edges_by, LiesBetweenBy}
-use Rattle.listing_run.proofs.Common.{LeadsBy, LeadsOrRests, Steps, Task, IsSettledBy, PairEncloses, Reaches, ReachesFirst, RestsOrSettles, RestsOrSettlesFirst}
-use Rattle.listing_run.proofs.Common.{rests, settled, IsAtFirst, IsNextText, IsWalk, times_left, EnclosesHistories, IsListing, last_line, listing, status_of}
-use Rattle.listing_run.proofs.Common.{AllSteps, Limits, Plain, Wide, exact_step, variable_heads, LiesBetween, ListingEnd, Step, ◌⊎◌, begun}
+use Rattle.listing_run.proofs.Common.{Ok, Err, SinkError, Bound, Entries, Edges, IsSettledPair, lower_at, upper_at, TimeStep, times, EachChoice}
+use Rattle.listing_run.proofs.Common.{AreStartHeadsFor, IsProblemFor, Text, end_line, LieBetween, IsPosed, edges_by, LiesBetweenBy, LeadsBy, LeadsOrRests}
+use Rattle.listing_run.proofs.Common.{Steps, Task, IsSettledBy, PairEncloses, Reaches, ReachesFirst, RestsOrSettles, RestsOrSettlesFirst, rests, settled}
+use Rattle.listing_run.proofs.Common.{IsAtFirst, IsNextText, IsWalk, times_left, EnclosesHistories, IsListing, last_line, listing, status_of, AllSteps, Limits}
+use Rattle.listing_run.proofs.Common.{Plain, Wide, step_from, variable_heads, LiesBetween, ListingEnd, Step, ◌⊎◌, begun}
 use Rattle.settle_driver.specs.{HoldsPair}
 use Rattle.cell_balance.proofs.Deep.{le_trans_z}
 use Rattle.listing_run.proofs.UnderWay.{all_left, first_same}
@@ -27,11 +27,10 @@ module _ (k : Task) (s : ℕ) (at : TimeStep) (old : List Bound) (digits : s ≡
   between_by Wide p b d X l u heads pair shown v = λ range. between p b d X l u heads pair shown (v range)
 
   pair_encloses : (p : List Entries) (b : Edges) (l u : ℕ → ℤ) → IsSettledPair p (edges_by k.limits b) l u →
-      EachMember k.decks (λ m. LieBetween k.limits m at old p l u) → PairEncloses k.limits k.decks at old p b
+      EachChoice k.decks at (λ y. LieBetween k.limits k.decks.first at y old p l u) → PairEncloses k.limits k.decks at old p b
   pair_encloses p b l u pair encloses heads shown =
-      each_member k.decks (λ m. LieBetween k.limits m at old p (lower_at heads) (upper_at heads)) (λ m member before d X move.
-      between_by k.limits p (edges_by k.limits b) d (variable_heads (exact_step m at.period at.step before) X) l u heads pair shown
-      (of_member k.decks (λ f. LieBetween k.limits f at old p l u) encloses m member before d X move))
+      λ y chosen before d X move.
+      between_by k.limits p (edges_by k.limits b) d (variable_heads (step_from before y.cells) X) l u heads pair shown (encloses y chosen before d X move)
 
   module _ {S : Type 0} (leads : S → List Entries → Edges → Bool → S → Type 0) (before after : S) where
     -- a step's problem, ended with heads or without

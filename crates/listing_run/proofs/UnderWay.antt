@@ -1,8 +1,8 @@
 -- The steps so far, from one to the next, and the end of a listing after them.
 use Rattle.listing_run.proofs.Common.{◌≡◌, ◌∙◌, ◌<◌, ℕ, List, [], ◌∷◌, ◌++◌, Bool, ap, arith, drop, get_or, length, refl, subst, sym, Bound, Entries, Edges}
-use Rattle.listing_run.proofs.Common.{TimeStep, start_head, times, HeadsEnclose, AreStartHeadsFor, Text, ListingEnd, Task, Step, AllSteps, EndsAt, FirstSteps}
-use Rattle.listing_run.proofs.Common.{IsStep, StepsThen, EachMember, BoundsMoves, EnclosesHistories, first_pieces, listing, IsListing, IsCutListing, last_line}
-use Rattle.listing_run.proofs.Common.{status_of, Steps, IsAtFirst, IsNext, IsNextText, IsWalk, times_left}
+use Rattle.listing_run.proofs.Common.{TimeStep, times, AreStartHeadsFor, Text, ListingEnd, Task, Step, AllSteps, EndsAt, FirstSteps, IsStep, StepsThen}
+use Rattle.listing_run.proofs.Common.{EnclosesStarts, BoundsMoves, EnclosesHistories, first_pieces, listing, IsListing, IsCutListing, last_line, status_of}
+use Rattle.listing_run.proofs.Common.{Steps, IsAtFirst, IsNext, IsNextText, IsWalk, times_left}
 use Rattle.listing_run.proofs.HistoriesBound.{AllBoundMoves, histories_bound}
 use Rattle.listing_run.specs.declared.text.ListingEnd.TheVariants as ends
 
@@ -18,10 +18,10 @@ module _ (k : Task) where
   -- the steps so far, and the moves that they bound
   pub record IsSolved (old : List Bound) (rest : List TimeStep) (values : List Step) : Type 0 where
     pub steps : FirstSteps k (AreLeft old rest) values
-    pub starts : EachMember k.decks (λ m. HeadsEnclose m steps.start (start_head m))
+    pub starts : EnclosesStarts k.decks steps.start
     pub moves : AllMove steps.start (times k.decks.first) values
 
-  pub solved_at_first : (start : List Bound) → AreStartHeadsFor k.decks start → EachMember k.decks (λ m. HeadsEnclose m start (start_head m)) → IsSolved start (times k.decks.first) []
+  pub solved_at_first : (start : List Bound) → AreStartHeadsFor k.decks start → EnclosesStarts k.decks start → IsSolved start (times k.decks.first) []
   solved_at_first start is encloses = record { steps = record { start = start; is_start = is; steps = (refl, refl) }; starts = encloses; moves = tt }
 
   -- one step more
@@ -35,21 +35,21 @@ module _ (k : Task) where
   step_then old at rest v heads is same start (t ∷ all) (w ∷ values) (x, h) = (x, step_then old at rest v heads is same w.heads all values h)
   step_then old at rest v heads is same start [] (w ∷ values) h = absurd h
 
-  moves_then : (old : List Bound) (at : TimeStep) (rest : List TimeStep) (v : Step) → BoundsMoves k at old v → (start : List Bound) (all : List TimeStep) (values : List Step) →
+  moves_then : (old : List Bound) (at : TimeStep) (rest : List TimeStep) (v : Step) → v.at ≡ at → BoundsMoves k at old v → (start : List Bound) (all : List TimeStep) (values : List Step) →
       StepsThen k (AreLeft old (at ∷ rest)) start all values → AllMove start all values → AllMove start all (values ++ (v ∷ []))
-  moves_then old at rest v moves start all [] (here, left) done =
+  moves_then old at rest v time moves start all [] (here, left) done =
       let P : List TimeStep → Type 0 = λ ts. AllMove start ts (v ∷ []) in
       let Q : List Bound → Type 0 = λ hs. AllMove hs (at ∷ rest) (v ∷ []) in
-      subst P (sym left) (subst Q (sym here) (moves, tt))
-  moves_then old at rest v moves start (t ∷ all) (w ∷ values) (x, h) (m, done) = (m, moves_then old at rest v moves w.heads all values h done)
-  moves_then old at rest v moves start [] (w ∷ values) h done = absurd h
+      subst P (sym left) (subst Q (sym here) (time, moves, tt))
+  moves_then old at rest v time moves start (t ∷ all) (w ∷ values) (x, h) (when, m, done) = (when, m, moves_then old at rest v time moves w.heads all values h done)
+  moves_then old at rest v time moves start [] (w ∷ values) h done = absurd h
 
   pub solved_more : (old : List Bound) (at : TimeStep) (rest : List TimeStep) (values : List Step) (v : Step) (heads : List Bound) →
       IsSolved old (at ∷ rest) values → IsStep k at old v → heads ≡ v.heads → BoundsMoves k at old v → IsSolved heads rest (values ++ (v ∷ []))
   solved_more old at rest values v heads s is same moves = record {
     steps = record { start = s.steps.start; is_start = s.steps.is_start; steps = step_then old at rest v heads is same s.steps.start (times k.decks.first) values s.steps.steps };
     starts = s.starts;
-    moves = moves_then old at rest v moves s.steps.start (times k.decks.first) values s.steps.steps s.moves;
+    moves = moves_then old at rest v is.time moves s.steps.start (times k.decks.first) values s.steps.steps s.moves;
   }
 
   -- what holds of the heads and times that are left

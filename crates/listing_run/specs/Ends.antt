@@ -5,10 +5,10 @@ use Rattle.outside.specs.declared.traits.SinkError.{SinkError}
 use Rattle.step_problem.specs.Entries.{Entries}
 use Rattle.step_problem.specs.{Edges}
 use Rattle.step_problem.specs.declared.heads.Bound.{Bound}
-use Rattle.model_types.specs.{start_head, times}
-use Rattle.deck_problems.specs.{AreDecks, EachMember, AreStartHeadsFor, AreDeckTables}
+use Rattle.model_types.specs.{times}
+use Rattle.deck_problems.specs.{AreDecks, EnclosesStarts, AreStartHeadsFor, AreDeckTables}
 use Rattle.model_types.specs.declared.time_steps.TimeStep.{TimeStep}
-use Rattle.problem_builder.specs.{AreGridHeads, HeadsEnclose}
+use Rattle.problem_builder.specs.{AreGridHeads}
 use Rattle.deck_problems.specs.declared.problem.DeckTables.{DeckTables}
 use Rattle.step_chain.specs.declared.solved.StepFault.{StepFault}
 use Rattle.run_puts.specs.{EndsOutOfMemory, Text}
@@ -66,7 +66,7 @@ pub record IsWalk (k : Task) (s : Steps) : Type 0 where
 -- a walk before the first step
 pub record IsAtFirst (k : Task) (s : Steps) : Type 0 where
   pub start : AreStartHeadsFor k.decks s.heads
-  pub encloses : EachMember k.decks (λ m. HeadsEnclose m s.heads (start_head m))
+  pub encloses : EnclosesStarts k.decks s.heads
   pub done : s.done ≡ 0
 
 -- a step by its flows and its heads

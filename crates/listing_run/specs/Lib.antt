@@ -4,8 +4,9 @@ pub mod Listing
 pub mod Ends
 pub use Rattle.listing_run.specs.Ends.{IsAtFirst, IsNext, IsNextText, IsStopEnd, IsTask, IsWalk, ListingExcludesRefusal, ListingIsOne, RefusalIsOne}
 pub use Rattle.listing_run.specs.Ends.{SettledListingIsClosed, StopsAt, WideKeepsListings, stop_of, times_left, with_heads}
-pub use Rattle.listing_run.specs.Listing.{BoundAll, BoundBetween, Bounds, BoundsMoves, EnclosesHistories, HistoriesBound, IsCutListing, IsListing}
-pub use Rattle.listing_run.specs.Listing.{IsListingBeside, IsPushed, first_pieces, is_between, last_line, left, listed, listing, status_of, text_of, time}
+pub use Rattle.listing_run.specs.Listing.{BoundAll, BoundChoices, Bounds, BoundsMoves, BoundsMovesOf, EnclosesHistories, HistoriesBound, IsCutListing}
+pub use Rattle.listing_run.specs.Listing.{IsListing, IsListingBeside, IsPushed, first_pieces, is_between, last_line, left, listed, listing, status_of, text_of}
+pub use Rattle.listing_run.specs.Listing.{time}
 pub use Rattle.listing_run.specs.Settlers.{AllSettle, AllSteps, EnclosesSolutions, EndsAt, FirstSteps, HasNoBound, IsSettledBy, IsSolved, IsStep, PairEncloses}
 pub use Rattle.listing_run.specs.Settlers.{Reaches, ReachesFirst, RestsOrSettles, RestsOrSettlesFirst, Steps, StepsThen, begun, budget_at, no_budget, no_heads}
 pub use Rattle.listing_run.specs.Settlers.{no_zones, rests, settled}

@@ -14,58 +14,55 @@ use Rattle.decimal_input.specs.{Fraction}
 use Rattle.step_problem.specs.declared.heads.Bound.{Bound}
 use Rattle.budget_bounds.specs.{BudgetEncloses}
 use Rattle.model_types.specs.declared.model.FlowModel.{FlowModel}
-use Rattle.model_types.specs.{start_head, times}
+use Rattle.model_types.specs.{start_head}
+use Rattle.cell_balance.specs.{ExactCell}
 use Rattle.flow_equations.specs.{exact_step, heads_of, variable_heads, Solves}
-use Rattle.deck_span.specs.{SolvesBetween, SolvesBetweenFrom}
-use Rattle.deck_problems.specs.{EachMember}
+use Rattle.deck_span.specs.{AreChoices, Choice, SolvesChoices, step_from}
+use Rattle.deck_problems.specs.{EachChoice}
 use Rattle.step_chain.specs.{LiesWithin, IsMove}
 use Rattle.zone_flows.specs.{EncloseExact}
 use Rattle.run_puts.specs.declared.puts.Status.TheVariants as status
 use Rattle.listing_run.specs.declared.text.ListingEnd.TheVariants as ends
 
 -- How the steps of a listing enclose every history that solves the exact equations of its decks.
--- The vector X over d lies between a step's heads, each exact term of its budget between the step's two bounds, and each
--- exact flow between two zones of the zone file, if there is one, between its two, where `before` are the exact heads
--- before it, and m is the model that it solves.
-pub record Bounds (k : Task) (m : FlowModel) (v : Step) (before : ℕ → Fraction) (d : ℕ) (X : ℕ → ℤ) : Type 0 where
+-- The vector X over d lies between a step's heads, each exact term of the budget of the exact step e between the step's two bounds, and
+-- each exact flow between two zones of the zone file, if there is one, between its two.
+pub record Bounds (k : Task) (m : FlowModel) (v : Step) (e : List ExactCell) (d : ℕ) (X : ℕ → ℤ) : Type 0 where
   pub heads : LiesWithin m v.heads d X
-  pub budget : BudgetEncloses k.digits (exact_step m v.at.period v.at.step before)
-      (heads_of d (variable_heads (exact_step m v.at.period v.at.step before) X)) v.budget
-  pub zones : IfSome k.zones (λ zones.
-      EncloseExact k.digits (exact_step m v.at.period v.at.step before) zones (heads_of d X) v.zones)
+  pub budget : BudgetEncloses k.digits e (heads_of d (variable_heads e X)) v.budget
+  pub zones : IfSome k.zones (λ zones. EncloseExact k.digits e zones (heads_of d X) v.zones)
 
--- this holds of each step and its vector, in turn, for one model
+-- this holds of each step and its vector, in turn, for one model, where `before` are the exact heads before the first
 abbrev pub BoundAll : Task → FlowModel → ℕ → (ℕ → Fraction) → List Step → List (ℕ → ℤ) → Type 0
 BoundAll k m d before [] [] = Unit {0}
-BoundAll k m d before (v ∷ values) (X ∷ Xs) = Bounds k m v before d X × BoundAll k m d (heads_of d X) values Xs
+BoundAll k m d before (v ∷ values) (X ∷ Xs) = Bounds k m v (exact_step m v.at.period v.at.step before) d X × BoundAll k m d (heads_of d X) values Xs
 BoundAll k m d before [] (X ∷ Xs) = ⊥
 BoundAll k m d before (v ∷ values) [] = ⊥
 
--- and where each vector solves a model between a and b, for that model
-abbrev pub BoundBetween : Task → (a b : FlowModel) → (d : ℕ) → (before : ℕ → Fraction) → (ats : List TimeStep) → List Step → (Xs : List (ℕ → ℤ)) →
-    SolvesBetweenFrom a b d before ats Xs → Type 0
-BoundBetween k a b d before [] [] [] h = Unit {0}
-BoundBetween k a b d before [] (v ∷ values) [] h = ⊥
-BoundBetween k a b d before [] values (X ∷ Xs) h = ⊥
-BoundBetween k a b d before (at ∷ ats) values [] h = ⊥
-BoundBetween k a b d before (at ∷ ats) [] (X ∷ Xs) h = ⊥
-BoundBetween k a b d before (at ∷ ats) (v ∷ values) (X ∷ Xs) h = Bounds k h.0.model v before d X × BoundBetween k a b d (heads_of d X) ats values Xs h.1
+-- and for a choice of each step
+abbrev pub BoundChoices : Task → FlowModel → ℕ → (ℕ → Fraction) → List Step → List Choice → List (ℕ → ℤ) → Type 0
+BoundChoices k m d before [] [] [] = Unit {0}
+BoundChoices k m d before (v ∷ values) (x ∷ xs) (X ∷ Xs) = Bounds k m v (step_from before x.cells) d X × BoundChoices k m d (heads_of d X) values xs Xs
+BoundChoices k m d before values xs Xs = ⊥
 
 -- Every history that solves the exact equations of all steps, over any denominator, lies between their heads, with
 -- each of its budget flows between their terms, and each of its flows between two zones of a zone file between its two
--- numbers. With two decks: every history between them, each step of which solves some model between the two.
+-- numbers. With two decks: every history of choices between the two.
 abbrev pub HistoriesBound : Task → FlowModel → Option FlowModel → List Step → Type 0
 HistoriesBound k a None values = (d : ℕ) (Xs : List (ℕ → ℤ)) → Solves a d Xs → BoundAll k a d (start_head a) values Xs
 HistoriesBound k a (Some b) values =
-    (d : ℕ) (Xs : List (ℕ → ℤ)) (h : SolvesBetween a b d Xs) → BoundBetween k a b d (start_head h.first) (times a) values Xs h.steps
+    (start : ℕ → Fraction) (xs : List Choice) → AreChoices a b start xs → (d : ℕ) (Xs : List (ℕ → ℤ)) → SolvesChoices a start xs d Xs →
+    BoundChoices k a d start values xs Xs
 
 abbrev pub EnclosesHistories : Task → List Step → Type 0
 EnclosesHistories k values = HistoriesBound k k.decks.first k.decks.second values
 
--- for one step: this holds for each member, all exact heads within the old ones, and every solution from them
+-- for one step: this holds for each choice, all exact heads within the old ones, and every solution from them
+abbrev pub BoundsMovesOf : Task → FlowModel → TimeStep → List Bound → Step → Choice → Type 0
+BoundsMovesOf k m at old v x = (before : ℕ → Fraction) (d : ℕ) (X : ℕ → ℤ) → IsMove m at x old before d X → Bounds k m v (step_from before x.cells) d X
+
 abbrev pub BoundsMoves : Task → TimeStep → List Bound → Step → Type 0
-BoundsMoves k at old v =
-    EachMember k.decks (λ m. (before : ℕ → Fraction) (d : ℕ) (X : ℕ → ℤ) → IsMove m at old before d X → Bounds k m v before d X)
+BoundsMoves k at old v = EachChoice k.decks at (BoundsMovesOf k k.decks.first at old v)
 
 -- whether the task is one of all models between two decks
 abbrev pub is_between : Task → Bool

@@ -6,7 +6,7 @@ use Rattle.step_problem.specs.declared.heads.Bound.{Bound}
 use Rattle.step_problem.specs.Entries.{Entries}
 use Rattle.step_problem.specs.{Edges, lower_at, upper_at, RoundsSettleBoth}
 use Rattle.deck_problems.specs.declared.decks.Decks.{Decks}
-use Rattle.deck_problems.specs.{EachMember, AreStartHeadsFor}
+use Rattle.deck_problems.specs.{EachChoice, AreStartHeadsFor}
 use Rattle.model_types.specs.declared.limits.Limits.{Limits}
 use Rattle.model_types.specs.declared.time_steps.TimeStep.{TimeStep}
 use Rattle.model_types.specs.{times}
@@ -89,10 +89,10 @@ AllSettle k old [] values = Unit {0}
 AllSettle k old (at ∷ steps) [] = Unit {0}
 AllSettle k old (at ∷ steps) (v ∷ values) = SettlesIn k.limits k.decks k.digits at old k.rounds × AllSettle k v.heads steps values
 
--- Every solution of the exact step of each member, from all exact heads within the old ones, lies between these heads at the problem's variable cells; with
+-- Every solution of each choice of the step, from all exact heads within the old ones, lies between these heads at the problem's variable cells; with
 -- wide limits every solution whose heads are in range.
 abbrev pub EnclosesSolutions : Limits → Decks → TimeStep → List Bound → List Entries → List Bound → Type 0
-EnclosesSolutions limits d at old p heads = EachMember d (λ m. LieBetween limits m at old p (lower_at heads) (upper_at heads))
+EnclosesSolutions limits d at old p heads = EachChoice d at (λ y. LieBetween limits d.first at y old p (lower_at heads) (upper_at heads))
 
 -- Where the settled pair of a step's problem lies between heads, every solution does.
 abbrev pub PairEncloses : Limits → Decks → TimeStep → List Bound → List Entries → Edges → Type 0

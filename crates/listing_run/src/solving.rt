@@ -4,7 +4,7 @@ ghost use Rattle.step_problem.specs.declared.heads.Bound.{Bound};
 ghost use Rattle.cell_relax.specs.{AreWords};
 ghost use Rattle.model_types.specs.declared.time_steps.TimeStep.{TimeStep};
 ghost use Rattle.problem_builder.specs.{AreGridHeads, IsActive, IsCellNamed};
-ghost use Rattle.deck_problems.specs.{EachMember};
+ghost use Rattle.deck_problems.specs.{EachChoice};
 ghost use Rattle.step_chain.specs.{EnclosesMoves};
 ghost use Rattle.listing_run.specs.Settlers.{IsStep, IsSolved};
 ghost use Rattle.listing_run.specs.Listing.{BoundsMoves};
@@ -118,7 +118,8 @@ pub(crate) fn step_flows(
     ensures step { IfOk result (λ flows. (old : List Bound) → IsSolved task.now at old solved.now →
         IsStep task.now at old (with_heads flows solved.now.heads)) }
     // Every solution from exact heads within the old ones lies within the step's heads, budget and flows between zones.
-    ensures encloses { IfOk result (λ flows. (old : List Bound) → EachMember task.now.decks (λ m. EnclosesMoves m task.now.digits at old solved.now) →
+    ensures encloses { IfOk result (λ flows. (old : List Bound) →
+        EachChoice task.now.decks at (λ y. EnclosesMoves task.now.decks.first task.now.digits at y old solved.now) →
         BoundsMoves task.now at old (with_heads flows solved.now.heads)) }
     ensures stop { IfErr result (λ stop. (old : List Bound) (rest : List TimeStep) → IsSolved task.now at old solved.now →
         StopsAt task.now old (at ∷ rest) stop) }

@@ -8,9 +8,9 @@ use Rattle.model_types.specs.declared.entry.Entry.{Entry}
 use Rattle.model_types.specs.declared.limits.Limits.{Limits}
 use Rattle.model_types.specs.declared.model.FlowModel.{FlowModel}
 use Rattle.model_types.specs.declared.time_steps.TimeStep.{TimeStep}
-use Rattle.model_types.specs.{start_head, times}
+use Rattle.model_types.specs.{start_head, times, IsModel}
 use Rattle.flow_equations.specs.{SolvesAt, heads_of}
-use Rattle.deck_span.specs.{IsBetween, SolvesBetween}
+use Rattle.deck_span.specs.{AreChoices, Choice, IsBetween, SolvesChoices}
 use Rattle.step_chain.specs.declared.solved.Solved.{Solved}
 use Rattle.step_chain.specs.{AreAllSteps, LiesWithin}
 use Rattle.exact_histories.specs.{ChoicesHaveOne}
@@ -50,13 +50,20 @@ DifferBetween m d [] [] [] = Unit {0}
 DifferBetween m d (bounds ∷ steps) (X ∷ Xs) (Y ∷ Ys) = DifferLess m bounds d X Y × DifferBetween m d steps Xs Ys
 DifferBetween m d steps Xs Ys = ⊥
 
+-- The history Xs over d solves some choices between a and b.
+pub record IsHistoryBetween (a b : FlowModel) (d : ℕ) (Xs : List (ℕ → ℤ)) : Type 0 where
+  pub start : ℕ → Fraction
+  pub choices : List Choice
+  pub between : AreChoices a b start choices
+  pub solves : SolvesChoices a start choices d Xs
+
 -- Each of the two is a history between two decks, the second one with the plan's wells.
 abbrev pub PairsAreHistories : Type 0
 PairsAreHistories =
-    (a b : FlowModel) (plan : List (List Entry)) (d : ℕ) (Xs Ys : List (ℕ → ℤ)) → length plan ≡ length a.periods → SolvesPairs a b plan d Xs Ys →
-    SolvesBetween a b d Xs × SolvesBetween (with_plan plan a) (with_plan plan b) d Ys
+    (a b : FlowModel) (plan : List (List Entry)) (d : ℕ) (Xs Ys : List (ℕ → ℤ)) → IsModel a → IsModel (with_plan plan a) →
+    length plan ≡ length a.periods → SolvesPairs a b plan d Xs Ys → IsHistoryBetween a b d Xs × IsHistoryBetween (with_plan plan a) (with_plan plan b) d Ys
 
--- Where both pairs of decks have all their steps, each choice of models between has one history of each plan.
+-- Where both pairs of decks have all their steps, each choice between has one history of each plan.
 abbrev pub PairsHaveOne : Type 0
 PairsHaveOne =
     (limits : Limits) (a b : FlowModel) (plan : List (List Entry)) (s : ℕ) (kind other : PairKind) (xs ys : List Solved) → AreAllSteps limits a b s kind xs →

@@ -1,12 +1,12 @@
 -- Kinds of cells by their tests, indices of variable cells, and the range of a step's heads.
 use Rattle.step_chain.proofs.Common.{◌≡◌, ℕ, ◌<◌, inl, inr, true, false, List, length, get_or, sym, ap, ◌∙◌, subst, arith, ℤ, cases_Bool, and_parts}
-use Rattle.step_chain.proofs.Common.{false_from_ne_true, not-true, true≢false, Fraction, Bound, IsHead, no_bound, lower_at, upper_at, AreWords, Entries}
-use Rattle.step_chain.proofs.Common.{FlowModel, TimeStep, cell_count, is_active, is_variable, is_constant, index_of, variable_cells, exact_step, Decks}
-use Rattle.step_chain.proofs.Common.{IsConstantPairFor, AreGridHeads, bound_at, AreHeadsOf, ◌&&◌, not, ints, ExactCell, cell_at, no_cell, ◌+◌, ◌≤◌, cond, set}
-use Rattle.step_chain.proofs.Common.{cases_order, kind_of, HasConstantHeadFor, variable_active, constant_active}
+use Rattle.step_chain.proofs.Common.{false_from_ne_true, not-true, true≢false, Bound, IsHead, no_bound, lower_at, upper_at, AreWords, Entries, FlowModel}
+use Rattle.step_chain.proofs.Common.{TimeStep, cell_count, is_active, is_variable, is_constant, index_of, variable_cells, map, Decks, IsConstantPairFor}
+use Rattle.step_chain.proofs.Common.{AreGridHeads, bound_at, AreHeadsOf, ◌&&◌, not, ints, ExactCell, cell_at, no_cell, ◌+◌, ◌≤◌, cond, set, cases_order}
+use Rattle.step_chain.proofs.Common.{kind_of, HasConstantHeadFor, variable_active, constant_active}
 use Rattle.std.proofs.lemmas.List.{get_or_default, get_or-map, length-map, length-set, get_or-set_same, get_or-set_other}
 use Rattle.model_types.proofs.Ranks.{passing, rank_below, at_rank}
-use Rattle.flow_equations.proofs.Links.{ids_are, below_is, index_is}
+use Rattle.flow_equations.proofs.Links.{below_is, index_is}
 use Rattle.model_types.specs.declared.given_heads.Kind.TheVariants.{NoFlow, Constant, Variable}
 
 -- Kinds of cells by their tests.
@@ -30,15 +30,17 @@ module _ (m : FlowModel) (p c : ℕ) where
 pub index_below : (m : FlowModel) (p c : ℕ) → is_variable m p c ≡ true → c < cell_count m.grid → index_of m p c < length (variable_cells m p)
 index_below m p c v lt = omega (arith, index_is m p c, ap length (below_is m p (cell_count m.grid)), rank_below (is_variable m p) c (cell_count m.grid) v lt)
 
-pub count_is : (m : FlowModel) (p n : ℕ) (old : ℕ → Fraction) → length (exact_step m p n old) ≡ length (variable_cells m p)
-count_is m p n old = sym (length-map (exact_step m p n old) (λ (e : ExactCell). e.id)) ∙ ap length (ids_are m p n old)
+-- as many cells as there are variable ones, whose numbers they have
+pub count_of : (m : FlowModel) (p : ℕ) (e : List ExactCell) → map (λ x. x.id) e ≡ variable_cells m p → length e ≡ length (variable_cells m p)
+count_of m p e ids = sym (length-map e (λ (x : ExactCell). x.id)) ∙ ap length ids
 
 -- the cell of its index is the cell
-pub number_is : (m : FlowModel) (p n c : ℕ) (old : ℕ → Fraction) → is_variable m p c ≡ true → c < cell_count m.grid → (cell_at (exact_step m p n old) (index_of m p c)).id ≡ c
-number_is m p n c old v lt =
-    let inside : index_of m p c < length (exact_step m p n old) = omega (arith, count_is m p n old, index_below m p c v lt) in
-    sym (get_or-map (λ (e : ExactCell). e.id) (exact_step m p n old) (index_of m p c) no_cell 0 inside)
-    ∙ ap (λ cs. get_or cs (index_of m p c) 0) (ids_are m p n old ∙ below_is m p (cell_count m.grid))
+pub number_of : (m : FlowModel) (p c : ℕ) (e : List ExactCell) → map (λ x. x.id) e ≡ variable_cells m p → is_variable m p c ≡ true → c < cell_count m.grid →
+    (cell_at e (index_of m p c)).id ≡ c
+number_of m p c e ids v lt =
+    let inside : index_of m p c < length e = omega (arith, count_of m p e ids, index_below m p c v lt) in
+    sym (get_or-map (λ (x : ExactCell). x.id) e (index_of m p c) no_cell 0 inside)
+    ∙ ap (λ cs. get_or cs (index_of m p c) 0) (ids ∙ below_is m p (cell_count m.grid))
     ∙ ap (λ k. get_or (passing (is_variable m p) (cell_count m.grid)) k 0) (index_is m p c)
     ∙ at_rank (is_variable m p) (cell_count m.grid) c v lt
 

@@ -1,6 +1,6 @@
 -- Names that several proofs of this crate cite, of the crates below and of its own definitions, passed on from one place. Declares nothing.
-pub use Rattle.std.proofs.Common.{Bool, Contains, List, [], ap, arith, cond, false, get_or, inl, inr, length, pos, refl, set, subst, suc, sym, true, ℕ, ℤ, ◌*ℤ◌}
-pub use Rattle.std.proofs.Common.{◌+◌, ◌-◌, ◌<◌, ◌^◌, ◌∙◌, ◌∷◌, ◌≡◌, ◌≤ℤ◌, ◌≤◌}
+pub use Rattle.std.proofs.Common.{Bool, Contains, List, [], ap, arith, cond, false, get_or, inl, inr, length, map, pos, refl, set, subst, suc, sym, true, ℕ, ℤ}
+pub use Rattle.std.proofs.Common.{◌*ℤ◌, ◌+◌, ◌-◌, ◌<◌, ◌^◌, ◌∙◌, ◌∷◌, ◌≡◌, ◌≤ℤ◌, ◌≤◌}
 pub use Rattle.std.proofs.lemmas.Bool.{and_parts, cases_Bool, cases_order, false_from_ne_true, not-true, true≢false}
 pub use Rattle.std.proofs.lemmas.Int.{clamps, ints}
 pub use Rattle.std.specs.Prelude.{Err, IfOk, Ok, Result, not, ◌&&◌}
@@ -12,13 +12,12 @@ pub use Rattle.cell_relax.specs.{AreWords}
 pub use Rattle.certificate_check.specs.{CertificateEncloses, CertificateExcludesRefusal, ClampedPairEncloses, IsRangeRefusal, RangeRefusalIsOne}
 pub use Rattle.certificate_check.specs.{SettledPairEncloses}
 pub use Rattle.decimal_input.specs.{EnclosesSigned, Fraction}
-pub use Rattle.deck_problems.proofs.OneProblem.{HasCellsOf, between_cells, cell_of_member, constant_same, each_member, encloses_first, encloses_member}
-pub use Rattle.deck_problems.proofs.OneProblem.{member_cells, of_member}
-pub use Rattle.deck_problems.specs.{AreDecks, ConstantPairEncloses, ConstantPairFits, ConstantPairIsOne, EachMember, EnclosesSteps, HasConstantHeadFor}
+pub use Rattle.deck_problems.specs.{AreDecks, ConstantPairEncloses, ConstantPairFits, ConstantPairIsOne, EnclosesChoice, EnclosesChoices, HasConstantHeadFor}
 pub use Rattle.deck_problems.specs.{IsBefore, IsConstantPairFor, IsProblemFor, ProblemEncloses, ProblemFits, StartHeadsEnclose, StartHeadsFit, digits_of}
 pub use Rattle.deck_problems.specs.declared.decks.Decks.{Decks}
-pub use Rattle.flow_equations.specs.{exact_step, heads_of, variable_heads}
-pub use Rattle.model_types.specs.{cell_count, constant_head, index_of, is_active, is_constant, is_variable, kind_of, start_head, times, variable_cells}
+pub use Rattle.deck_span.specs.{Choice, IsChoiceBetween, SolvesChoicesFrom, step_from}
+pub use Rattle.flow_equations.specs.{heads_of, variable_heads}
+pub use Rattle.model_types.specs.{cell_count, index_of, is_active, is_constant, is_variable, kind_of, times, variable_cells}
 pub use Rattle.model_types.specs.declared.limits.Limits.{Limits}
 pub use Rattle.model_types.specs.declared.limits.Limits.TheVariants.{Plain, Wide}
 pub use Rattle.model_types.specs.declared.model.FlowModel.{FlowModel}
@@ -27,9 +26,9 @@ pub use Rattle.problem_builder.proofs.Members.{In-Contains, constant_active, var
 pub use Rattle.problem_builder.proofs.Steps.{not_refused, same_problem, same_refusal}
 pub use Rattle.problem_builder.specs.{AreGridHeads, HeadsEnclose, IsActive, bound_at}
 pub use Rattle.step_chain.specs.{AreHeadsOf, AreSteps, EnclosesMove, EnclosesMoves, FailsBy, HasNoBarrier, HasNoHeads, HasNoPose, HeadsFit, HistoriesLieWithin}
-pub use Rattle.step_chain.specs.{IsBarrierBy, IsMove, IsNoCertificate, IsPosed, IsStepBy, LeadsBy, LeadsOrRests, LeadsWithout, LeavesRange, LieBetween}
-pub use Rattle.step_chain.specs.{LieWithin, LiesBetweenBy, LiesWithin, RefusalIsOne, SettlesNot, StepEncloses, StepExcludesRefusal, StepIsOne, WideKeepsSteps}
-pub use Rattle.step_chain.specs.{edges_by, two}
+pub use Rattle.step_chain.specs.{IsBarrierBy, IsMove, IsNoCertificate, IsPosed, IsStepBy, LeadsBy, LeadsOrRests, LeadsWithout, LeavesRange, LieWithin}
+pub use Rattle.step_chain.specs.{LiesBetweenBy, LiesWithin, RefusalIsOne, SettlesNot, StepEncloses, StepExcludesRefusal, StepIsOne, WideKeepsSteps, edges_by}
+pub use Rattle.step_chain.specs.{two}
 pub use Rattle.step_chain.specs.declared.solved.Solved.{Solved}
 pub use Rattle.step_problem.proofs.Pairs.{either_certifies, given_is}
 pub use Rattle.step_problem.specs.{AreInside, AreSettled, Edges, IsBarrier, IsCertificate, IsGiven, IsHead, IsPairOf, IsProblem, IsSettledPair, PairKind}

@@ -4,8 +4,8 @@ use Rattle.step_chain.proofs.Common.{EnclosesUncut, ClampedPairEncloses, Settled
 use Rattle.step_chain.proofs.Common.{IsSettledPair, ExactCell, EnclosesStep, SolvesStep, clamped_fits, inl, inr, arith, Bound, PairKind, IsPairOf}
 use Rattle.step_chain.proofs.Common.{IsCertificate, lower_at, upper_at, no_bound, ints, clamps, NoBound, AreInside, IsGiven, settled, certified}
 use Rattle.step_chain.proofs.Common.{either_certifies, given_is, clamped_edges, clamped_at, IsRangeRefusal, IsNoCertificate, Bool, SettledPairExists, TimeStep}
-use Rattle.step_chain.proofs.Common.{exact_step, variable_heads, Decks, EnclosesSteps, IsProblemFor, each_member, of_member, Solved, LieBetween, AreHeadsOf}
-use Rattle.step_chain.proofs.Common.{IsStepBy, EachMember, IsHeldBelow, IsCellFloor, IsCellCeiling, LeadsBy, LeadsOrRests, LeadsWithout}
+use Rattle.step_chain.proofs.Common.{step_from, variable_heads, Decks, EnclosesChoices, IsProblemFor, Solved, AreHeadsOf, IsStepBy, IsHeldBelow, IsCellFloor}
+use Rattle.step_chain.proofs.Common.{IsCellCeiling, LeadsBy, LeadsOrRests, LeadsWithout}
 use Rattle.barrier_vector.proofs.Floors.{encloses_all}
 use Rattle.barrier_vector.proofs.Cutting.{barrier_is_cut, cut_encloses, cut_holds}
 use Rattle.certificate_check.proofs.Cut.{excludes_refusal}
@@ -104,7 +104,7 @@ module _ (limits : Limits) (d : Decks) (s : ℕ) (at : TimeStep) (old : List Bou
 
 -- what a settling did to its settler, and the settled pair, which there is whether or not the settling reached it
 module _ (limits : Limits) (d : Decks) (s : ℕ) (at : TimeStep) (old : List Bound) (p : List Entries) (barrier : Edges) (fits : IsProblem p) (of_problem : IsBarrierBy limits p barrier)
-    (steps : EachMember d (EnclosesSteps s at old p)) (pair_exists : SettledPairExists) (pair_encloses : SettledPairEncloses) (clamped_encloses : ClampedPairEncloses) where
+    (steps : EnclosesChoices d s at old p) (pair_exists : SettledPairExists) (pair_encloses : SettledPairEncloses) (clamped_encloses : ClampedPairEncloses) where
   pub led_by : {S : Type 0} (leads : S → List Entries → Edges → Bool → S → Type 0) (ended : Bool) (before after : S) →
       leads before p (edges_by limits barrier) ended after → LeadsBy leads limits d at old p ended before after
   led_by leads ended before after led =
@@ -116,9 +116,7 @@ module _ (limits : Limits) (d : Decks) (s : ℕ) (at : TimeStep) (old : List Bou
         low = l;
         high = u;
         pair = pair;
-        encloses = each_member d (λ m. LieBetween limits m at old p l u) (λ m k.
-            λ heads n X move. solutions s (exact_step m at.period at.step heads) n (variable_heads (exact_step m at.period at.step heads) X)
-            (of_member d (EnclosesSteps s at old p) steps m k heads move.within) move.some move.solves.balances);
+        encloses = λ y k heads n X move. solutions s (step_from heads y.cells) n (variable_heads (step_from heads y.cells) X) (steps y k heads move.within) move.some move.solves.balances;
         led = led;
       }
 

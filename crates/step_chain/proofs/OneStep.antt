@@ -3,17 +3,18 @@ use Rattle.step_chain.proofs.Common.{◌≡◌, ℕ, suc, ◌<◌, inl, inr, Lis
 use Rattle.step_chain.proofs.Common.{Entries, Edges, lower_at, upper_at, SettledPairIsOne, AreSettled, IsBarrierBy, edges_by, CutBarrierIsOne, Limits, Plain}
 use Rattle.step_chain.proofs.Common.{TimeStep, cell_count, is_active, is_variable, Decks, IsBefore, ProblemFits, ConstantPairIsOne, ConstantPairFits, Solved}
 use Rattle.step_chain.proofs.Common.{bound_at, AreHeadsOf, StepIsOne, HeadsFit, WideKeepsSteps, IsPairOf, clamped_fits, ◌^◌, true, pos, ◌*ℤ◌, ◌≤ℤ◌, Fraction}
-use Rattle.step_chain.proofs.Common.{IsCertificate, AreWords, CertificateEncloses, FlowModel, is_constant, index_of, exact_step, variable_heads, IsActive}
-use Rattle.step_chain.proofs.Common.{ProblemEncloses, ConstantPairEncloses, EnclosesSteps, HasCellsOf, constant_same, each_member, of_member, member_cells}
-use Rattle.step_chain.proofs.Common.{IsMove, EnclosesMove, EnclosesMoves, StepEncloses, PairKind, settled, certified, EnclosesStep, CellEncloses, LiesBetween}
-use Rattle.step_chain.proofs.Common.{constant_head, EnclosesSolutions, EnclosesSigned, same_problem}
+use Rattle.step_chain.proofs.Common.{IsCertificate, AreWords, CertificateEncloses, is_constant, index_of, variable_heads, IsActive, map, variable_cells}
+use Rattle.step_chain.proofs.Common.{ProblemEncloses, ConstantPairEncloses, Choice, EnclosesChoice, step_from, IsMove, EnclosesMove, EnclosesMoves}
+use Rattle.step_chain.proofs.Common.{StepEncloses, PairKind, settled, certified, EnclosesStep, CellEncloses, LiesBetween, EnclosesSolutions, EnclosesSigned}
+use Rattle.step_chain.proofs.Common.{same_problem}
+use Rattle.deck_problems.proofs.OneProblem.{chosen_cells}
 use Rattle.step_chain.proofs.Limits.{cut_by, held_by, uncut_by}
 use Rattle.deck_problems.proofs.Counted.{problem_count}
-use Rattle.step_chain.proofs.Assembled.{active_constant, heads_in_range, index_below, count_is, number_is}
+use Rattle.step_chain.proofs.Assembled.{active_constant, heads_in_range, index_below, count_of, number_of}
 use Rattle.decimal_input.proofs.FloorLaws.{whole_signed}
 use Rattle.cell_balance.proofs.Zips.{AllZip-length}
 
--- From a step's settled pair to the enclosure of every solution of every member.
+-- From a step's settled pair to the enclosure of every solution of every choice.
 -- a pair of either kind has one bound in range for each cell
 pub pair_words : (kind : PairKind) (p : List Entries) (b : Edges) (bounds : List Bound) → IsPairOf p kind b bounds → AreWords p bounds
 pair_words settled p b bounds h = record { whole = h.whole; low = h.pair.low.heads; high = h.pair.high.heads }
@@ -29,67 +30,63 @@ record Holds (b : Bound) (d : ℕ) (x : ℤ) : Type 0 where
   low : (b.low *ℤ pos d) ≤ℤ (x *ℤ pos (10 ^ 9))
   high : (x *ℤ pos (10 ^ 9)) ≤ℤ (b.high *ℤ pos d)
 
--- for a member m of the decks
-module _ (d : Decks) (m : FlowModel) (s : ℕ) (at : TimeStep) (old : List Bound) (x : Solved)
-    (cells : HasCellsOf d.first m) (encloses : EnclosesSteps s at old x.problem m)
+-- for a choice y of the decks
+module _ (d : Decks) (s : ℕ) (at : TimeStep) (old : List Bound) (x : Solved) (y : Choice)
+    (cells : (before : ℕ → Fraction) → map (λ e. e.id) (step_from before y.cells) ≡ variable_cells d.first at.period)
+    (encloses : EnclosesChoice d.first s old x.problem y)
     (variable : (c : ℕ) → c < cell_count d.first.grid → is_variable d.first at.period c ≡ true → bound_at x.heads c ≡ bound_at x.bounds (index_of d.first at.period c))
-    (constant : (c : ℕ) → c < cell_count d.first.grid → is_constant d.first at.period c ≡ true → EnclosesSigned (lower_at x.heads c) (upper_at x.heads c) 9 (constant_head m at.period at.step c))
+    (constant : (c : ℕ) → c < cell_count d.first.grid → is_constant d.first at.period c ≡ true → EnclosesSigned (lower_at x.heads c) (upper_at x.heads c) 9 (y.heads c))
     (solutions : EnclosesSolutions x.problem (lower_at x.bounds) (upper_at x.bounds)) where
-  below : (c : ℕ) → c < cell_count m.grid → c < cell_count d.first.grid
-  below c lt = subst (λ (n : ℕ). c < n) cells.count lt
-
-  module _ (before : ℕ → Fraction) (n : ℕ) (X : ℕ → ℤ) (move : IsMove m at old before n X) where
-    step : EnclosesStep s x.problem (exact_step m at.period at.step before)
+  module _ (before : ℕ → Fraction) (n : ℕ) (X : ℕ → ℤ) (move : IsMove d.first at y old before n X) where
+    step : EnclosesStep s x.problem (step_from before y.cells)
     step = encloses before move.within
 
-    between : LiesBetween (length x.problem) n (variable_heads (exact_step m at.period at.step before) X) (lower_at x.bounds) (upper_at x.bounds)
-    between = solutions s (exact_step m at.period at.step before) n (variable_heads (exact_step m at.period at.step before) X) step move.some move.solves.balances
+    between : LiesBetween (length x.problem) n (variable_heads (step_from before y.cells) X) (lower_at x.bounds) (upper_at x.bounds)
+    between = solutions s (step_from before y.cells) n (variable_heads (step_from before y.cells) X) step move.some move.solves.balances
 
-    variable_holds : (c : ℕ) → c < cell_count m.grid → is_variable m at.period c ≡ true → Holds (bound_at x.heads c) n (X c)
+    variable_holds : (c : ℕ) → c < cell_count d.first.grid → is_variable d.first at.period c ≡ true → Holds (bound_at x.heads c) n (X c)
     variable_holds c lt v =
-        let k : ℕ = index_of m at.period c in
+        let k : ℕ = index_of d.first at.period c in
         let inside : k < length x.problem = omega (
           arith,
-          AllZip-length (CellEncloses s) x.problem (exact_step m at.period at.step before) step.cells,
-          count_is m at.period at.step before,
-          index_below m at.period c v lt,
+          AllZip-length (CellEncloses s) x.problem (step_from before y.cells) step.cells,
+          count_of d.first at.period (step_from before y.cells) (cells before),
+          index_below d.first at.period c v lt,
         ) in
-        let here : bound_at x.heads c ≡ bound_at x.bounds k = variable c (below c lt) (sym (cells.variable at.period c) ∙ v) ∙ ap (bound_at x.bounds) (sym (cells.index at.period c)) in
         let P : ℕ → Type 0 = λ i. Holds (bound_at x.bounds k) n (X i) in
         let Q : Bound → Type 0 = λ b. Holds b n (X c) in
-        subst Q (sym here) (subst P (number_is m at.period at.step c before v lt) (record { low = between.low k inside; high = between.high k inside }))
+        subst Q (sym (variable c lt v))
+        (subst P (number_of d.first at.period c (step_from before y.cells) (cells before) v lt) (record { low = between.low k inside; high = between.high k inside }))
 
-    constant_holds : (c : ℕ) → c < cell_count m.grid → is_constant m at.period c ≡ true → Holds (bound_at x.heads c) n (X c)
+    constant_holds : (c : ℕ) → c < cell_count d.first.grid → is_constant d.first at.period c ≡ true → Holds (bound_at x.heads c) n (X c)
     constant_holds c lt e =
-        let here = constant c (below c lt) (sym (constant_same d.first m cells at.period c) ∙ e) in
-        let b = whole_signed (lower_at x.heads c) (upper_at x.heads c) 9 n (constant_head m at.period at.step c) (X c) here (move.solves.constant c lt e) in
+        let b = whole_signed (lower_at x.heads c) (upper_at x.heads c) 9 n (y.heads c) (X c) (constant c lt e) (move.solves.constant c lt e) in
         record { low = b.lower; high = b.upper }
 
-    active_holds : (c : ℕ) → IsActive m c → Holds (bound_at x.heads c) n (X c)
-    active_holds c a = elim (cases_Bool (is_variable m at.period c)) [
+    active_holds : (c : ℕ) → IsActive d.first c → Holds (bound_at x.heads c) n (X c)
+    active_holds c a = elim (cases_Bool (is_variable d.first at.period c)) [
       | inl v ↦ variable_holds c a.within v
-      | inr v ↦ constant_holds c a.within (active_constant m at.period c a.active v)
+      | inr v ↦ constant_holds c a.within (active_constant d.first at.period c a.active v)
     ]
 
-    moved : EnclosesMove m s at x before n X
+    moved : EnclosesMove d.first s at y x before n X
     moved = record {
       step = step;
       variables = between;
       heads = record { low = λ c a. (active_holds c a).low; high = λ c a. (active_holds c a).high };
     }
 
-  pub follows : EnclosesMoves m s at old x
+  pub follows : EnclosesMoves d.first s at y old x
   follows before n X move = moved before n X move
 
 pub steps_enclose : ProblemFits → ProblemEncloses → ConstantPairEncloses → CertificateEncloses → StepEncloses
 steps_enclose problem_fits problem_encloses pair_encloses certificate_encloses limits d s at old kind x b h =
     let fits = problem_fits d s at old x.problem b h.posed.problem in
     let solutions = between_solutions certificate_encloses limits kind x.problem h.barrier x.bounds h.pair h.certificate fits h.posed.barrier in
-    each_member d (λ m. EnclosesMoves m s at old x) (λ m k.
-    follows d m s at old x (member_cells d m k) (of_member d (EnclosesSteps s at old x.problem) (problem_encloses d s at old x.problem b h.posed.problem) m k) h.heads.variable
-    (λ c lt e. of_member d (λ (f : FlowModel). EnclosesSigned (lower_at x.heads c) (upper_at x.heads c) 9 (constant_head f at.period at.step c))
-    (pair_encloses d at c (lower_at x.heads c) (upper_at x.heads c) (record { decks = b.decks; time = b.time; within = lt; constant = e }) (h.heads.constant c lt e)) m k)
-    solutions)
+    λ y k.
+    follows d s at old x y (chosen_cells d at y k) (problem_encloses d s at old x.problem b h.posed.problem y k) h.heads.variable
+    (λ c lt e. pair_encloses d at c (lower_at x.heads c) (upper_at x.heads c) (record { decks = b.decks; time = b.time; within = lt; constant = e }) (h.heads.constant c lt e) y k)
+    solutions
 
 pub same_bounds : (xs ys : List Bound) → length xs ≡ length ys → ((c : ℕ) → c < length xs → bound_at xs c ≡ bound_at ys c) → xs ≡ ys
 same_bounds [] [] whole same = refl

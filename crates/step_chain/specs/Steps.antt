@@ -9,13 +9,14 @@ use Rattle.model_types.specs.declared.limits.Limits.{Limits}
 use Rattle.model_types.specs.declared.limits.Limits.TheVariants.{Plain, Wide}
 use Rattle.model_types.specs.declared.time_steps.TimeStep.{TimeStep}
 use Rattle.deck_problems.specs.declared.decks.Decks.{Decks}
-use Rattle.deck_problems.specs.{IsProblemFor, HasNoProblemFor, AreDecks, AreStartHeadsFor, IsConstantPairFor, EachMember, IsBefore}
+use Rattle.deck_problems.specs.{IsProblemFor, HasNoProblemFor, AreDecks, AreStartHeadsFor, IsConstantPairFor, EachChoice, IsBefore}
 use Rattle.step_chain.specs.declared.solved.Solved.{Solved}
 use Rattle.step_chain.specs.Enclosing.{IsBarrierBy, HasNoBarrier, edges_by, LiesWithin, EnclosesMoves}
 use Rattle.model_types.specs.declared.model.FlowModel.{FlowModel}
 use Rattle.model_types.specs.{times, cell_count, is_active, is_variable, is_constant, index_of}
 use Rattle.problem_builder.specs.{AreGridHeads, bound_at}
-use Rattle.deck_span.specs.{SolvesBetween}
+use Rattle.decimal_input.specs.{Fraction}
+use Rattle.deck_span.specs.{AreChoices, Choice, SolvesChoices}
 
 -- The heads of all cells of the grid at the end of a step, from those of its variable cells.
 -- One bound for each cell of the grid, by cell number: a variable cell has that of its index, a constant-head cell
@@ -117,11 +118,11 @@ HeadsFit =
     (limits : Limits) (d : Decks) (s : ℕ) (at : TimeStep) (old : List Bound) (kind : PairKind) (x : Solved) → IsBefore d at old →
     IsStepBy limits d s at old kind x → AreGridHeads d.first x.heads
 
--- from all exact heads within the old ones, every solution of each member lies within the heads of the step
+-- from all exact heads within the old ones, every solution of each choice lies within the heads of the step
 abbrev pub StepEncloses : Type 0
 StepEncloses =
     (limits : Limits) (d : Decks) (s : ℕ) (at : TimeStep) (old : List Bound) (kind : PairKind) (x : Solved) → IsBefore d at old →
-    IsStepBy limits d s at old kind x → EachMember d (λ m. EnclosesMoves m s at old x)
+    IsStepBy limits d s at old kind x → EachChoice d at (λ y. EnclosesMoves d.first s at y old x)
 
 -- a step by plain limits is one by wide limits
 abbrev pub WideKeepsSteps : Type 0
@@ -129,8 +130,8 @@ WideKeepsSteps =
     (d : Decks) (s : ℕ) (at : TimeStep) (old : List Bound) (kind : PairKind) (x : Solved) →
     IsStepBy Plain d s at old kind x → IsStepBy Wide d s at old kind x
 
--- every history between the two, whose stresses are chosen anew at each step, lies within the heads of all steps
+-- every history of choices between the two lies within the heads of all steps
 abbrev pub HistoriesLieWithin : Type 0
 HistoriesLieWithin =
     (limits : Limits) (a b : FlowModel) (s : ℕ) (kind : PairKind) (xs : List Solved) → AreAllSteps limits a b s kind xs →
-    (d : ℕ) (Xs : List (ℕ → ℤ)) → SolvesBetween a b d Xs → LieWithin a d xs Xs
+    (start : ℕ → Fraction) (ys : List Choice) → AreChoices a b start ys → (d : ℕ) (Xs : List (ℕ → ℤ)) → SolvesChoices a start ys d Xs → LieWithin a d xs Xs

@@ -55,7 +55,7 @@ pub fn heads_fit()
     constant_pairs();
 }
 
-/// From all exact heads within the old ones, every solution of each member lies within the heads of a step.
+/// From all exact heads within the old ones, every solution of each choice lies within the heads of a step.
 pub fn steps_enclose()
     ensures { StepEncloses }
 {

@@ -3,7 +3,7 @@ ghost use Rattle.std.specs.Prelude.{◌≡◌, ◌≤◌, ℕ, Contains, IfOk, I
 ghost use Rattle.cell_relax.specs.{AreWords};
 ghost use Rattle.model_types.specs.{times, HasSize};
 ghost use Rattle.problem_builder.specs.{AreGridHeads, IsActive, ArePeriodTables, bound_at, IsCellNamed};
-ghost use Rattle.deck_problems.specs.{AreDecks, EachMember, AreDeckTables, digits_of, AreConstantHeadsFor};
+ghost use Rattle.deck_problems.specs.{AreDecks, EachChoice, AreDeckTables, digits_of, AreConstantHeadsFor};
 ghost use Rattle.step_chain.specs.{IsStepBy, AreHeadsOf, FailsBy, LeadsBy, LeadsOrRests, EnclosesMoves};
 
 use crate::laws::{heads_fit, steps_enclose};
@@ -45,9 +45,9 @@ pub fn next_step_with<S: Settler>(
     ensures words { IfOk result (λ r. AreWords r.problem r.bounds) }
     ensures heads { IfOk result (λ r. AreGridHeads decks.now.first r.heads) }
     ensures named { IfOk result (λ r. (c : ℕ) → IsCellNamed r.problem c → IsActive decks.now.first c) }
-    // From all exact heads within the old ones, every solution of the exact step of each member lies within the new ones.
-    ensures encloses { IfOk result (λ x. EachMember decks.now (λ m. EnclosesMoves m (digits_of tables.old.first) at old.now x)) }
-    // Whatever the settler did, every solution of the step of each member lies between the settled pair of the problem that it was given.
+    // From all exact heads within the old ones, every solution of each choice of the step lies within the new ones.
+    ensures encloses { IfOk result (λ x. EachChoice decks.now at (λ y. EnclosesMoves decks.now.first (digits_of tables.old.first) at y old.now x)) }
+    // Whatever the settler did, every solution of each choice of the step lies between the settled pair of the problem that it was given.
     ensures leads { MatchResult result
         (λ r. LeadsBy S.leads limits decks.now at old.now r.problem true settler.old settler.new)
         (λ _. LeadsOrRests S.leads limits decks.now (digits_of tables.old.first) at old.now settler.old settler.new) }
@@ -98,7 +98,7 @@ pub fn next_step<S: Settler>(
     ensures words { IfOk result (λ r. AreWords r.problem r.bounds) }
     ensures heads { IfOk result (λ r. AreGridHeads decks.now.first r.heads) }
     ensures named { IfOk result (λ r. (c : ℕ) → IsCellNamed r.problem c → IsActive decks.now.first c) }
-    ensures encloses { IfOk result (λ x. EachMember decks.now (λ m. EnclosesMoves m s at old.now x)) }
+    ensures encloses { IfOk result (λ x. EachChoice decks.now at (λ y. EnclosesMoves decks.now.first s at y old.now x)) }
     ensures leads { MatchResult result
         (λ r. LeadsBy S.leads limits decks.now at old.now r.problem true settler.old settler.new)
         (λ _. LeadsOrRests S.leads limits decks.now s at old.now settler.old settler.new) }

@@ -1,5 +1,5 @@
-use Rattle.check_run.proofs.Common.{◌∙◌, ap, ListedStep, ℕ, ◌<◌, ◌≤◌, arith, length, refl, subst, sym, List, option_map, Bound, AreGridHeads, HeadsEnclose}
-use Rattle.check_run.proofs.Common.{start_head, EachMember, step_in, digits_of, AreDeckTables, AreStartHeadsFor, IfOk-weaker}
+use Rattle.check_run.proofs.Common.{◌∙◌, ap, ListedStep, ℕ, ◌<◌, ◌≤◌, arith, length, refl, subst, sym, List, option_map, Bound, AreGridHeads, EnclosesStarts}
+use Rattle.check_run.proofs.Common.{step_in, digits_of, AreDeckTables, AreStartHeadsFor, IfOk-weaker}
 use Rattle.check_run.proofs.Checking.{at_first, ends_certified, ends_enclosed, ends_history, flows_here, goes_here, listed_at, not_certified, step_there}
 use Rattle.check_run.proofs.Checking.{stops_here}
 use Rattle.check_run.proofs.RunText.{grid_of}
@@ -10,7 +10,7 @@ loop-index-init c =
     let decks = c.args.decks.now in
     let B : List Bound → Type 0 = AreStartHeadsFor decks in
     let G : List Bound → Type 0 = AreGridHeads decks.first in
-    let E : List Bound → Type 0 = λ v. EachMember decks (λ m. HeadsEnclose m v (start_head m)) in
+    let E : List Bound → Type 0 = EnclosesStarts decks in
     let lent = sym c.as_slice-start.ensures in
     record {
       digits = refl;

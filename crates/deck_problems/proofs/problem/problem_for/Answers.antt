@@ -1,6 +1,6 @@
 use Rattle.deck_problems.specs.{digits_of, IsBefore}
 use Rattle.std.proofs.lemmas.Result.{err_from_is_err_and}
-use Rattle.deck_problems.proofs.Enclosing.{second_cells, problem_encloses}
+use Rattle.deck_problems.proofs.Enclosing.{second_cells, encloses_alone, problem_encloses}
 use Rattle.deck_problems.proofs.HullFor.{hull_cells, constants_alone, second_is, constants_for, problem_of_hull, second_refused, hull_refused}
 use Rattle.deck_problems.proofs.OneProblem.{time_of_member}
 use Rattle.deck_problems.proofs.problem.problem_for.Goals as goal
@@ -8,6 +8,10 @@ use Rattle.deck_problems.proofs.problem.problem_for.Goals as goal
 pub returns-in_default-clause-constant : goal.returns-in_default-clause-constant
 returns-in_default-clause-constant c = constants_alone c.args.decks.now.first c.args.decks.now.second c.args.at c.in_ok-first.first.constant_heads
     c.in_default.not-Some c.in_ok-first.ensures.problem.constant
+
+pub returns-in_default-clause-encloses : goal.returns-in_default-clause-encloses
+returns-in_default-clause-encloses c = encloses_alone c.args.decks.now.first c.args.decks.now.second (digits_of c.args.tables.now.first) c.args.at c.args.old.now
+    c.in_ok-first.first.problem c.in_default.not-Some c.requires.decks.first c.requires.time c.in_ok-first.ensures.problem.problem
 
 pub second_problem-requires-clause-time : goal.second_problem-requires-clause-time
 second_problem-requires-clause-time c =

@@ -1,6 +1,5 @@
 use Rattle.std.specs.List.{each_same}
-use Rattle.deck_span.proofs.Finding.{zip_same}
-use Rattle.deck_span.proofs.NumberOrders.{turned_to}
+use Rattle.deck_span.proofs.Finding.{turned_to, zip_same}
 use Rattle.deck_span.proofs.once.are_integers_same.Goals as goal
 
 pub returns : goal.returns
