@@ -21,7 +21,7 @@ pub use Rattle.command_line.specs.declared.order.WordsFault.{WordsFault}
 pub use Rattle.deck_problems.proofs.OneProblem.{one_valid}
 pub use Rattle.deck_problems.specs.{AreDecks, IsSecond, one_deck}
 pub use Rattle.deck_problems.specs.declared.decks.Decks.{Decks}
-pub use Rattle.deck_span.specs.{AreAlike, DifferenceIsOne, IsFirstDifference, SolvesBetweenFrom}
+pub use Rattle.deck_span.specs.{AreAlike, Choice, DifferenceIsOne, IsFirstDifference, step_from}
 pub use Rattle.deck_span.specs.declared.difference.Difference.{Difference}
 pub use Rattle.engine.specs.{After, Answers, AnswersBeside, AreDecksAs, AreDecksOf, AreItsSteps, ArePairOf, ArePutInTurn, AreTasks, AreText, AreViews}
 pub use Rattle.engine.specs.{AreWatched, Case, Checking, ChecksWritten, Comparing, CutOf, DeckAndListingAreStated, DeckHasSameListing, DecksAndListingAreStated}
@@ -50,7 +50,7 @@ pub use Rattle.listing_io.specs.declared.listing.ListedStep.{ListedStep}
 pub use Rattle.listing_run.proofs.Lines.{ends_by}
 pub use Rattle.listing_run.proofs.Pieces.{alone, beside_by, cut_listing_is_beside, line_not_ok, put_not_ok, wanting_not_ok}
 pub use Rattle.listing_run.proofs.Settled.{IsWhole, is_whole, whole_listing}
-pub use Rattle.listing_run.specs.{AllSteps, BoundAll, BoundBetween, Bounds, HasLargeFlow, IsCutListing, IsListing, IsListingBeside, IsSettledBy, IsStep, IsTask}
+pub use Rattle.listing_run.specs.{AllSteps, BoundAll, BoundChoices, Bounds, HasLargeFlow, IsCutListing, IsListing, IsListingBeside, IsSettledBy, IsStep, IsTask}
 pub use Rattle.listing_run.specs.{ListingExcludesRefusal, ListingIsOne, PairEncloses, Reaches, ReachesFirst, RefusalIsOne, RestsOrSettles, Steps, begun}
 pub use Rattle.listing_run.specs.{deck_task, faces_of, last_line, left, listed, listing, no_budget, no_heads, no_zones, rests, settled, status_of}
 pub use Rattle.listing_run.specs.declared.solving.Step.{Step}

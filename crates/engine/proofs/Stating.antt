@@ -1,14 +1,15 @@
 -- What stands between the bytes before a deck and those after its listing, and that a deck has the listing of the files that it was written from.
 use Rattle.engine.proofs.Common.{[], ◌≡◌, ◌≤◌, ◌++◌, ℕ, ℤ, Bool, List, ◌∷◌, Option, None, Some, Result, Ok, ap, sym, subst, ◌∙◌, append_assoc, All, length}
-use Rattle.engine.proofs.Common.{concat, FileSet, Refusal, FlowModel, Limits, Decks, Text, Step, TimeStep, Task, AllSteps, end_line, listing, one_deck, task_of}
-use Rattle.engine.proofs.Common.{deck_reads, deck_text, most_bytes, reads, times, two, with_limit, zones_read, start_head, Appends, File, deck_name, deck_files}
-use Rattle.engine.proofs.Common.{SolvesBetweenFrom, checked_task, BoundAll, BoundBetween, Bounds, deck_task, DeckAndListingAreStated, DecksAndListingAreStated}
+use Rattle.engine.proofs.Common.{concat, FileSet, Refusal, FlowModel, Limits, Decks, Text, Step, Task, AllSteps, end_line, listing, one_deck, task_of}
+use Rattle.engine.proofs.Common.{deck_reads, deck_text, most_bytes, reads, two, with_limit, zones_read, start_head, Appends, File, deck_name, deck_files}
+use Rattle.engine.proofs.Common.{checked_task, BoundAll, BoundChoices, Bounds, deck_task, DeckAndListingAreStated, DecksAndListingAreStated}
 use Rattle.engine.proofs.Common.{SameModelHasSameListing, DeckHasSameListing, SameDeckHasSameModel, ListingOrder, option_map, refl, zoned_text, SpanStated}
-use Rattle.engine.proofs.Common.{Stated}
+use Rattle.engine.proofs.Common.{Stated, Choice, step_from}
 use Rattle.engine.specs.Headline.{Headline}
 use Rattle.engine.specs.SpanHeadline.{SpanHeadline}
 use Rattle.decimal_input.specs.{Fraction}
-use Rattle.flow_equations.specs.{heads_of}
+use Rattle.flow_equations.specs.{exact_step, heads_of}
+use Rattle.cell_balance.specs.{ExactCell}
 use Rattle.engine.proofs.Written.{some_ok}
 use Rattle.listing_run.specs.declared.text.ListingEnd.TheVariants as ends
 
@@ -27,26 +28,21 @@ module _ (limits : Limits) (ds : Decks) (s : ℕ) (zones : Option (List ℕ)) (r
   abbrev task : Task
   task = deck_task limits ds s zones rounds quick
 
-  step_stated : (m : FlowModel) (v : Step) (before : ℕ → Fraction) (d : ℕ) (X : ℕ → ℤ) → Bounds task m v before d X → Bounds (checked_task ds s zones) m v before d X
-  step_stated m v before d X b = record { heads = b.heads; budget = b.budget; zones = b.zones }
+  step_stated : (m : FlowModel) (v : Step) (e : List ExactCell) (d : ℕ) (X : ℕ → ℤ) → Bounds task m v e d X → Bounds (checked_task ds s zones) m v e d X
+  step_stated m v e d X b = record { heads = b.heads; budget = b.budget; zones = b.zones }
 
   bounds_stated : (m : FlowModel) (d : ℕ) (before : ℕ → Fraction) (values : List Step) (Xs : List (ℕ → ℤ)) → BoundAll task m d before values Xs →
       BoundAll (checked_task ds s zones) m d before values Xs
   bounds_stated m d before [] [] b = tt
   bounds_stated m d before [] (X ∷ Xs) b = absurd b
   bounds_stated m d before (v ∷ values) [] b = absurd b
-  bounds_stated m d before (v ∷ values) (X ∷ Xs) (b, more) = (step_stated m v before d X b, bounds_stated m d (heads_of d X) values Xs more)
+  bounds_stated m d before (v ∷ values) (X ∷ Xs) (b, more) = (step_stated m v (exact_step m v.at.period v.at.step before) d X b, bounds_stated m d (heads_of d X) values Xs more)
 
-  between_stated : (a b : FlowModel) (d : ℕ) (before : ℕ → Fraction) (ats : List TimeStep) (values : List Step) (Xs : List (ℕ → ℤ)) (h : SolvesBetweenFrom a b d before ats Xs) →
-      BoundBetween task a b d before ats values Xs h → BoundBetween (checked_task ds s zones) a b d before ats values Xs h
-  between_stated a b d before [] [] [] h c = tt
-  between_stated a b d before [] [] (X ∷ Xs) h c = absurd c
-  between_stated a b d before [] (v ∷ values) [] h c = absurd c
-  between_stated a b d before [] (v ∷ values) (X ∷ Xs) h c = absurd c
-  between_stated a b d before (at ∷ ats) [] [] h c = absurd c
-  between_stated a b d before (at ∷ ats) (v ∷ values) [] h c = absurd c
-  between_stated a b d before (at ∷ ats) [] (X ∷ Xs) h c = absurd c
-  between_stated a b d before (at ∷ ats) (v ∷ values) (X ∷ Xs) h (c, more) = (step_stated h.0.model v before d X c, between_stated a b d (heads_of d X) ats values Xs h.1 more)
+  choices_stated : (m : FlowModel) (d : ℕ) (before : ℕ → Fraction) (values : List Step) (xs : List Choice) (Xs : List (ℕ → ℤ)) →
+      BoundChoices task m d before values xs Xs → BoundChoices (checked_task ds s zones) m d before values xs Xs
+  choices_stated m d before [] [] [] c = tt
+  choices_stated m d before (v ∷ values) (x ∷ xs) (X ∷ Xs) (c, more) = (step_stated m v (step_from before x.cells) d X c, choices_stated m d (heads_of d X) values xs Xs more)
+  choices_stated m d before _ _ _ c = absurd c
 
 one_model : (r : Result FlowModel Refusal) (a b : FlowModel) → r ≡ Ok a → r ≡ Ok b → a ≡ b
 one_model r a b first second = cc
@@ -99,8 +95,8 @@ span_stated asked to files old mid last new h deck other =
       written = appended old mid new (zoned_text p.first h.zones) (zoned_text p.second h.zones ++ listed) deck (appended mid last new (zoned_text p.second h.zones) listed other h.written);
       at = h.at;
       pairs = h.pairs;
-      encloses = λ d history solves. between_stated asked.limits ds asked.digits h.zones asked.rounds asked.quick p.first p.second d (start_head solves.first)
-          (times p.first) h.values history solves.steps (h.encloses d history solves);
+      encloses = λ start xs are d history solves. choices_stated asked.limits ds asked.digits h.zones asked.rounds asked.quick p.first d start h.values xs history
+          (h.encloses start xs are d history solves);
       choices = h.choices;
     }
 

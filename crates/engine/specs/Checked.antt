@@ -28,8 +28,8 @@ verdict_status (Fails at place) = status.NotCertified at.period at.step place
 verdict_status (Refused at n) = status.NoBound at.period at.step n
 
 -- The check of this listing by these limits has this end and this line, by its verdict. A listing that is certified encloses every history
--- that solves its model, and there is exactly one; of two decks every history between them, and each choice of models between
--- has exactly one.
+-- that solves its model, and there is exactly one; of two decks every history of choices between them, and each choice has
+-- exactly one.
 pub record IsCheck (limits : Limits) (d : Decks) (s : ℕ) (listing : ZonedListing) (end : Status) (pieces : List Text) : Type 0 where
   pub verdict : ListingVerdict
   pub is : IsVerdict limits d s listing.zones listing.steps verdict

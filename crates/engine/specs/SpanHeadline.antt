@@ -6,15 +6,16 @@ use Rattle.command_line.specs.{ListingOrder, AskedCheck}
 use Rattle.outside.specs.{FileSet}
 use Rattle.model_types.specs.declared.limits.Limits.{Limits}
 use Rattle.model_types.specs.declared.model.FlowModel.{FlowModel}
-use Rattle.model_types.specs.{start_head, times, IsModel}
+use Rattle.model_types.specs.{times, IsModel}
 use Rattle.model_reader.specs.{reads}
-use Rattle.deck_span.specs.{AreAlike, SolvesBetween}
+use Rattle.decimal_input.specs.{Fraction}
+use Rattle.deck_span.specs.{AreAlike, AreChoices, Choice, SolvesChoices}
 use Rattle.step_chain.specs.{two}
 use Rattle.exact_histories.specs.{ChoicesHaveOne}
 use Rattle.listing_io.specs.declared.listing.ListedStep.{ListedStep}
 use Rattle.run_puts.specs.{Text, end_line}
 use Rattle.listing_run.specs.declared.solving.Step.{Step}
-use Rattle.listing_run.specs.{listing, BoundBetween}
+use Rattle.listing_run.specs.{listing, BoundChoices}
 use Rattle.check_run.specs.declared.verdict.ListingVerdict.TheVariants.{Certified as Holds}
 use Rattle.check_run.specs.{IsVerdict, checked_task, steps_of}
 use Rattle.engine.specs.Cases.{span_task_of, steps_read, zones_read}
@@ -33,8 +34,8 @@ pub record ArePairOf (limits : Limits) (files : FileSet) (name to : Text) : Type
   pub alike : AreAlike first second
 
 -- A run that was asked for so, over these files, that ended Ok, where a sink had the bytes `old` before it and `new` after it,
--- has written a listing of two decks; and every history of heads each step of which solves the manual's exact equations of
--- some model between the two decks, chosen anew at each step, lies, step by step and cell by cell, between its heads, with
+-- has written a listing of two decks; and every history of heads each step of which solves the manual's exact equations with numbers that
+-- lie between those of the two decks, chosen anew at each step, lies, step by step and cell by cell, between its heads, with
 -- each of its budget flows between its terms, and each of its flows between two zones of a zone file between its two numbers.
 -- That it is the one listing which the files define stands in `OneSpan`.
 pub record SpanHeadline (asked : ListingOrder) (to : Text) (files : FileSet) (old new : Option (List ℕ)) : Type 0 where
@@ -48,11 +49,11 @@ pub record SpanHeadline (asked : ListingOrder) (to : Text) (files : FileSet) (ol
   -- The block of each time step, which the two decks share, stands under its own line STEP, and lists the flow between each two zones that share a face.
   pub at : map (λ v. v.at) values ≡ times decks.first
   pub pairs : All (ListsPairs decks.first zones) values
-  -- Every history between the two decks over any denominator d lies between them.
-  pub encloses : (d : ℕ) (history : List (ℕ → ℤ)) (h : SolvesBetween decks.first decks.second d history) →
-      BoundBetween (span_task_of asked decks.first decks.second zones) decks.first decks.second d (start_head h.first)
-      (times decks.first) values history h.steps
-  -- And each choice of models between has one: a history solves it, and any two are the same heads at all active cells, step by step.
+  -- Every history of choices between the two decks over any denominator d lies between them.
+  pub encloses : (start : ℕ → Fraction) (xs : List Choice) → AreChoices decks.first decks.second start xs →
+      (d : ℕ) (history : List (ℕ → ℤ)) → SolvesChoices decks.first start xs d history →
+      BoundChoices (span_task_of asked decks.first decks.second zones) decks.first d start values xs history
+  -- And each choice has one: a history solves it, and any two are the same heads at all active cells, step by step.
   pub choices : ChoicesHaveOne decks.first decks.second
 
 -- Such a run has written a listing each step of which has a pair that is a certificate; without --quick the one that the files define.
@@ -71,11 +72,11 @@ pub record SpanCertified (asked : AskedCheck) (to : Text) (files : FileSet) (old
   pub listed : steps_read true files asked decks.first zones ≡ Ok steps
   -- The line CERTIFIED was appended, and nothing else.
   pub written : Appends old new certified_line
-  -- Every history between the two decks over any denominator d lies within what it lists.
-  pub encloses : (d : ℕ) (history : List (ℕ → ℤ)) (h : SolvesBetween decks.first decks.second d history) →
-      BoundBetween (checked_task (two decks.first decks.second) asked.digits zones) decks.first decks.second d (start_head h.first) (times decks.first)
-      (steps_of (times decks.first) steps) history h.steps
-  -- And each choice of models between has one.
+  -- Every history of choices between the two decks over any denominator d lies within what it lists.
+  pub encloses : (start : ℕ → Fraction) (xs : List Choice) → AreChoices decks.first decks.second start xs →
+      (d : ℕ) (history : List (ℕ → ℤ)) → SolvesChoices decks.first start xs d history →
+      BoundChoices (checked_task (two decks.first decks.second) asked.digits zones) decks.first d start (steps_of (times decks.first) steps) xs history
+  -- And each choice has one.
   pub choices : ChoicesHaveOne decks.first decks.second
 
 -- Such a check found that each step of the named listing is certified.

@@ -12,11 +12,12 @@ use Rattle.array_text.specs.{IsShort}
 use Rattle.model_text.specs.{deck_name, deck_files, zoned_text}
 use Rattle.flow_equations.specs.{Solves}
 use Rattle.deck_problems.specs.{one_deck}
-use Rattle.deck_span.specs.{SolvesBetween}
+use Rattle.decimal_input.specs.{Fraction}
+use Rattle.deck_span.specs.{AreChoices, Choice, SolvesChoices}
 use Rattle.step_chain.specs.{two}
 use Rattle.run_puts.specs.{Text, end_line}
 use Rattle.listing_run.specs.declared.solving.Step.{Step}
-use Rattle.listing_run.specs.{listing, BoundAll, BoundBetween}
+use Rattle.listing_run.specs.{listing, BoundAll, BoundChoices}
 use Rattle.check_run.specs.{checked_task}
 use Rattle.exact_histories.specs.{HasHistory, AreSame, ChoicesHaveOne}
 use Rattle.engine.specs.Decks.{OneDeck}
@@ -48,8 +49,8 @@ pub record Stated (old new : Option (List ℕ)) : Type 0 where
   pub solvable : HasHistory model
   pub one : (d e : ℕ) (history other : List (ℕ → ℤ)) → Solves model d history → Solves model e other → AreSame model d e history other
 
--- The same of the texts of two decks, and then a listing of all models between them: every history of heads each step of which solves
--- the manual's exact equations of some model between the two decks, chosen anew at each step, lies within it.
+-- The same of the texts of two decks, and then a listing of all that lies between them: every history of heads each step of which solves
+-- the manual's exact equations with numbers that lie between those of the two decks, chosen anew at each step, lies within it.
 pub record SpanStated (old new : Option (List ℕ)) : Type 0 where
   -- The models are valid.
   pub first : FlowModel
@@ -66,10 +67,11 @@ pub record SpanStated (old new : Option (List ℕ)) : Type 0 where
   -- The block of each time step stands under its own line STEP, and lists the flow between each two zones that share a face.
   pub at : map (λ v. v.at) values ≡ times first
   pub pairs : All (ListsPairs first zones) values
-  -- Every history between the two decks over any denominator d lies between them.
-  pub encloses : (d : ℕ) (history : List (ℕ → ℤ)) (h : SolvesBetween first second d history) →
-      BoundBetween (checked_task (two first second) digits zones) first second d (start_head h.first) (times first) values history h.steps
-  -- And each choice of models between has one: a history solves it, and any two are the same heads at all active cells, step by step.
+  -- Every history of choices between the two decks over any denominator d lies between them.
+  pub encloses : (start : ℕ → Fraction) (xs : List Choice) → AreChoices first second start xs →
+      (d : ℕ) (history : List (ℕ → ℤ)) → SolvesChoices first start xs d history →
+      BoundChoices (checked_task (two first second) digits zones) first d start values xs history
+  -- And each choice has one: a history solves it, and any two are the same heads at all active cells, step by step.
   pub choices : ChoicesHaveOne first second
 
 -- Laws.
