@@ -31,7 +31,8 @@ CALLED = {
     "exact_flow": ("zone_flows", "Faces"), "Solves": ("flow_equations", "Histories"),
     "reads": ("model_reader", "Model"), "HeadlineOf": ("engine", "Serving"),
     "Stated": ("engine", "Stated"), "SpanStated": ("engine", "Stated"),
-    "SolvesBetween": ("deck_span", "Models"),
+    "AreChoices": ("deck_span", "Choices"), "SolvesChoices": ("deck_span", "Choices"),
+    "own_choice": ("deck_span", "Laws"),
 }  # fmt: skip
 
 

@@ -155,10 +155,11 @@ class Deck:
         return "\n".join(lines) + "\n"
 
     def given(self) -> str:
-        lines, more = ["9"], self.draw.choice([0, 1, 2])
+        """Those of two decks may cross: what one starts higher by, the other may end higher by."""
+        lines, (early, late) = ["9"], self.draw.choice([(0, 0), (1, 1), (2, 0), (0, 2)])
         for heads in self.shape.given:
             lines.append(str(len(heads)))
-            lines += [f"{place} {start + more} {end + more}" for place, (start, end) in heads.items()]
+            lines += [f"{place} {start + early} {end + late}" for place, (start, end) in heads.items()]
         return "\n".join(lines) + "\n"
 
     def sheet(self, words: list[str], is_idle: bool = False) -> str:

@@ -1,10 +1,10 @@
-"""Two decks of one shape: the promise of a run, of both texts with a listing, and of a check of all models between."""
+"""Two decks of one shape: the promise of a run, of both texts with a listing, and of a check of all that lies between."""
 from __future__ import annotations
 
 import tempfile
 from fractions import Fraction
 from random import Random
-from typing import Any, Optional
+from typing import Any, Callable, Optional
 
 from sample_decks import files_of
 
@@ -14,7 +14,7 @@ from .listed import Values, listed, moved_number, other_label, without_pair
 from .one_deck import LISTING, NAME, PLACES, WRITTEN, write_files
 from .random_deck import ZONES, Files
 from .solved import Fault, History, Solved, Step, active_cells, history_of, model_of, solve_step, zones_of
-from .values import TT, option, pair, record, some
+from .values import option, record, some
 
 SECOND = "b.nam"
 
@@ -91,34 +91,31 @@ class TwoDecks:
             return model_of(folder, WRITTEN)
 
     def take_samples(self, history: History) -> None:
-        """The models of the history stand in its proof: a pair for each step, of its model and of the later ones."""
+        """The history's choices: what each model that was drawn gives for its step."""
         grid, bench = self.first.v_grid, self.bench
         cells = range(grid.v_layers * grid.v_rows * grid.v_cols + 2)
-        bench.take(LiesWithin__c=cells, AreSameHeads__c=cells, IsModel__p=range(len(self.first.v_periods) + 2))
-        proof: Any = TT
-        for model in reversed(self.models):
-            proof = pair(record(model=model), proof)
-        by_time = dict(zip([(at.v_period, at.v_step) for at in bench.times(self.first)], self.models))
+        starts = [self.starting(model) for model in (self.start, self.second)]
         bench.take(
-            SolvesBetween__first=self.start,
-            SolvesBetweenAt__model=lambda a, b, at, old, d, heads: by_time[at.v_period, at.v_step],
-        )
-        choices = tuple(record(at=at, model=model) for at, model in zip(bench.times(self.first), self.models))
+            LiesWithin__c=cells, AreSameHeads__c=cells, IsModel__p=range(len(self.first.v_periods) + 2),
+            AreChoices__c=cells, IsChoiceBetween__old=tuple(starts),
+        )  # fmt: skip
+        choices = tuple(bench.own_choice(model, at) for at, model in zip(bench.times(self.first), self.models))
+        chosen = {"start": (starts[0],), "xs": (choices,), "d": (history.d,)}
         decks, zones = record(first=self.first, second=self.second), option(tuple(self.zones) or None)
         bench.take(ArePairOf__first=self.first, ArePairOf__second=self.second)
         for name in ("SpanHeadline", "SpanStated", "SpanCertified"):
-            bench.definitions.samples.update({
-                f"{name}.decks": decks, f"{name}.first": self.first, f"{name}.second": self.second,
-                f"{name}.zones": zones, f"{name}.digits": self.digits, f"{name}.d": (history.d,),
-                f"{name}.history": (history.vectors,), f"{name}.h": (record(first=self.start, steps=proof),),
-            })  # fmt: skip
-        under, vectors = (history.d,), (history.vectors,)
-        bench.take(
-            ChoicesHaveOne__first=(self.start,), ChoicesHaveOne__cs=(choices,), ChoicesHaveOne__d=under,
-            ChoicesHaveOne__e=under, ChoicesHaveOne__Xs=vectors, ChoicesHaveOne__Ys=vectors,
-        )  # fmt: skip
-        holds = bench.SolvesBetween(self.first, self.second, history.d, history.vectors)
-        bench.holds(f"SolvesBetween: {self.label}", holds)
+            given = {"decks": decks, "first": self.first, "second": self.second, "zones": zones, "digits": self.digits}
+            given |= chosen | {"history": (history.vectors,)}
+            bench.definitions.samples.update({f"{name}.{field}": value for field, value in given.items()})
+        of_choices = chosen | {"e": (history.d,), "Xs": (history.vectors,), "Ys": (history.vectors,)}
+        bench.take(**{f"ChoicesHaveOne__{field}": value for field, value in of_choices.items()})
+        are = bench.AreChoices(self.first, self.second, starts[0], choices)
+        bench.holds(f"AreChoices: {self.label}", are)
+        holds = bench.SolvesChoices(self.first, starts[0], choices, history.d, history.vectors)
+        bench.holds(f"SolvesChoices: {self.label}", holds)
+
+    def starting(self, model: Any) -> Callable[[int], Any]:
+        return lambda cell: self.bench.start_head(model, cell)
 
     def compare_listings(self, order: Any, task: Any, values: Values, history: History) -> None:
         bench, zones = self.bench, option(tuple(self.zones) or None)
