@@ -6,7 +6,7 @@ use multigrid::numbers::{clamp_long, greatest};
 pub const WHOLE: i64 = 1_048_576;
 
 // The number of turns at each cell that a trial may take, at least: heads that are settled or a little too low settle in fewer.
-const TURNS_OF_TRIAL: u64 = 12;
+const TURNS_OF_TRIAL: u64 = 16;
 
 // Most turns at each cell of a trial, where the room is wide.
 const MOST_TURNS_OF_TRIAL: u64 = 48;
