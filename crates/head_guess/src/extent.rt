@@ -2,7 +2,10 @@
 use crate::links::Links;
 use multigrid::numbers::{clamp_long, greatest};
 
-/// The whole room, as a share.
+/// The places of a share.
+pub const PLACES_OF_WHOLE: u32 = 20;
+
+/// The whole of a room or of a slope, as a share.
 pub const WHOLE: i64 = 1_048_576;
 
 // The number of turns at each cell that a trial may take, at least: heads that are settled or a little too low settle in fewer.

@@ -1,6 +1,6 @@
 // The guess of one side.
 use crate::linear::Linear;
-use crate::lower::{Lowest, lowest_below, lowest_from};
+use crate::lower::{Lowest, lowest_below, lowest_by_rests, lowest_from};
 use crate::newton::{Until, find_balanced};
 use crate::one_side::{OneSide, Step};
 use crate::raise::raise_within;
@@ -92,7 +92,10 @@ fn lowest_of(
     let units = greatest(room).unsigned_abs() >> 10;
     let visits = units.max(VISITS_OF_DESCENT).min(MOST_VISITS_OF_DESCENT);
     let mut work = Work::new(work.side, visits);
-    lowest_below(&mut work, balanced, room, share)
+    match lowest_below(&mut work, balanced, room, share)? {
+        None => lowest_by_rests(&mut work, balanced, kept),
+        lowest => Ok(lowest),
+    }
 }
 
 /// The guess of a side from heads where Newton's method starts, with a share of the room to try first, and that of the last step. The linear

@@ -1,6 +1,9 @@
 // From balanced heads down to the first settled ones.
 use crate::descend::descend;
-use crate::extent::Extent;
+use crate::extent::{Extent, WHOLE};
+use crate::linear::Linear;
+use crate::raise::raise_within;
+use crate::rest::leave_rest;
 use crate::search::{Settled, settled_below};
 use crate::shares::{settled_by_shares, visits_of_cycle};
 use crate::work::Work;
@@ -66,4 +69,50 @@ pub fn lowest_below(
         return Ok(None);
     };
     Ok(Some(lowest_after(work, balanced, &extent, settled)?))
+}
+
+// The share of slopes that is tried first, how much less each later one is, and how many are tried.
+const FIRST_REST: i64 = WHOLE / 4 * 3;
+
+const STEP_OF_RESTS: i64 = WHOLE / 8;
+
+const TRIALS_OF_RESTS: u32 = 8;
+
+// The rounds of Newton's method for each, and the turns at each cell in which such heads settle.
+const ROUNDS_OF_REST: u32 = 3;
+
+const TURNS_OF_REST: u64 = 48;
+
+// Heads at which this share of each slope is left as its balance, by a few rounds of Newton's method.
+fn rest_below(
+    work: &mut Work,
+    balanced: &[i64],
+    share: i64,
+    kept: &mut Option<Linear>,
+) -> Result<Vec<i64>, AllocError> {
+    let mut heads = leave_rest(work, balanced, share, kept)?;
+    for _ in 1..ROUNDS_OF_REST {
+        heads = leave_rest(work, heads.as_slice(), share, kept)?;
+    }
+    Ok(heads)
+}
+
+/// The first settled heads below balanced ones, where no share of the room settles. Bounds of a conductance differ by a unit, by which a very wide room
+/// changes flows by more than a slope. So Newton's method leads to heads with a share of each slope as balance. None where nothing settles.
+pub fn lowest_by_rests(
+    work: &mut Work,
+    balanced: &[i64],
+    kept: &mut Option<Linear>,
+) -> Result<Option<Lowest>, AllocError> {
+    let turns = TURNS_OF_REST.saturating_mul(work.side.len() as u64);
+    let mut share = FIRST_REST;
+    for _ in 0..TRIALS_OF_RESTS {
+        let mut heads = rest_below(work, balanced, share, kept)?;
+        if raise_within(work, &mut heads, None, turns)?.is_settled {
+            return Ok(Some(lowest_from(work, heads, share)?));
+        }
+        drop(heads);
+        share = share.saturating_sub(STEP_OF_RESTS);
+    }
+    Ok(None)
 }

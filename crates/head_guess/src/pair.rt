@@ -4,6 +4,7 @@ ghost use Rattle.cell_relax.specs.{AreWords};
 
 use crate::branch::head_on;
 use crate::eliminable::MANY_CELLS;
+use crate::extent::WHOLE;
 use crate::guess::bounds_of;
 use crate::linear::{FEW_CELLS, Linear};
 use crate::links::Links;
@@ -48,14 +49,14 @@ fn is_straight_to(
     })
 }
 
-// The heads at which slopes are left `times` times, from these.
+// The heads at which a share of each slope is left, from these.
 fn half_from(
     work: &mut Work,
     near: Vec<i64>,
-    times: i64,
+    share: i64,
     kept: &mut Option<Linear>,
 ) -> Result<HalfPair, AllocError> {
-    let lower = leave_rest(work, near.as_slice(), times, kept)?;
+    let lower = leave_rest(work, near.as_slice(), share, kept)?;
     Ok(HalfPair { near, lower })
 }
 
@@ -66,14 +67,14 @@ fn half_pair(
     kept: &mut Option<Linear>,
 ) -> Result<HalfPair, AllocError> {
     let near = find_balanced(work, Until::Straight, start, kept)?;
-    let half = half_from(work, near, 1, kept)?;
+    let half = half_from(work, near, WHOLE, kept)?;
     if is_straight_to(work.side, half.lower.as_slice(), kept)? {
         return Ok(half);
     }
     let HalfPair { near, lower } = half;
     drop(lower);
     let near = find_balanced(work, Until::Balanced, near, kept)?;
-    half_from(work, near, 1, kept)
+    half_from(work, near, WHOLE, kept)
 }
 
 // The upper side: from the lower heads, where balances are straight between the two sides, else from heads near the balanced ones.
@@ -85,7 +86,7 @@ fn high_half(
 ) -> Result<HalfPair, AllocError> {
     let start = high_start(step, low.lower.as_slice(), &None)?;
     if is_straight_to(work.side, start.as_slice(), kept)? {
-        let half = half_from(work, start, 1, kept)?;
+        let half = half_from(work, start, WHOLE, kept)?;
         if is_straight_to(work.side, half.lower.as_slice(), kept)? {
             return Ok(half);
         }
@@ -111,12 +112,12 @@ fn next_half(
         .pair
         .iter()
         .map(|bound| head_on(side.side, bound.low, bound.high));
-    let times = if failed.tries <= TRIES_AS_NARROW {
-        1
+    let share = if failed.tries <= TRIES_AS_NARROW {
+        WHOLE
     } else {
-        2
+        2 * WHOLE
     };
-    half_from(work, heads.collect(side.alloc)?, times, kept)
+    half_from(work, heads.collect(side.alloc)?, share, kept)
 }
 
 // One side of a pair: from balanced heads, the upper one from those of the lower side; or from a failed pair.

@@ -1,5 +1,6 @@
 // Heads at which a part of each slope is left as a balance.
 use crate::branch::product;
+use crate::extent::PLACES_OF_WHOLE;
 use crate::linear::Linear;
 use crate::one_side::OneSide;
 use crate::work::Work;
@@ -17,12 +18,11 @@ const FEW_PLACES: u32 = 4;
 
 const FEW_BITS: u32 = 0;
 
-// What is left as a balance: the slope as often, and the part of it by which the solution may be off. Rounding changes a balance by at most
-// its slope, so that the sign of what is left is sure where balances are straight.
-fn rest_of(slope: i64, times: i64) -> i128 {
-    product(times, slope).wrapping_add(
-        (slope >> PLACES_OF_REST.saturating_sub(BITS_OF_REST)) as i128,
-    )
+// What is left as a balance: this share of the slope, and the part of it by which the solution may be off. Rounding changes a balance by at most
+// its slope, so that the sign of what is left is sure where balances are straight and the share is at least the whole.
+fn rest_of(slope: i64, share: i64) -> i128 {
+    let rest = product(share, slope).wrapping_shr(PLACES_OF_WHOLE);
+    rest.wrapping_add((slope >> PLACES_OF_REST.saturating_sub(BITS_OF_REST)) as i128)
 }
 
 // Heads that are moved by the correction of these balances, rounded down.
@@ -44,14 +44,14 @@ fn excess_balances(
     side: &OneSide,
     heads: &[i64],
     slopes: &mut [i64],
-    times: i64,
+    share: i64,
 ) -> Result<Vec<i128>, AllocError> {
     let mut balances = Vec::with_capacity(side.alloc, slopes.len())?;
     for (cell, slope) in slopes.iter_mut().enumerate() {
         let head = at(heads, cell);
         let excess = side
             .balance(cell, head, heads)
-            .wrapping_sub(rest_of(*slope, times));
+            .wrapping_sub(rest_of(*slope, share));
         let (balance, held) = side.held(cell, head, (excess, *slope));
         *slope = held;
         balances.push(balance)?;
@@ -79,15 +79,15 @@ fn solved_heads(
     corrected_heads(work, linear, heads, balances, FEW_PLACES, FEW_BITS)
 }
 
-/// Heads at which each slope is left as often, by one round of Newton's method from these heads. The linear system is kept.
+/// Heads at which this share of each slope is left as its balance, by one round of Newton's method from these heads. The linear system is kept.
 pub fn leave_rest(
     work: &mut Work,
     heads: &[i64],
-    times: i64,
+    share: i64,
     kept: &mut Option<Linear>,
 ) -> Result<Vec<i64>, AllocError> {
     let mut slopes = work.side.slopes(heads)?;
-    let balances = excess_balances(work.side, heads, slopes.as_mut_slice(), times)?;
+    let balances = excess_balances(work.side, heads, slopes.as_mut_slice(), share)?;
     let lower = solved_heads(work, heads, slopes.as_slice(), balances.as_slice(), kept);
     drop(slopes);
     drop(balances);
