@@ -1,7 +1,7 @@
 -- Names that several proofs of this crate cite, of the crates below and of its own definitions, passed on from one place. Declares nothing.
 pub use Rattle.std.proofs.Common.{All, Bool, List, None, Ok, Option, Result, Some, [], ap, append_assoc, arith, cond, drop, false, filter, fold, get_or}
 pub use Rattle.std.proofs.Common.{if◌then◌else◌, inl, inr, is_some, length, map, max, nat_abs, nat_le, nat_lt, negsuc, not, pos, refl, replicate, set, subst}
-pub use Rattle.std.proofs.Common.{suc, sum_by, sym, take, true, zero, ℕ, ℤ, ◌%◌, ◌&&◌, ◌*◌, ◌++◌, ◌+◌, ◌-◌, ◌<◌, ◌==◌, ◌^◌, ◌||◌, ◌∙◌, ◌∷◌, ◌≡◌, ◌≤◌, ◌⊎◌}
+pub use Rattle.std.proofs.Common.{suc, sum_by, sym, take, true, zero, ℕ, ℤ, ◌%◌, ◌&&◌, ◌*◌, ◌++◌, ◌+◌, ◌-◌, ◌/◌, ◌<◌, ◌==◌, ◌^◌, ◌||◌, ◌∙◌, ◌∷◌, ◌≡◌, ◌≤◌, ◌⊎◌}
 pub use Rattle.std.proofs.lemmas.Bool.{and_parts, leb-true, not-true, or_parts}
 pub use Rattle.std.proofs.lemmas.Bool.Decides.{nat_tests}
 pub use Rattle.std.proofs.lemmas.List.{append-nil, drop-drop, drop-take, drop_all, get_or-replicate, get_or-set_other, length-drop, length-map}
@@ -9,8 +9,8 @@ pub use Rattle.std.proofs.lemmas.List.{length-replicate, length-take-le, map-app
 pub use Rattle.std.proofs.lemmas.List.Elements.{All-append, All-cons, All-drop, All-from_recursion, All-head, All-map, All-nil, All-replicate, All-tail}
 pub use Rattle.std.proofs.lemmas.List.Elements.{All-take, All-weaker}
 pub use Rattle.std.proofs.lemmas.List.Sums.{list_all-from_AllPass, sum_by_from}
-pub use Rattle.std.specs.Fmt.{decimal}
-pub use Rattle.std.specs.List.{AllPairs, AllZip, flat_map, list_all, list_any, position, position_or_len, range_with_len}
+pub use Rattle.std.specs.Fmt.{decimal, digit_glyph, digits_onto, signed_decimal}
+pub use Rattle.std.specs.List.{AllByRecursion, AllPairs, AllZip, flat_map, join_with_byte, list_all, list_any, position, position_or_len, range_with_len}
 pub use Rattle.std.specs.Prelude.{codes}
 pub use Rattle.std.specs.Str.{bytes_eq}
 pub use Rattle.array_reader.specs.{free_list, layer_array, real, value_alone}
@@ -24,8 +24,9 @@ pub use Rattle.array_text.proofs.LineTexts.{counted_take, last_takes, line_takes
 pub use Rattle.array_text.proofs.LineTexts.{then_takes}
 pub use Rattle.array_text.proofs.NumberTexts.{integer_reads, number_reads, one, short_exponent}
 pub use Rattle.array_text.proofs.WordTexts.{all_pass, count_is_word, integer_is_word, line_by_test, number_is_word, word_by_test}
-pub use Rattle.array_text.specs.{IsLine, IsShort, IsWord, IsWordByte, Line, Takes, integer_array, number_word, row_lines}
-unfoldable pub use Rattle.array_text.specs.{integer_word, left_of_lines, line_text, number_after, numbered_lines, real_array, row_line, text}
+pub use Rattle.array_text.specs.{IsLine, IsShort, IsWord, IsWordByte, Line, Takes, array_lines, in_rows, sign}
+unfoldable pub use Rattle.array_text.specs.{integer_array, integer_word, left_of_lines, line_text, number_after, number_word, numbered_lines, real_array}
+unfoldable pub use Rattle.array_text.specs.{row_line, row_lines, text}
 pub use Rattle.bas_package.specs.{with_basics}
 unfoldable pub use Rattle.bas_package.specs.{bas_of, basics_of, head_item}
 pub use Rattle.decimal_input.specs.{IsDec, Ratio, is_digit}
@@ -41,11 +42,11 @@ pub use Rattle.lpf_package.specs.{is_transient, nth_layer, with_properties}
 unfoldable pub use Rattle.lpf_package.specs.{contents_of, layer_at, layers_of, lpf_of, properties_of, settings_of, storage_layer}
 pub use Rattle.model_reader.specs.{needed_file, stress_in, stresses, where_named}
 unfoldable pub use Rattle.model_reader.specs.{bas_in, basics_tested, dis_in, lpf_in, model_of, names_in, reads, with_stresses}
-pub use Rattle.model_text.specs.{AreNames, HasFlow, HasLists, HasPackage, IsBasic, IsDiscretized, IsEntry, IsFileName, IsGridWithin, IsLayers, IsListOf}
-pub use Rattle.model_text.specs.{IsOfBeds, IsReadAgain, IsWritable, LacksPackage, ListPackagesReadAsWritten, ListsReadAsWritten, ModelsReadAreReadAsWritten}
-pub use Rattle.model_text.specs.{ThreeCells, ZonesReadAsWritten, deck, deck_name, deck_names, each_layer, file_type, file_unit, has, heads_of, is_listed}
-pub use Rattle.model_text.specs.{layer_values, lines_of, name_file, numbers_of, package_file, packages, steady_word, storage_option, with_areas, with_lists}
-pub use Rattle.model_text.specs.{zone_file, zone_name, zoned_files}
+pub use Rattle.model_text.specs.{AreNames, HasFlow, HasLists, HasNoMark, HasPackage, IsBasic, IsDiscretized, IsEntry, IsFileName, IsGridWithin, IsLayers}
+pub use Rattle.model_text.specs.{IsListOf, IsOfBeds, IsReadAgain, IsWritable, LacksPackage, ListPackagesReadAsWritten, ListsReadAsWritten}
+pub use Rattle.model_text.specs.{ModelsReadAreReadAsWritten, NoLineIsAMark, ThreeCells, ZonesReadAsWritten, deck, deck_files, deck_name, deck_names, each_layer}
+pub use Rattle.model_text.specs.{file_type, file_unit, has, heads_of, is_listed, is_mark, layer_values, lines_of, name_file, numbers_of, package_file, packages}
+pub use Rattle.model_text.specs.{steady_word, storage_option, with_areas, with_lists, zone_file, zone_name, zoned_files}
 unfoldable pub use Rattle.model_text.specs.{bas_item_1, bas_item_2, bas_item_3, bas_item_4, bas_lines, dis_item_1, dis_item_2, dis_item_3, dis_item_4}
 unfoldable pub use Rattle.model_text.specs.{dis_item_5, dis_item_6, dis_item_7, dis_lines, evt_item_2, evt_items, evt_lines, list_item_2, list_item_5}
 unfoldable pub use Rattle.model_text.specs.{list_item_6, list_lines, lpf_arrays, lpf_item_1, lpf_item_4, lpf_item_5, lpf_lines, lpf_zeros, name_item}
@@ -70,7 +71,7 @@ pub use Rattle.number_limits.specs.{is_positive, within}
 unfoldable pub use Rattle.number_limits.specs.{check_result, fault_at, is_at_least, is_at_most, is_thick}
 pub use Rattle.number_limits.specs.declared.passing.Check.TheVariants.{StartHead, Thickness}
 pub use Rattle.outside.specs.{File, FileSet, bytes_under, file_at, folder_name, with_limit, words}
-unfoldable pub use Rattle.outside.specs.{is_good_name}
+unfoldable pub use Rattle.outside.specs.{is_good_name, lines}
 pub use Rattle.outside.specs.declared.inputs.Refusal.{Refusal}
 pub use Rattle.period_arrays.specs.{ArrayKind, CoversLayer, HasArrays, IsReals, array_or, contents, flag_if, is_layer, is_option, layer_step, no_area}
 pub use Rattle.period_arrays.specs.{nothing_yet, unit_if, with_area}

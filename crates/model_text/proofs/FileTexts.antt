@@ -1,9 +1,8 @@
 -- The files of a deck are found by their names.
-use Rattle.model_text.proofs.Common.{◌≡◌, ℕ, ◌≤◌, ◌==◌, Bool, true, false, nat_le, List, [], ◌∷◌, length, map, filter, All, Option, Some, Ok, refl, sym, ap}
-use Rattle.model_text.proofs.Common.{◌∙◌, arith, list_any, list_all, All-head, All-tail, nat_tests, File, bytes_under, file_at, folder_name, with_limit}
-use Rattle.model_text.proofs.Common.{is_same_package, Package, FlowModel, text, packages, name_item, IsFileName, AreNames, has, lines_of, package_file}
-use Rattle.model_text.proofs.Common.{name_file, written, deck_name, deck_names, is_itself, not, cond, None, not-true, Dis, word_by_test, all_pass, zone_name}
-use Rattle.model_text.proofs.Common.{bytes_eq}
+use Rattle.model_text.proofs.Common.{◌≡◌, ℕ, ◌≤◌, ◌==◌, Bool, true, false, nat_le, List, [], ◌∷◌, ◌++◌, length, map, filter, All, Option, Some, Ok, refl, sym}
+use Rattle.model_text.proofs.Common.{ap, ◌∙◌, arith, list_any, list_all, All-head, All-tail, nat_tests, File, bytes_under, file_at, folder_name, with_limit}
+use Rattle.model_text.proofs.Common.{is_same_package, Package, FlowModel, text, packages, name_item, IsFileName, AreNames, has, lines_of, package_file, written}
+use Rattle.model_text.proofs.Common.{deck_name, deck_names, is_itself, not, cond, None, not-true, Dis, word_by_test, all_pass, zone_name, bytes_eq}
 use Rattle.model_text.proofs.PackageTexts.{item_found}
 use Rattle.std.proofs.lemmas.Slice.Eq.{bytes_eq-Decides}
 
@@ -56,22 +55,13 @@ module _ (m : FlowModel) (names : Package → List ℕ) (name : List ℕ) (h : A
           let clash : true ≡ false = sym itself ∙ e in
           cc
 
-  pub name_file_there : (most : ℕ) → All (λ f. length f.bytes ≤ most) (written m names name)
-      → file_at (with_limit most (written m names name)) name ≡ Ok (text (map (name_item names) (filter (has m) packages)))
+  pub name_file_is : bytes_under name (written m names name) ≡ Some (text (map (name_item names) (filter (has m) packages)))
   unfolding written
-  name_file_there most small =
-      let first = same_bytes name in
-      let found : bytes_under name (name_file m names name ∷ map (package_file m names) (filter (has m) packages)) ≡ Some (text (map (name_item names) (filter (has m) packages))) = rw first refl in
-      small_file most name (text (map (name_item names) (filter (has m) packages))) (name_file m names name ∷ map (package_file m names) (filter (has m) packages)) h.first small found
+  name_file_is = let first = same_bytes name in rw first refl
 
-  pub package_file_there : (most : ℕ) → All (λ f. length f.bytes ≤ most) (written m names name) → (k : Package) → has m k ≡ true → list_any (λ j. is_same_package k j) packages ≡ true
-      → file_at (with_limit most (written m names name)) (names k) ≡ Ok (text (lines_of m k))
+  pub package_file_is : (k : Package) → has m k ≡ true → list_any (λ j. is_same_package k j) packages ≡ true → bytes_under (names k) (written m names name) ≡ Some (text (lines_of m k))
   unfolding written
-  package_file_there most small k is_in there =
-      let other = other_bytes (names k) name (h.apart k) in
-      let found : bytes_under (names k) (name_file m names name ∷ map (package_file m names) (filter (has m) packages)) ≡ Some (text (lines_of m k)) =
-      rw other (package_bytes k is_in packages there) in
-      small_file most (names k) (text (lines_of m k)) (name_file m names name ∷ map (package_file m names) (filter (has m) packages)) (h.each k) small found
+  package_file_is k is_in there = let other = other_bytes (names k) name (h.apart k) in rw other (package_bytes k is_in packages there)
 
 -- The names of the files of a deck are good names.
 -- a name without a backslash
@@ -80,6 +70,15 @@ all_plain w h = all_pass (λ b. not (b == 92)) (λ b. b ≡ 92 → ⊥) (λ b e.
   where
     apart : (x : ℕ) → (x == 92) ≡ false → x ≡ 92 → ⊥
     apart x e same = grind (arith, nat_tests)
+
+-- bytes that are found are found with more files after them
+pub still_found : (w bytes : List ℕ) (files more : List File) → bytes_under w files ≡ Some bytes → bytes_under w (files ++ more) ≡ Some bytes
+still_found w bytes [] more e = absurd (let none : Path (Option (List ℕ)) None (Some bytes) = e in cc)
+still_found w bytes (f ∷ files) more e = by_test (λ later. still_found w bytes files more later) (bytes_eq w f.name) refl
+  where
+    by_test : (bytes_under w files ≡ Some bytes → bytes_under w (files ++ more) ≡ Some bytes) → (b : Bool) → bytes_eq w f.name ≡ b → bytes_under w ((f ∷ files) ++ more) ≡ Some bytes
+    by_test further true d = rw d (let here : Path (Option (List ℕ)) (Some f.bytes) (Some bytes) = rw d at e in here)
+    by_test further false d = rw d (further (rw d at e))
 
 pub zone_name_is_good : IsFileName zone_name
 zone_name_is_good = record { word = word_by_test zone_name refl; few = omega arith; plain = all_plain zone_name refl }

@@ -18,3 +18,4 @@ pub mod FileTexts
 pub mod StageTexts
 pub mod ModelTexts
 pub mod ZoneTexts
+pub mod MarkTexts

@@ -4,7 +4,8 @@ use Rattle.model_text.proofs.Common.{None, Ok, refl, ap, list_any, Pairs, is_sam
 use Rattle.model_text.proofs.Common.{FlowModel, Period, HasSize, cell_of, stress_in, stresses, with_stresses, names_in, needed_file, dis_in, basics_tested}
 use Rattle.model_text.proofs.Common.{bas_in, lpf_in, model_of, reads, text, numbers_of, heads_of, packages, AreNames, has, lines_of, written, IsWritable}
 use Rattle.model_text.proofs.Common.{rch_lines, evt_lines, Limits, recharge_arrays, rch_of, wells, rivers, drains, generals, evaporation_arrays, evt_of}
-use Rattle.model_text.proofs.Common.{length-map, model_of_grid, without_stresses, with_basics, given_heads, check_result, fault_at, Thickness, StartHead}
+use Rattle.model_text.proofs.Common.{length-map, model_of_grid, without_stresses, with_basics, given_heads, check_result, fault_at, Thickness, StartHead, File}
+use Rattle.model_text.proofs.Common.{bytes_under, deck_files, deck_name, deck_names, filter, name_item, zone_file, zoned_files, Option}
 use Rattle.model_text.proofs.DisTexts.{dis_reads}
 use Rattle.number_limits.specs.declared.passing.Check.TheVariants.{Properties}
 use Rattle.model_reader.proofs.CheckForms.{checks_kept}
@@ -12,7 +13,7 @@ use Rattle.model_text.proofs.BasTexts.{bas_reads}
 use Rattle.model_text.proofs.LpfTexts.{lpf_reads}
 use Rattle.model_text.proofs.ListTexts.{list_packages}
 use Rattle.model_text.proofs.NameTexts.{pairs_of, absent_package_has_no_file, present, names_read}
-use Rattle.model_text.proofs.FileTexts.{name_file_there, package_file_there}
+use Rattle.model_text.proofs.FileTexts.{good_names, name_file_is, package_file_is, small_file, still_found}
 use Rattle.model_text.proofs.StageTexts.{staged, with_list, with_arrays, list_stage, arrays_stage}
 use Rattle.model_text.proofs.AreaFileTexts.{evt_reads, rch_reads}
 
@@ -127,14 +128,16 @@ module _ (limits : Limits) (m : FlowModel) (w : IsWritable limits m) (names : Pa
   unfolding model_of
   model_there = rw (needed_is Dis refl, dis_there, needed_is Bas refl, bas_there, needed_is Lpf refl, lpf_there) stresses_there
 
-module _ (limits : Limits) (m : FlowModel) (w : IsWritable limits m) (names : Package → List ℕ) (name : List ℕ) (h : AreNames names name) (most : ℕ)
-    (small : All (λ f. length f.bytes ≤ most) (written m names name)) where
+listed : (k : Package) → list_any (λ j. is_same_package k j) packages ≡ true
+listed Dis = refl
+listed x = refl
+
+-- Files that have the name file and those of the packages under their names.
+module _ (limits : Limits) (m : FlowModel) (w : IsWritable limits m) (names : Package → List ℕ) (name : List ℕ) (h : AreNames names name) (most : ℕ) (files : List File)
+    (small : All (λ f. length f.bytes ≤ most) files) (first : bytes_under name files ≡ Some (text (map (name_item names) (filter (has m) packages))))
+    (each : (k : Package) → has m k ≡ true → bytes_under (names k) files ≡ Some (text (lines_of m k))) where
   abbrev pairs : Pairs
   pairs = pairs_of names (has m) packages
-
-  listed : (k : Package) → list_any (λ j. is_same_package k j) packages ≡ true
-  listed Dis = refl
-  listed x = refl
 
   named : (k : Package) → file_of k pairs ≡ (if has m k then Some (names k) else None)
   named k = by_case (has m k) refl
@@ -143,11 +146,27 @@ module _ (limits : Limits) (m : FlowModel) (w : IsWritable limits m) (names : Pa
       by_case true e = present names (has m) k e packages (listed k)
       by_case false e = absent_package_has_no_file names (has m) k e packages
 
-  names_there : names_in (with_limit most (written m names name)) name ≡ Ok pairs
+  names_there : names_in (with_limit most files) name ≡ Ok pairs
   unfolding names_in
-  names_there = rw (name_file_there m names name h most small) (names_read names name h (has m) refl refl refl)
+  names_there =
+      let there = small_file most name (text (map (name_item names) (filter (has m) packages))) files h.first small first in
+      rw there (names_read names name h (has m) refl refl refl)
 
-  pub model_reads : reads limits (with_limit most (written m names name)) name ≡ Ok m
+  files_read : reads limits (with_limit most files) name ≡ Ok m
   unfolding reads
-  model_reads =
-      rw names_there (model_there limits m w names (with_limit most (written m names name)) pairs named (λ k is_in. package_file_there m names name h most small k is_in (listed k)))
+  files_read =
+      rw names_there (model_there limits m w names (with_limit most files) pairs named (λ k is_in. small_file most (names k) (text (lines_of m k)) files (h.each k) small (each k is_in)))
+
+pub model_reads : (limits : Limits) (m : FlowModel) (w : IsWritable limits m) (names : Package → List ℕ) (name : List ℕ) (h : AreNames names name) (most : ℕ) →
+    All (λ f. length f.bytes ≤ most) (written m names name) → reads limits (with_limit most (written m names name)) name ≡ Ok m
+model_reads limits m w names name h most small =
+    files_read limits m w names name h most (written m names name) small (name_file_is m names name h) (λ k is_in. package_file_is m names name h k is_in (listed k))
+
+-- So is the deck with a file of zones.
+pub zoned_reads : (limits : Limits) (m : FlowModel) → IsWritable limits m → (most : ℕ) (zones : Option (List ℕ)) → All (λ f. length f.bytes ≤ most) (zoned_files m zones) →
+    reads limits (with_limit most (zoned_files m zones)) deck_name ≡ Ok m
+zoned_reads limits m w most None small = model_reads limits m w deck_names deck_name good_names most small
+zoned_reads limits m w most (Some zones) small =
+    files_read limits m w deck_names deck_name good_names most (zoned_files m (Some zones)) small
+    (still_found deck_name _ (deck_files m) (zone_file m.grid zones ∷ []) (name_file_is m deck_names deck_name good_names))
+    (λ k is_in. still_found (deck_names k) _ (deck_files m) (zone_file m.grid zones ∷ []) (package_file_is m deck_names deck_name good_names k is_in (listed k)))

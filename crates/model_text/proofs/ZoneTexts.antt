@@ -11,7 +11,7 @@ use Rattle.model_text.proofs.BasTexts.{layers_take}
 use Rattle.model_text.proofs.FileTexts.{small_file, zone_name_is_good}
 use Rattle.model_text.proofs.GridTexts.{layer_length, layer_has}
 
--- The file stands behind those of the packages, none of which has its name.
+-- The file comes after those of the packages, none of which has its name.
 other_name : (k : Package) → bytes_eq zone_name (deck_names k) ≡ false
 other_name Dis = refl
 other_name x = refl
@@ -21,9 +21,17 @@ module _ (m : FlowModel) where
   not_among [] last = refl
   not_among (k ∷ ks) last = rw (other_name k) (not_among ks last)
 
-  zones_there : (zones : List ℕ) → bytes_under zone_name (zoned_files m (Some zones)) ≡ Some (zone_file m.grid zones).bytes
+  pub zones_there : (zones : List ℕ) → bytes_under zone_name (zoned_files m (Some zones)) ≡ Some (zone_file m.grid zones).bytes
   unfolding written
   zones_there zones = not_among (filter (has m) packages) (zone_file m.grid zones)
+
+  none_among : (ks : List Package) → bytes_under zone_name (map (package_file m deck_names) ks) ≡ None
+  none_among [] = refl
+  none_among (k ∷ ks) = rw (other_name k) (none_among ks)
+
+  pub no_zones_there : bytes_under zone_name (zoned_files m None) ≡ None
+  unfolding written
+  no_zones_there = none_among (filter (has m) packages)
 
 -- Zones that are at most 999 are short integers, and pass the test.
 short_zone : (z : ℕ) → z ≤ 999 → IsShort (pos z)

@@ -1,12 +1,12 @@
 -- Statements of laws: a model is read as written.
-use Rattle.std.specs.Prelude.{◌≡◌, ℕ, ◌≤◌, List, All, length, Ok, map, ◌⊎◌, pos, [], Some, ◌∷◌}
+use Rattle.std.specs.Prelude.{◌≡◌, ℕ, ◌≤◌, List, All, length, Ok, map, ◌⊎◌, pos, [], Some, ◌∷◌, ◌++◌, false, Option}
 use Rattle.name_file.specs.declared.package.Package.{Package}
-use Rattle.outside.specs.{with_limit, FileSet, File}
+use Rattle.outside.specs.{with_limit, FileSet, File, lines}
 use Rattle.model_types.specs.declared.limits.Limits.{Limits}
 use Rattle.model_types.specs.declared.model.FlowModel.{FlowModel}
 use Rattle.model_reader.specs.{reads}
 use Rattle.zone_file.specs.{zones_of}
-use Rattle.model_text.specs.Written.{AreNames, written, deck_name, deck_names, IsReadAgain, zone_name, zoned_files}
+use Rattle.model_text.specs.Written.{AreNames, written, deck_name, deck_names, is_mark, IsReadAgain, zone_name, zoned_files}
 use Rattle.model_types.specs.{HasSize, cell_count, cell_of, most_bytes}
 use Rattle.stress_packages.specs.{rch_of, recharge_arrays, wells, rivers, drains, generals}
 use Rattle.evt_package.specs.{evaporation_arrays, evt_of}
@@ -15,7 +15,7 @@ use Rattle.model_text.specs.Lists.{rch_lines, evt_lines, numbers_of, heads_of, l
 use Rattle.model_text.specs.Readable.{HasPackage, LacksPackage, with_areas, IsBasic}
 use Rattle.dis_package.specs.{IsDiscretized, IsGridWithin, model_of_grid, dis_of, without_stresses}
 use Rattle.lpf_package.specs.{HasFlow, with_properties, lpf_of}
-use Rattle.std.specs.List.{AllZip}
+use Rattle.std.specs.List.{AllZip, flat_map}
 use Rattle.decimal_input.specs.declared.dec.Dec.{Dec}
 use Rattle.model_types.specs.declared.grid.Grid.{Grid}
 use Rattle.model_types.specs.declared.period.Period.{Period}
@@ -120,6 +120,15 @@ ModelsReadAreReadAsWritten = (limits : Limits) (files : FileSet) (name : List �
 -- So of the deck that `heads write` puts, under the names that it gives.
 abbrev pub DecksAreReadAgain : Type 0
 DecksAreReadAgain = (limits : Limits) (files : FileSet) (name : List ℕ) (m : FlowModel) → reads limits files name ≡ Ok m → IsReadAgain limits m
+
+-- bytes that are whole lines, at none of which a text is cut
+pub record HasNoMark (bytes : List ℕ) : Type 0 where
+  pub whole : bytes ≡ flat_map (λ line. line ++ (10 ∷ [])) (lines bytes)
+  pub none : All (λ line. is_mark line ≡ false) (lines bytes)
+
+-- A text of a deck is cut at no line of its files, whatever the model.
+abbrev pub NoLineIsAMark : Type 0
+NoLineIsAMark = (m : FlowModel) (zones : Option (List ℕ)) → All (λ f. HasNoMark f.bytes) (zoned_files m zones)
 
 -- the file of zones of a grid's cells, of a deck none of whose files is too long, gives these zones, each of which is at most 999
 abbrev pub ZonesReadAsWritten : Type 0

@@ -41,21 +41,9 @@ period_list g cell numbers list = list_item_5 list ∷ map (λ x. list_item_6 g 
 unfoldable pub list_lines : {E : Type 0} → Grid → (E → ℕ) → (E → List Dec) → List (List E) → List Line
 list_lines g cell numbers lists = list_item_2 lists ∷ flat_map (period_list g cell numbers) lists
 
-module _ (m : FlowModel) where
-  abbrev pub wel_lines : List Line
-  wel_lines = list_lines m.grid cell_of numbers_of (map (λ p. p.stresses.wells) m.periods)
-
-  abbrev pub riv_lines : List Line
-  riv_lines = list_lines m.grid cell_of numbers_of (map (λ p. p.stresses.rivers) m.periods)
-
-  abbrev pub drn_lines : List Line
-  drn_lines = list_lines m.grid cell_of numbers_of (map (λ p. p.stresses.drains) m.periods)
-
-  abbrev pub ghb_lines : List Line
-  ghb_lines = list_lines m.grid cell_of numbers_of (map (λ p. p.stresses.generals) m.periods)
-
-  abbrev pub chd_lines : List Line
-  chd_lines = list_lines m.grid (λ x. x.cell.0) heads_of (map (λ p. p.stresses.given) m.periods)
+-- the file of WEL, RIV, DRN or GHB, by the list that a stress period has of it
+abbrev pub entry_lines : FlowModel → (Period → List Entry) → List Line
+entry_lines m list = list_lines m.grid cell_of numbers_of (map list m.periods)
 
 -- The files of recharge and evapotranspiration (TM 6-A16, input instructions, RCH and EVT).
 module _ (m : FlowModel) where

@@ -1,6 +1,8 @@
 -- A model as the files of a deck.
-use Rattle.std.specs.Prelude.{ℕ, Bool, true, not, nat_lt, List, ◌∷◌, map, filter, length, ◌≡◌, ◌≤◌, [], ◌++◌, All, codes, Ok, Option, Some, None, pos}
+use Rattle.std.specs.Prelude.{ℕ, Bool, true, not, nat_lt, List, ◌∷◌, map, filter, length, ◌≡◌, ◌≤◌, [], ◌++◌, All, codes, Ok, Option, Some, None, pos, take}
+use Rattle.std.specs.Prelude.{◌||◌}
 use Rattle.std.specs.List.{list_any, flat_map}
+use Rattle.std.specs.Str.{bytes_eq}
 use Rattle.outside.specs.{File, with_limit}
 use Rattle.name_file.specs.declared.package.Package.{Package}
 use Rattle.name_file.specs.declared.package.Package.TheVariants.{Dis, Bas, Lpf, Wel, Riv, Drn, Ghb, Rch, Chd, Evt}
@@ -10,7 +12,7 @@ use Rattle.model_types.specs.declared.period.Period.{Period}
 use Rattle.model_types.specs.{is_int, most_bytes}
 use Rattle.array_text.specs.{Line, text, IsShort, IsWord}
 use Rattle.model_text.specs.Discretization.{dis_lines, bas_lines, lpf_lines, each_layer, integer_layer}
-use Rattle.model_text.specs.Lists.{wel_lines, riv_lines, drn_lines, ghb_lines, chd_lines, rch_lines, evt_lines}
+use Rattle.model_text.specs.Lists.{entry_lines, evt_lines, heads_of, list_lines, rch_lines}
 use Rattle.model_types.specs.declared.limits.Limits.{Limits}
 use Rattle.model_reader.specs.{reads}
 
@@ -78,12 +80,12 @@ module _ (m : FlowModel) where
   lines_of Dis = dis_lines m
   lines_of Bas = bas_lines m
   lines_of Lpf = lpf_lines m
-  lines_of Wel = wel_lines m
-  lines_of Riv = riv_lines m
-  lines_of Drn = drn_lines m
-  lines_of Ghb = ghb_lines m
+  lines_of Wel = entry_lines m (λ p. p.stresses.wells)
+  lines_of Riv = entry_lines m (λ p. p.stresses.rivers)
+  lines_of Drn = entry_lines m (λ p. p.stresses.drains)
+  lines_of Ghb = entry_lines m (λ p. p.stresses.generals)
   lines_of Rch = rch_lines m
-  lines_of Chd = chd_lines m
+  lines_of Chd = list_lines m.grid (λ x. x.cell.0) heads_of (map (λ p. p.stresses.given) m.periods)
   lines_of Evt = evt_lines m
 
   -- a package's file
@@ -125,6 +127,10 @@ file_texts files = flat_map file_text files
 -- the text of a model's deck: its files, and the line END
 unfoldable pub deck_text : FlowModel → List ℕ
 deck_text m = file_texts (deck_files m) ++ codes "END\n"
+
+-- a line at which a text is cut into its files: it begins with the word FILE and a blank, or it is the word END
+abbrev pub is_mark : List ℕ → Bool
+is_mark line = bytes_eq (take 5 line) (codes "FILE ") || bytes_eq line (codes "END")
 
 -- the file of the zones of a grid's cells: an array for each layer, (NCOL,NROW) - U2DINT
 abbrev pub zone_name : List ℕ

@@ -1,7 +1,7 @@
 // A model is read as written. Each law is the contract of an empty function.
 ghost use Rattle.model_text.specs.{DeckNamesAreNames, ModelsReadAsWritten, RchReadsAsWritten, EvtReadsAsWritten, ListPackagesReadAsWritten, DisReadsAsWritten};
 ghost use Rattle.model_text.specs.{BasReadsAsWritten, LpfReadsAsWritten, DecksAreReadAgain, ModelsReadAreWritable, ModelsReadAreReadAsWritten, ThreeCells};
-ghost use Rattle.model_text.specs.{ZonesReadAsWritten};
+ghost use Rattle.model_text.specs.{NoLineIsAMark, ZonesReadAsWritten};
 
 /// The files of a model, with good names and at most 64 MiB each, are read as the model.
 #[tactic(auto, using(crate::proofs::ModelTexts::model_reads))]
@@ -71,6 +71,12 @@ pub fn decks_are_read_again()
 /// The file of zones is read as the zones that were written.
 pub fn zones_read_as_written()
     ensures { ZonesReadAsWritten }
+{}
+
+/// The text of a deck is cut at no line of its files.
+#[tactic(auto, using(crate::proofs::MarkTexts::none_is_marked))]
+pub fn no_line_is_a_mark()
+    ensures { NoLineIsAMark }
 {}
 
 /// A worked model is writable, and files of a deck are read as it.
