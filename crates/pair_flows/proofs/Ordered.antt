@@ -92,7 +92,7 @@ module _ (n : ℕ) (d : CellFlows) (marks : ℕ → Bool) (turned : (i j : ℕ) 
 marked_is : (a b : ℤ) → a <ℤ b → int_lt a b ≡ true
 marked_is a b h = grind (arith, ints)
 
-is_less : (a b : ℤ) → int_lt a b ≡ true → a <ℤ b
+pub is_less : (a b : ℤ) → int_lt a b ≡ true → a <ℤ b
 is_less a b e = grind (arith, ints)
 
 not_less : (a b : ℤ) → int_lt a b ≡ false → b ≤ℤ a

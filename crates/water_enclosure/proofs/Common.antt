@@ -38,9 +38,9 @@ pub use Rattle.model_types.specs.declared.model.FlowModel.{FlowModel}
 pub use Rattle.model_types.specs.declared.time_steps.TimeStep.{TimeStep}
 pub use Rattle.pair_flows.specs.{AreComparable, CellFlows, gain_from_first}
 pub use Rattle.step_problem.proofs.Leasts.{mul_mono, mul_neg}
-pub use Rattle.water_enclosure.specs.{FlowsLieAt, FlowsLieFrom, GreaterBalancesLieLower, HasOneGentleHead, OwnFlowsAreAtMost, SignsEncloseFlows}
-pub use Rattle.water_enclosure.specs.{SignsEncloseHistories}
-pub use Rattle.water_table.proofs.Orders.{AtMost-of, among, common_denominator_exists, plus_rises}
+pub use Rattle.water_enclosure.specs.{FlowsLieAt, FlowsLieFrom, GreaterBalancesLieLower, HasOneGentleHead, OwnFlowsAreAtMost, SignsCertify, SignsEncloseFlows}
+pub use Rattle.water_enclosure.specs.{SignsEncloseHistories, flow_unit, pair_of}
+pub use Rattle.water_table.proofs.Orders.{AtMost-of, among, below_then_at_most, common_denominator_exists, less_is_below, plus_rises}
 pub use Rattle.water_table.specs.{FallsGently, FallsWithin, GainsAtLeast, HasSignsAt, HasSignsFrom, IsFull, IsGentle, IsWithin, LieInPairs, LiesInPair}
 pub use Rattle.water_table.specs.{ListedPair, LosesAtLeast, NearlySolvesAt, NearlySolvesFrom, branch, conductance_at, constant_branch, convertible_cell}
 pub use Rattle.water_table.specs.{convertible_step, heads_at, is_convertible, listed_heads, narrow_pair, pumped_layers, pumped_model, variable_branch}

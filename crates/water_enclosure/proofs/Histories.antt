@@ -1,30 +1,15 @@
 -- Step by step: what lies between the listed heads at one step gives the order of the old heads at the next.
-use Rattle.water_enclosure.proofs.Common.{refl, ◌≡◌, ℕ, ◌<◌, ◌<ℤ◌, List, [], ◌∷◌, All, true, ℤ, pos, inl, inr, sym, ◌∙◌, subst, arith, ◌*ℤ◌, cases_Bool}
-use Rattle.water_enclosure.proofs.Common.{by_lt_z, ints, All-from_get_or, All-get_or, not, ◌&&◌, ◌^◌, below_over, over_le, IsBelow, share, Fraction, IsOver}
-use Rattle.water_enclosure.proofs.Common.{Ratio, as_fraction, opposite, AtMost, FlowModel, TimeStep, IsModel, cell_count, index_of, is_active, is_constant}
-use Rattle.water_enclosure.proofs.Common.{is_variable, start_head, variable_cells, ConvertibleLayers, GainsAtLeast, HasSignsAt, HasSignsFrom, IsWithin}
-use Rattle.water_enclosure.proofs.Common.{LieInPairs, LiesInPair, ListedPair, LosesAtLeast, NearlySolvesAt, NearlySolvesFrom, heads_at, listed_heads}
-use Rattle.water_enclosure.proofs.Common.{variable_cell, water_balance, AtMost-of, among, common_denominator_exists, FlowsLieAt, FlowsLieFrom}
-use Rattle.water_enclosure.proofs.Common.{OwnFlowsAreAtMost, SignsEncloseFlows, SignsEncloseHistories}
-use Rattle.decimal_input.specs.Fractions.{den}
+use Rattle.water_enclosure.proofs.Common.{refl, ◌≡◌, ℕ, ◌<◌, List, [], ◌∷◌, All, true, ℤ, inl, inr, sym, ◌∙◌, subst, arith, cases_Bool, ints, All-from_get_or}
+use Rattle.water_enclosure.proofs.Common.{All-get_or, not, ◌&&◌, ◌^◌, below_over, over_le, IsBelow, share, Fraction, Ratio, as_fraction, opposite, AtMost}
+use Rattle.water_enclosure.proofs.Common.{FlowModel, TimeStep, IsModel, cell_count, index_of, is_active, is_constant, is_variable, start_head, variable_cells}
+use Rattle.water_enclosure.proofs.Common.{ConvertibleLayers, GainsAtLeast, HasSignsAt, HasSignsFrom, IsWithin, LieInPairs, LiesInPair, ListedPair, LosesAtLeast}
+use Rattle.water_enclosure.proofs.Common.{NearlySolvesAt, NearlySolvesFrom, heads_at, listed_heads, variable_cell, water_balance, AtMost-of, among}
+use Rattle.water_enclosure.proofs.Common.{common_denominator_exists, FlowsLieAt, FlowsLieFrom, OwnFlowsAreAtMost, SignsEncloseFlows, SignsEncloseHistories, map}
+use Rattle.water_enclosure.proofs.Common.{SignsCertify, flow_unit, pair_of, below_then_at_most, less_is_below}
 use Rattle.model_types.specs.{times}
 use Rattle.water_enclosure.proofs.Cells.{variable_active}
 use Rattle.water_enclosure.proofs.Linked.{index_within, index_names_cell, variable_at}
 use Rattle.water_enclosure.proofs.Order.{greater_balances_lie_lower, known_at, own_flows_at_most, variable_at_head}
-
--- a number below another one in whole numbers is below it
-over_below : (M : ℕ) (f g : Fraction) (a b : ℤ) → IsOver M f a → IsOver M g b → a <ℤ b → IsBelow f g
-over_below M f g a b p q less =
-    by_lt_z (f.num *ℤ pos (den g)) (g.num *ℤ pos (den f)) (λ below. record { below = below })
-    (λ back. absurd (let le = over_le M g f b a q p (record { at_most = back }) in omega (arith, ints, le, less)))
-
-below_then : (f u g : Fraction) → IsBelow f u → AtMost u g → IsBelow f g
-below_then f u g less le =
-    let (M, some, at) = common_denominator_exists 3 (among (f ∷ u ∷ g ∷ [])) in
-    let (a, oa) = at 0 (omega arith) in
-    let (b, ob) = at 1 (omega arith) in
-    let (c, oc) = at 2 (omega arith) in
-    over_below M f g a c oa oc (omega (arith, ints, below_over M f u a b some oa ob less, over_le M u g b c ob oc le))
 
 then_below : (f u g : Fraction) → AtMost f u → IsBelow u g → IsBelow f g
 then_below f u g le less =
@@ -32,7 +17,7 @@ then_below f u g le less =
     let (a, oa) = at 0 (omega arith) in
     let (b, ob) = at 1 (omega arith) in
     let (c, oc) = at 2 (omega arith) in
-    over_below M f g a c oa oc (omega (arith, ints, over_le M f u a b oa ob le, below_over M u g b c some ob oc less))
+    less_is_below M f g a c oa oc (omega (arith, ints, over_le M f u a b oa ob le, below_over M u g b c some ob oc less))
 
 module _ (m : FlowModel) (w : ConvertibleLayers) (valid : IsModel m) where
   -- facts of each variable cell
@@ -74,7 +59,7 @@ module _ (m : FlowModel) (w : ConvertibleLayers) (valid : IsModel m) where
       over_low = greater_balances_lie_lower m w at old_low old (10 ^ 9) d pair.low X valid signs.low_gentle near.gentle
           (each at (λ c. AtMost (old_low c) (old c)) (λ c lt v. above_low c lt (variable_active m at.period c v)))
           (each at (λ c. IsBelow (at_X c) (at_low c)) (λ c lt v.
-          below_then (at_X c) (as_fraction unit) (at_low c) (of_each at (λ c. IsWithin unit (at_X c)) near.balances c lt v).0
+          below_then_at_most (at_X c) (as_fraction unit) (at_low c) (of_each at (λ c. IsWithin unit (at_X c)) near.balances c lt v).0
           (of_each at (λ c. GainsAtLeast unit (at_low c)) signs.low c lt v)))
 
       under_high : All (λ c. AtMost (share d (X c)) (share (10 ^ 9) (pair.high c))) (variable_cells m at.period)
@@ -108,7 +93,9 @@ module _ (m : FlowModel) (w : ConvertibleLayers) (valid : IsModel m) where
 
     enclose_from : (steps : List TimeStep) (pairs : List ListedPair) (Xs : List (ℕ → ℤ)) (old_low old old_high : ℕ → Fraction) → AreInOrder old_low old → AreInOrder old old_high →
         HasSignsFrom unit m w old_low old_high steps pairs → NearlySolvesFrom unit m w d old steps Xs → LieInPairs m d steps Xs pairs
-    enclose_from [] pairs Xs old_low old old_high low high signs near = tt
+    enclose_from [] [] [] old_low old old_high low high signs near = tt
+    enclose_from [] [] (X ∷ Xs) old_low old old_high low high signs near = absurd near
+    enclose_from [] (pair ∷ pairs) Xs old_low old old_high low high signs near = absurd signs
     enclose_from (at ∷ steps) [] Xs old_low old old_high low high signs near = absurd signs
     enclose_from (at ∷ steps) (pair ∷ pairs) [] old_low old old_high low high signs near = absurd near
     enclose_from (at ∷ steps) (pair ∷ pairs) (X ∷ Xs) old_low old old_high low high signs near = (
@@ -120,7 +107,9 @@ module _ (m : FlowModel) (w : ConvertibleLayers) (valid : IsModel m) where
 
     flows_from : (steps : List TimeStep) (pairs : List ListedPair) (Xs : List (ℕ → ℤ)) (old_low old old_high : ℕ → Fraction) → AreInOrder old_low old → AreInOrder old old_high →
         HasSignsFrom unit m w old_low old_high steps pairs → NearlySolvesFrom unit m w d old steps Xs → FlowsLieFrom m w d old_low old old_high steps Xs pairs
-    flows_from [] pairs Xs old_low old old_high low high signs near = tt
+    flows_from [] [] [] old_low old old_high low high signs near = tt
+    flows_from [] [] (X ∷ Xs) old_low old old_high low high signs near = absurd near
+    flows_from [] (pair ∷ pairs) Xs old_low old old_high low high signs near = absurd signs
     flows_from (at ∷ steps) [] Xs old_low old old_high low high signs near = absurd signs
     flows_from (at ∷ steps) (pair ∷ pairs) [] old_low old old_high low high signs near = absurd near
     flows_from (at ∷ steps) (pair ∷ pairs) (X ∷ Xs) old_low old old_high low high signs near = (
@@ -139,3 +128,9 @@ pub signs_enclose_flows : SignsEncloseFlows
 signs_enclose_flows unit m w pairs d Xs valid signs near =
     flows_from m w valid unit d (times m) pairs Xs (start_head m) (start_head m) (start_head m) (λ c lt active.
     AtMost-of (start_head m c) (start_head m c) refl) (λ c lt active. AtMost-of (start_head m c) (start_head m c) refl) signs near.steps
+
+pub signs_certify : SignsCertify
+signs_certify s m w listing valid signs = record {
+  heads = λ d Xs near. signs_enclose_histories (flow_unit s) m w (map pair_of listing) d Xs valid signs near;
+  flows = λ d Xs near. signs_enclose_flows (flow_unit s) m w (map pair_of listing) d Xs valid signs near;
+}

@@ -45,10 +45,11 @@ pub record FlowsLieAt (m : FlowModel) (w : ConvertibleLayers) (at : TimeStep) (o
 
 abbrev pub FlowsLieFrom : FlowModel → ConvertibleLayers → ℕ → (ℕ → Fraction) → (ℕ → Fraction) → (ℕ → Fraction) → List TimeStep →
     List (ℕ → ℤ) → List ListedPair → Type 0
+FlowsLieFrom m w d old_low old old_high [] [] [] = Unit {0}
 FlowsLieFrom m w d old_low old old_high (at ∷ steps) (X ∷ Xs) (pair ∷ pairs) =
     All (FlowsLieAt m w at old_low old old_high d X pair) (variable_cells m at.period)
     × FlowsLieFrom m w d (listed_heads m at pair.low) (heads_at m at d X) (listed_heads m at pair.high) steps Xs pairs
-FlowsLieFrom m w d old_low old old_high _ _ _ = Unit {0}
+FlowsLieFrom m w d old_low old old_high _ _ _ = ⊥
 
 -- So does each flow of a history into a cell by its own head, at each step.
 abbrev pub SignsEncloseFlows : Type 0

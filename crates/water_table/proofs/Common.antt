@@ -3,9 +3,9 @@ pub use Rattle.std.proofs.Common.{All, Bool, List, [], ap, arith, cond, false, i
 pub use Rattle.std.proofs.Common.{◌*◌, ◌+ℤ◌, ◌-ℤ◌, ◌<ℤ◌, ◌<◌, ◌∷◌, ◌≡◌}
 pub use Rattle.std.proofs.Math.IntN.{*ℤ-zero, zero-*ℤ}
 pub use Rattle.std.proofs.lemmas.Bool.{cases_eq, false≢true}
-pub use Rattle.std.proofs.lemmas.Int.{clamps, ints}
+pub use Rattle.std.proofs.lemmas.Int.{by_lt_z, clamps, ints}
 pub use Rattle.std.specs.Prelude.{slice_index_or, ◌^◌}
-pub use Rattle.cell_balance.proofs.Enclosing.{le_over, over_le, same_over}
+pub use Rattle.cell_balance.proofs.Enclosing.{below_over, le_over, over_le, same_over}
 pub use Rattle.cell_balance.proofs.Scaling.{IsOver-greater, IsOver-lesser, IsOver-minus, IsOver-none, IsOver-plus, IsOver-signed, IsOver-times}
 pub use Rattle.cell_balance.specs.{IsBelow, greater, lesser, minus}
 pub use Rattle.decimal_input.proofs.FloorLaws.{le-add, le-of, neg_times}

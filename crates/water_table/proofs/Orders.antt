@@ -2,7 +2,7 @@
 use Rattle.water_table.proofs.Common.{◌≡◌, ℕ, zero, suc, ◌*◌, ◌<◌, refl, sym, subst, arith, ℤ, pos, ◌*ℤ◌, List, [], ◌∷◌, inl, inr, cases_eq, mul-pos}
 use Rattle.water_table.proofs.Common.{slice_index_or, ints, clamps, le_over, over_le, IsOver-plus, IsOver-minus, IsOver-times, IsOver-signed, IsOver-lesser}
 use Rattle.water_table.proofs.Common.{IsOver-greater, greater, lesser, minus, Fraction, IsOver, Ratio, as_fraction, whole, AtMost, den, mul_assoc, mul_mono}
-use Rattle.water_table.proofs.Common.{le-add, le-of}
+use Rattle.water_table.proofs.Common.{le-add, le-of, below_over, by_lt_z, IsBelow, ◌<ℤ◌}
 use Rattle.decimal_input.specs.Fractions.{plus, times}
 use Rattle.decimal_input.specs.Ratios.{den as ratio_den}
 use Rattle.flow_equations.proofs.GivenAtSteps.{over_multiple}
@@ -73,3 +73,17 @@ greater_rises f f' g p =
     let (b, ob) = at 1 (omega arith) in
     let (c, oc) = at 2 (omega arith) in
     le_over M _ _ _ _ some (IsOver-greater M f g a c oa oc) (IsOver-greater M f' g b c ob oc) (omega (arith, ints, clamps, over_le M f f' a b oa ob p))
+
+-- a number below another one in whole numbers is below it
+pub less_is_below : (M : ℕ) (f g : Fraction) (a b : ℤ) → IsOver M f a → IsOver M g b → a <ℤ b → IsBelow f g
+less_is_below M f g a b p q less =
+    by_lt_z (f.num *ℤ pos (den g)) (g.num *ℤ pos (den f)) (λ below. record { below = below })
+    (λ back. absurd (let le = over_le M g f b a q p (record { at_most = back }) in omega (arith, ints, le, less)))
+
+pub below_then_at_most : (f u g : Fraction) → IsBelow f u → AtMost u g → IsBelow f g
+below_then_at_most f u g less le =
+    let (M, some, at) = common_denominator_exists 3 (among (f ∷ u ∷ g ∷ [])) in
+    let (a, oa) = at 0 (omega arith) in
+    let (b, ob) = at 1 (omega arith) in
+    let (c, oc) = at 2 (omega arith) in
+    less_is_below M f g a c oa oc (omega (arith, ints, below_over M f u a b some oa ob less, over_le M u g b c ob oc le))

@@ -72,7 +72,8 @@ pub record LiesInPair (d : ℕ) (X : ℕ → ℤ) (pair : ListedPair) (c : ℕ) 
   pub low : AtMost (share (10 ^ 9) (pair.low c)) (share d (X c))
   pub high : AtMost (share d (X c)) (share (10 ^ 9) (pair.high c))
 
--- at each step, in each variable cell
+-- at each step, in each variable cell; there are as many vectors and pairs as steps
 abbrev pub LieInPairs : FlowModel → ℕ → List TimeStep → List (ℕ → ℤ) → List ListedPair → Type 0
+LieInPairs m d [] [] [] = Unit {0}
 LieInPairs m d (at ∷ steps) (X ∷ Xs) (pair ∷ pairs) = All (LiesInPair d X pair) (variable_cells m at.period) × LieInPairs m d steps Xs pairs
-LieInPairs m d _ _ _ = Unit {0}
+LieInPairs m d _ _ _ = ⊥
