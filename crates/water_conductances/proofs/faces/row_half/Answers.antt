@@ -1,0 +1,15 @@
+use Rattle.water_conductances.proofs.Common.{ap, sym, subst, ◌∙◌, delr_positive, IsHalf, dec_at}
+use Rattle.conductance_bounds.specs.declared.horizontal.Half.{Half}
+use Rattle.water_conductances.proofs.faces.row_half.Goals as goal
+
+pub returns-clause-is : goal.returns-clause-is
+returns-clause-is c =
+    let along = c.delr_at-along.ensures in
+    let hk = c.dec_at-hk.ensures ∙ ap (λ xs. dec_at xs c.args.cell) c.as_slice.ensures in
+    λ i. record { along = along i; hk = hk i; thick_lo = c.args.thick.lo; thick_hi = c.args.thick.hi }
+
+pub returns-clause-fits : goal.returns-clause-fits
+returns-clause-fits c =
+    let valid = c.requires.model.cells c.args.cell c.requires.cell c.requires.active in
+    let P : Half → Type 0 = λ h. IsHalf h in
+    subst P (sym (returns-clause-is c)) (record { along = delr_positive c.args.model.now c.args.cell c.requires.model; hk = valid.hk; thick = c.requires.thick })

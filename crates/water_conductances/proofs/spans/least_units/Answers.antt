@@ -1,0 +1,49 @@
+use Rattle.water_conductances.proofs.Common.{FitsSigned, rules, arith, ap, ◌≡◌, ◌≤◌, ◌^◌, ◌*ℤ◌, ◌-ℤ◌, ◌∙◌, ℤ, pos, neg_ℤ, sym, subst, ints, to_z-of_z, int_min}
+use Rattle.water_conductances.proofs.Common.{w128, w64, Lower, Upper, unsigned_abs, Dec, IsDec, IsSignedCeiling, IsSignedFloor, number, bottom_at, top_at}
+use Rattle.water_conductances.proofs.Common.{bottom_valid, top_valid}
+use Rattle.water_conductances.proofs.Units.{bottom_ceiling, top_floor}
+unfoldable use Rattle.conductance_bounds.specs.{units_at}
+use Rattle.water_conductances.proofs.spans.least_units.Goals as goal
+
+pub floor_of-top-requires-clause-number : goal.floor_of-top-requires-clause-number
+floor_of-top-requires-clause-number c = subst IsDec (sym c.top_at.ensures) (top_valid c.args.model.now c.args.cell c.requires.model)
+
+pub floor_of-top-requires-clause-low : goal.floor_of-top-requires-clause-low
+floor_of-top-requires-clause-low c =
+    let m = c.args.model.now in
+    let thick = (c.requires.model.cells c.args.cell c.requires.cell c.requires.active).thick in
+    subst (λ (x : Dec). (z : ℤ) → IsSignedFloor z (number x) 18 → 2 ^ 126 ≤ unsigned_abs z → z ≡ neg_ℤ (pos (2 ^ 126))) (sym c.top_at.ensures)
+    (top_floor (top_at m c.args.cell) (bottom_at m c.args.cell) thick)
+
+pub ceiling_of-bottom-requires-clause-number : goal.ceiling_of-bottom-requires-clause-number
+ceiling_of-bottom-requires-clause-number c = subst IsDec (sym c.bottom_at.ensures) (bottom_valid c.args.model.now c.args.cell c.requires.model)
+
+pub ceiling_of-bottom-requires-clause-high : goal.ceiling_of-bottom-requires-clause-high
+ceiling_of-bottom-requires-clause-high c =
+    let m = c.args.model.now in
+    let thick = (c.requires.model.cells c.args.cell c.requires.cell c.requires.active).thick in
+    subst (λ (x : Dec). (z : ℤ) → IsSignedCeiling z (number x) 18 → 2 ^ 126 ≤ unsigned_abs z → z ≡ pos (2 ^ 126)) (sym c.bottom_at.ensures)
+    (bottom_ceiling (top_at m c.args.cell) (bottom_at m c.args.cell) thick)
+
+pub overflow_sub-result : goal.overflow_sub-result
+overflow_sub-result c =
+    let p : FitsSigned w128 c.lower_of.result = search rules in
+    let q : FitsSigned w128 c.ceiling_of-bottom.result = search rules in
+    let r = c.lower_of.ensures.range in
+    let s = c.ceiling_of-bottom.ensures.range in
+    simp to_z-of_z (omega (arith, ints, r.above, c.lower_of.ensures.most, s.above, s.below))
+
+pub returns : goal.returns
+returns c =
+    let p : FitsSigned w128 c.lower_of.result = search rules in
+    let q : FitsSigned w128 c.ceiling_of-bottom.result = search rules in
+    let r = c.lower_of.ensures.range in
+    let s = c.ceiling_of-bottom.ensures.range in
+    let both : FitsSigned w128 (c.lower_of.result -ℤ c.ceiling_of-bottom.result) = omega (arith, ints, r.above, c.lower_of.ensures.most, s.above, s.below) in
+    let x : FitsSigned w128 c.floor_of-top.result = search rules in
+    let y : FitsSigned w64 c.bound_at.result.low = search rules in
+    let v : c.lower_of.result ≡ int_min (c.bound_at.result.low *ℤ pos (10 ^ 9)) c.floor_of-top.result = simp to_z-of_z at c.lower_of.ensures.value in
+    let top = c.floor_of-top.ensures.floor ∙ ap (λ (d : Dec). units_at Lower d 18) c.top_at.ensures in
+    let bottom = c.ceiling_of-bottom.ensures.ceiling ∙ ap (λ (d : Dec). units_at Upper d 18) c.bottom_at.ensures in
+    let lower = v ∙ (λ i. int_min ((c.bound_at.ensures i).low *ℤ pos (10 ^ 9)) (top i)) in
+    simp to_z-of_z (λ i. lower i -ℤ bottom i)
