@@ -14,6 +14,7 @@ from .sources import Array, Source
 from .thickness import demand_even_thickness, take_dry_cells_out, take_start_as_top
 
 START = "THICKSTRT"
+SECTION = "XSECTION"
 LPF_TYPES = ("HK", "HANI", "VK", "VANI", "SS", "SY", "VKCB")
 OPTIONS_OF_CONVERTIBLE = {
     "CONSTANTCV": "with convertible layers it keeps the vertical conductance of full cells, which isn't read",
@@ -98,16 +99,30 @@ def read_bas6(reading: Reading) -> None:
         reading.need(f"{said} written as FREE: the deck is in columns of fixed width")
     if "CHTOCH" in options:
         reading.need("CHTOCH dropped: it only adds flows between constant cells to MODFLOW's budget")
-    if "XSECTION" in options:
-        raise Problem(
-            "XSECTION (MODFLOW reads the word after a # too) changes how arrays are read: load and save the model"
-            " by FloPy"
-        )
-    shape = deck.nrow, deck.ncol
-    deck.ibound = [read_array(reading, *shape, f"IBOUND of layer {k + 1}", True) for k in range(deck.nlay)]
+    is_section = SECTION in options
+    if is_section and deck.nrow != 1:
+        raise Problem(f"{SECTION} (MODFLOW reads the word after a # too) is for one row, and the grid has {deck.nrow}")
+    if is_section:
+        reading.need(f"{SECTION}: the one array of the section written as an array of each layer")
+        deck.options["BAS6"] = "FREE"
+    deck.ibound = arrays_of_layers(reading, "IBOUND", is_section, is_whole=True)
     s.due = "HNOFLO"
     deck.options["HNOFLO"] = marker(reading, s, quoted_words(s.line(on_blank=""))[0], "HNOFLO")
-    deck.strt = [read_array(reading, deck.nrow, deck.ncol, f"STRT of layer {k + 1}") for k in range(deck.nlay)]
+    deck.strt = arrays_of_layers(reading, "STRT", is_section)
+
+
+def arrays_of_layers(reading: Reading, name: str, is_section: bool, is_whole: bool = False) -> list[Array]:
+    """The array of each layer. Of a section of one row BAS6 has one array, with a line for each layer."""
+    deck = reading.deck
+    if not is_section:
+        shape, layers = (deck.nrow, deck.ncol), range(1, deck.nlay + 1)
+        return [read_array(reading, *shape, f"{name} of layer {layer}", is_whole) for layer in layers]
+    whole = read_array(reading, deck.nlay, deck.ncol, f"{name} of the section", is_whole)
+    words = whole.words * (1 if len(whole.words) > 1 else deck.nlay * deck.ncol)
+    starts = range(0, deck.nlay * deck.ncol, deck.ncol)
+    return [
+        Array(words[at : at + deck.ncol], whole.factor, (1, deck.ncol), whole.file, whole.line) for at in starts
+    ]
 
 
 def marker(reading: Reading, s: Source, word: str, name: str) -> str:

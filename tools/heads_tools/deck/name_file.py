@@ -13,10 +13,12 @@ from .sources import Source
 from .which_modflow import is_simulation
 
 PARAMETER_FILES = ("MULT", "ZONE", "PVAL")
-AS_LPF = {
-    "UPW": "the same equations where every layer is confined and cells side by side are equally thick",
-    "BCF6": "the same equations where every layer is confined, of one or two layers",
+AS_OTHER = {
+    "UPW": ("LPF", "the same equations where every layer is confined and cells side by side are equally thick"),
+    "BCF6": ("LPF", "the same equations where every layer is confined, of one or two layers"),
+    "ETS": ("EVT", "the same evapotranspiration where it has one straight piece (NETSEG 1)"),
 }
+BARRIERS = "HFB6"
 
 
 def read_names(reading: Reading) -> None:
@@ -48,9 +50,13 @@ def read_name(reading: Reading, line: str) -> None:
             reading.parameter_files[kind] = w[2]
         deck.name_lines.append(" ".join(w))
         return
-    if kind in AS_LPF:
-        reading.need(f"{kind} written as LPF: {AS_LPF[kind]}")
-        reading.deck.options[kind], kind = "yes", "LPF"
+    if kind in AS_OTHER:
+        other, why = AS_OTHER[kind]
+        reading.need(f"{kind} written as {other}: {why}")
+        reading.deck.options[kind], kind = "yes", other
+    if kind == BARRIERS and len(w) > 2 and not count_of_barriers(reading, w[2]):
+        reading.need(f"`{line.strip()[:60]}` dropped: the file has no barrier")
+        return
     if kind not in KINDS:
         return reading.refuse(f"{w[0]}: {OTHER_PACKAGES.get(kind, UNKNOWN_PACKAGE)}")
     if len(w) < 3 or not re.fullmatch(r"[+-]?\d+", w[1]):
@@ -63,6 +69,14 @@ def read_name(reading: Reading, line: str) -> None:
     if re.search(r"[^\x21-\x7e]|:", w[2]):
         reading.need(f"`{w[2]}` written as {plain_name(w[2])}")
     deck.name_lines.append(f"{kind} {w[1]} {plain_name(w[2])}")
+
+
+def count_of_barriers(reading: Reading, name: str) -> int:
+    """How many parameters and barriers a file of HFB6 has."""
+    source = reading.open(name)
+    source.comments()
+    w = quoted_words(source.line())
+    return sum(abs(source.integer(word, "a count")) for word in (w[:1] + w[2:3]))
 
 
 def drop_parameter_files(reading: Reading) -> None:

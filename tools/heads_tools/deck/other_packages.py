@@ -12,7 +12,10 @@ OTHER_PACKAGES = {
     "NWT": "the solver of MODFLOW-NWT: take the line out (`heads-tools plain` does)",
     "LMG": "a solver of MODFLOW-2000: take the line out (`heads-tools plain` does)",
     "SMS": "the solver of MODFLOW-USG: take the line out (`heads-tools plain` does)",
-    "HFB6": "barriers change conductances, so the equations; there is no way round in this version",
+    "HFB6": (
+        "barriers change conductances, so the equations; there is no way round in this version (a file without a barrier"
+        " is dropped by `heads-tools plain`)"
+    ),
     "SFR": (
         "streams that route water aren't inside. A river (RIV) with the stages that SFR found is another model: say so"
         " where you use it"
@@ -27,8 +30,10 @@ OTHER_PACKAGES = {
     ),
     "MNW1": "multi-node wells aren't inside. Entries of WEL by layer are another model: say so",
     "MNW2": "multi-node wells aren't inside. Entries of WEL by layer are another model: say so",
+    "SEN": "the sensitivities of MODFLOW-2000 replace the values of parameters: write their values into PVAL",
+    "PES": "the parameter estimation of MODFLOW-2000 changes the values of parameters: write those it found into PVAL",
     "FHB": "write its flows with WEL and its heads with CHD",
-    "ETS": "only EVT, with one straight piece, is inside",
+    "ETS": "only EVT, with one straight piece, is inside: `heads-tools plain` writes ETS with NETSEG 1 so",
     "TDIS6": "this is a model of MODFLOW 6; only MODFLOW-2005's files are read",
     "GWF6": "this is a model of MODFLOW 6; only MODFLOW-2005's files are read",
     "IMS6": "this is a model of MODFLOW 6; only MODFLOW-2005's files are read",

@@ -228,23 +228,15 @@ def read_cluster(reading: Reading, has_layer: bool) -> Cluster:
 
 
 def array_of_parameters(reading: Reading, parts: list[tuple[Parameter, list[Cluster]]], what: str) -> Array:
-    """The array that parameters make: at each cell the sum of their values times their clusters' factors. Where these
-    products have too many digits, but all have one value, it stays the array's factor."""
+    """The array that parameters make: at each cell the sum of their values times their clusters' factors."""
     deck, tables, at = reading.deck, Tables(reading), reading.now.at
     shape, clusters = (deck.nrow, deck.ncol), [(it.value, each) for it, found in parts for each in found]
     if not clusters:
         raise Problem(f"no parameter defines {what}, and the package has parameters of its type")
     with all_digits():
-        factors = [(value, tables.factors(cluster)) for value, cluster in clusters]
-        total = sum((value * factor for value, factor in factors), np.full(shape, ZERO, dtype=object))
-        sums = sum((factor for _, factor in factors), np.full(shape, ZERO, dtype=object))
-    values = {value for value, _ in factors}
-    try:
-        return Array(words_of(total, what), "1", shape, reading.now.name, at)
-    except Problem:
-        if len(values) > 1 or ZERO in values:
-            raise
-    return Array(words_of(sums, what), exact_word(values.pop(), what), shape, reading.now.name, at)
+        parts_of_cells = (value * tables.factors(cluster) for value, cluster in clusters)
+        total = sum(parts_of_cells, np.full(shape, ZERO, dtype=object))
+    return Array(words_of(total, what), "1", shape, reading.now.name, at)
 
 
 def words_of(values: np.ndarray, what: str) -> list[str]:

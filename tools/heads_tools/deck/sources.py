@@ -11,7 +11,7 @@ import numpy as np
 
 from ..common.formats import Column, Field, Skip, format_of
 from ..common.marks import plain
-from ..common.spelling import exact, number, quoted_words
+from ..common.spelling import EXACT, exact, number, quoted_words
 from ..common.text import Problem, on_disk, read_raw
 
 
@@ -58,7 +58,7 @@ class Report:
 @dataclass(repr=False)
 class Array:
     """An array of a deck: the words of its numbers, one for a constant, the factor's word ("0": none), and the file and
-    the line on which it begins, where it was read."""
+    the line on which it begins, where it was read. An array of one cell may have a factor, too."""
 
     words: list[str]
     factor: str
@@ -72,7 +72,7 @@ class Array:
 
     @property
     def is_constant(self) -> bool:
-        return len(self.words) == 1
+        return len(self.words) == 1 and (self.factor in ("0", "1") or exact(self.factor) in (0, 1))
 
     def floats(self) -> np.ndarray:
         """The values as doubles, shape (rows, cols)."""
@@ -85,7 +85,7 @@ class Array:
         if self.is_constant:
             return exact(self.words[0])
         value = exact(self.words[at])
-        return value * exact(self.factor) if exact(self.factor) else value
+        return EXACT.multiply(value, exact(self.factor)) if exact(self.factor) else value
 
     def lines(self) -> list[str]:
         """The array as `heads` reads it."""

@@ -9,13 +9,16 @@ from ..common.limits import PLAIN, WIDE
 from ..common.spelling import EXACT, exact, exact_word, quoted_words
 from ..common.text import Problem
 from .array_records import read_array
+from .binary_lists import binary_entries
 from .deck import COLUMNS, EVT_ARRAYS, SCALED, Areal, Entry
-from .parameters import Parameter, array_of_parameters, named, read_head, read_parameters
+from .parameters import Parameter, all_digits, array_of_parameters, named, read_head, read_parameters
 from .reading import Reading
 from .sources import Array, Source
 
 # The arrays that parameters of RCH and EVT make.
 BY_PARAMETERS = ("RECH", "EVTR")
+# The package that is EVT where its evapotranspiration has one piece.
+ONE_PIECE = "ETS"
 
 
 def number_like(word: str) -> bool:
@@ -47,8 +50,30 @@ def read_list(reading: Reading, kind: str) -> None:
         made = multiplied(reading, kind, named(reading, parameters, active))
         if made:
             demand_count(reading, len(own) + len(made), most)
-        deck.lists[kind].append([*own, *made] if made or had_made or count >= 0 else None)
+        is_new = bool(made) or had_made or count >= 0
+        deck.lists[kind].append(summed(reading, kind, [*own, *made]) if is_new else None)
         had_made = bool(made)
+
+
+def summed(reading: Reading, kind: str, entries: list[Entry]) -> list[Entry]:
+    """The entries of a period's list. Where CHD names a cell more than once MODFLOW-2005 adds the heads."""
+    if kind != "CHD" or not reading.as_modflow:
+        return entries
+    by_cell: dict[tuple[int, int, int], list[Entry]] = {}
+    for entry in entries:
+        by_cell.setdefault(entry.cell, []).append(entry)
+    return [found[0] if len(found) == 1 else sum_of(reading, found) for found in by_cell.values()]
+
+
+def sum_of(reading: Reading, entries: list[Entry]) -> Entry:
+    """One entry of CHD with the sums of the entries' heads."""
+    last = entries[-1]
+    where = "layer {} row {} column {}".format(*last.cell)
+    said = f"the cell {where} stands {len(entries)} times in this CHD list: its heads added, as MODFLOW-2005 adds them"
+    reading.report.add("needed", last.file, last.line, said, is_first=True)
+    with all_digits():
+        sums = [sum((exact(entry.words[at]) for entry in entries), Decimal(0)) for at in range(len(last.words))]
+    return replace(last, words=[exact_word(value, "the sum of the heads of CHD") for value in sums])
 
 
 def demand_count(reading: Reading, count: int, most: int) -> None:
@@ -89,9 +114,12 @@ def list_parameters(reading: Reading, kind: str, count: int) -> list[Parameter]:
 
 def multiplied(reading: Reading, kind: str, found: list[tuple[Parameter, list[Entry]]]) -> list[Entry]:
     """The entries that active parameters make."""
-    return [
+    out = [
         replace(entry, words=scaled_words(reading, kind, entry, it.value)) for it, entries in found for entry in entries
     ]
+    for entry in out:
+        demand_place(reading, kind, entry)
+    return out
 
 
 def scaled_words(reading: Reading, kind: str, entry: Entry, factor: Decimal) -> list[str]:
@@ -102,8 +130,6 @@ def scaled_words(reading: Reading, kind: str, entry: Entry, factor: Decimal) -> 
             out[at] = exact_word(EXACT.multiply(exact(out[at]), factor), COLUMNS[kind][at])
         except Problem as error:
             reading.report.add("refusals", entry.file, entry.line, str(error))
-    if kind in ("RIV", "DRN", "GHB") and exact(out[1]) < 0:
-        reading.report.add("refusals", entry.file, entry.line, "Cond is below 0")
     return out
 
 
@@ -116,16 +142,41 @@ def entries_of(reading: Reading, kind: str, count: int) -> list[Entry]:
         w = quoted_words(line)
         first = w[0].upper()
         if first in ("OPEN/CLOSE", "EXTERNAL") and not out:
+            if any(x.upper() == "(BINARY)" for x in w[2:]):
+                out = binary_list(reading, kind, w, count, factor)
+                continue
             source = reading.open(w[1]) if first == "OPEN/CLOSE" else reading.unit(w[1])
             reading.need(f"{first}: list of {source.name} put in place")
-            if any(x.upper() == "(BINARY)" for x in w[2:]):
-                raise Problem("a binary list isn't read: write it as text by FloPy")
         elif first == "SFAC" and not out:
             factor = source.number(w[1])
             reading.need(f"SFAC {w[1]} multiplied out")
         else:
             out.append(entry_of(reading, kind, source, line, columns, factor))
     return out
+
+
+def binary_list(reading: Reading, kind: str, w: list[str], count: int, factor: str) -> list[Entry]:
+    """The entries of a binary file that a list names, by its name or its unit."""
+    is_named = w[0].upper() == "OPEN/CLOSE"
+    name = w[1] if is_named else reading.deck.units.get(w[1], w[1])
+    found = binary_entries(reading, kind, name, count, is_named)
+    for entry in found:
+        demand_place(reading, kind, entry)
+    return [replace(e, words=scaled_words(reading, kind, e, exact(factor))) for e in found] if factor else found
+
+
+def demand_place(reading: Reading, kind: str, entry: Entry) -> None:
+    """Refuses an entry outside of the grid, or with a conductance below 0."""
+    deck = reading.deck
+    if not all(1 <= x <= n for x, n in zip(entry.cell, (deck.nlay, deck.nrow, deck.ncol))):
+        reading.report.add(
+            "refusals",
+            entry.file,
+            entry.line,
+            f"layer, row, column {entry.cell} lie outside the grid of {deck.nlay}, {deck.nrow}, {deck.ncol}",
+        )
+    if kind in ("RIV", "DRN", "GHB") and exact(entry.words[1]) < 0:
+        reading.report.add("refusals", entry.file, entry.line, "Cond is below 0")
 
 
 def entry_of(reading: Reading, kind: str, source: Source, line: str, columns: int, factor: str) -> Entry:
@@ -136,14 +187,6 @@ def entry_of(reading: Reading, kind: str, source: Source, line: str, columns: in
             "needed", source.name, source.at, "missing numbers of an entry written as 0, as MODFLOW-2005 reads them"
         )
     layer, row, column = (source.integer(x, "a layer, row or column") for x in w[:3])
-    cell = layer, row, column
-    if not all(1 <= x <= n for x, n in zip(cell, (deck.nlay, deck.nrow, deck.ncol))):
-        reading.report.add(
-            "refusals",
-            source.name,
-            source.at,
-            f"layer, row, column {cell} lie outside the grid of {deck.nlay}, {deck.nrow}, {deck.ncol}",
-        )
     values = [source.number(x) for x in w[3:]]
     rest = quoted_words(line)[3 + columns :] if deck.is_free else []
     if rest and re.search(r"\d,\d", line) and number_like(rest[0]) and "AUX" not in deck.options[kind].upper():
@@ -156,11 +199,10 @@ def entry_of(reading: Reading, kind: str, source: Source, line: str, columns: in
                 "a decimal comma? `heads` and MODFLOW-2005 take a comma as a blank"
             ),
         )
-    entry = Entry(cell, values, source.name, source.at)
+    entry = Entry((layer, row, column), values, source.name, source.at)
     if factor:
-        return replace(entry, words=scaled_words(reading, kind, entry, exact(factor)))
-    if kind in ("RIV", "DRN", "GHB") and exact(values[1]) < 0:
-        reading.report.add("refusals", source.name, source.at, "Cond is below 0")
+        entry = replace(entry, words=scaled_words(reading, kind, entry, exact(factor)))
+    demand_place(reading, kind, entry)
     return entry
 
 
@@ -175,12 +217,15 @@ def read_evt(reading: Reading) -> None:
 def read_areal(reading: Reading, kind: str, names: tuple[str, ...], layers: str) -> None:
     s, deck = reading.start(kind), reading.deck
     line, declared = after_declaration(reading, s)
+    types = (kind,)
+    if kind == "EVT" and ONE_PIECE in deck.options:
+        line, declared, types = segments_of(reading, s, line)
     option = s.integer(reading.fields(s, line, 1)[0], "the option")
     if option not in (1, 2, 3):
         raise Problem(f"the option is {option}; 1, 2 or 3 are read")
     deck.options[kind] = line if deck.is_free else " ".join(reading.fields(s, line, 2))
     areal = deck.areal[kind] = Areal(option, line=s.at)
-    parameters = read_parameters(reading, declared, (kind,), has_layers=False)
+    parameters = read_parameters(reading, declared, types, has_layers=False)
     names += (layers,) * (option == 2)
     for period in range(len(deck.periods)):
         flags = [
@@ -201,6 +246,14 @@ def read_areal(reading: Reading, kind: str, names: tuple[str, ...], layers: str)
                 f"{layers} is 0 in a column: `heads` reads `no layer`; MODFLOW-2005 stops there, or passes over it"
                 " in newer versions"
             )
+
+
+def segments_of(reading: Reading, s: Source, line: str) -> tuple[str, int, tuple[str, ...]]:
+    """ETS with one segment as EVT: the line of its option, the count of its parameters and their type."""
+    w = reading.fields(s, line, 4)
+    if s.integer(w[3], "NETSEG") > 1:
+        raise Problem(f"NETSEG is {w[3]}: only evapotranspiration of one straight piece (1) is read")
+    return " ".join(w[:2]), s.integer(w[2], "NPETS"), (ONE_PIECE,)
 
 
 def array_by_names(reading: Reading, parameters: list[Parameter], count: int, what: str) -> Array:

@@ -6,7 +6,7 @@ import re
 import numpy as np
 
 from ..common.text import Problem, counted
-from .parameters import decimals
+from .parameters import all_digits, decimals
 from .reading import Reading
 from .sources import Array
 
@@ -54,7 +54,8 @@ def demand_even_thickness(reading: Reading) -> None:
     """UPW takes the saturated thickness of the upstream one of two cells, LPF both: refuses neighbours that differ."""
     deck, active = reading.deck, active_cells(reading)
     for k in range(deck.nlay):
-        thick = decimals(deck.top_of(k)) - decimals(deck.bottom[k])
+        with all_digits():
+            thick = decimals(deck.top_of(k)) - decimals(deck.bottom[k])
         for down, here, there in (
             (1, np.s_[:-1, :], np.s_[1:, :]),
             (0, np.s_[:, :-1], np.s_[:, 1:]),
