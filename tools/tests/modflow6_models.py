@@ -31,11 +31,13 @@ class Drawn:
 
 
 class Draw:
-    """The drawing of one model into a folder."""
+    """The drawing of one model into a folder. `is_line`: of one row or one column, with a K22 of its own."""
 
-    def __init__(self, seed, folder: Path):
-        self.random, self.folder = random.Random(seed), folder
+    def __init__(self, seed, folder: Path, is_line=False):
+        self.random, self.folder, self.is_line = random.Random(seed), folder, is_line
         self.model = Drawn(self.random.randint(1, 2), self.random.randint(1, 3), self.random.randint(2, 4))
+        if is_line:
+            self.model.rows, self.model.cols = self.random.choice([(1, 4), (4, 1)])
 
     def put(self, name, *lines):
         (self.folder / name).write_text("\n".join(lines) + "\n")
@@ -125,9 +127,12 @@ class Draw:
         k22, k22_lines = self.array("K22", shape, 0.1, 3, 2)
         k33, k33_lines = self.array("K33", shape, 0.01, 1, 3)
         has22, has33, over22, over33 = (self.random.random() < x for x in (0.6, 0.7, 0.5, 0.5))
+        has22, over22 = has22 or self.is_line, over22 and not self.is_line
         values["k22"] = [a * b for a, b in zip(values["k"], k22)] if has22 else values["k"]
         values["k33"] = ([a * b for a, b in zip(values["k"], k33)] if over33 else k33) if has33 else values["k"]
-        if not over22:
+        if self.is_line:
+            values["k22"] = k22
+        elif not over22:
             texts = [f"{int(x * 10**6)}e-6" for x in values["k22"]]
             k22_lines = [" K22", " INTERNAL", *self.rows_of(texts, m.cols)]
         options = [" SAVE_FLOWS", *[" K22OVERK"] * (over22 and has22), *[" K33OVERK"] * (over33 and has33)]

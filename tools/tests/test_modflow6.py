@@ -25,13 +25,13 @@ def pairs(text):
     return out
 
 
-def outside(tmp_path, tool, seeds):
+def outside(tmp_path, tool, seeds, is_line=False):
     """Of random models: how many were solved, how many exact heads were looked up, and those outside of their pairs."""
     models, looked, out = 0, 0, []
     for seed in seeds:
         folder = tmp_path / str(seed)
         folder.mkdir()
-        model = Draw(seed, folder).draw()
+        model = Draw(seed, folder, is_line).draw()
         status, said, error = tool("plain", folder / "mfsim.nam", folder / "deck")
         assert status == 0, (seed, said, error)
         text = heads(["run", "p.nam", "--digits", "9"], folder / "deck").stdout
@@ -53,6 +53,15 @@ def outside(tmp_path, tool, seeds):
 def test_exact_heads_of_random_simulations_lie_between_those_of_their_decks(tmp_path, tool):
     models, looked, out = outside(tmp_path, tool, range(40))
     assert models >= 36 and looked > 1000 and out == []
+
+
+@pytest.mark.program
+def test_where_flow_goes_one_way_alone_the_other_conductivity_counts_nowhere(tmp_path, tool):
+    """Models of one row or one column, with K22 over K mostly no decimal."""
+    models, looked, out = outside(tmp_path, tool, range(1000, 1020), is_line=True)
+    assert models >= 18 and looked > 300 and out == []
+    notes = [(tmp_path / str(seed) / "deck" / "plain.txt").read_text() for seed in range(1000, 1020)]
+    assert sum("written with HANI 1" in text for text in notes) > 10
 
 
 @pytest.mark.program

@@ -12,7 +12,7 @@ REFUSALS = [
     ({"m.npf": ("ICELLTYPE\n CONSTANT 0", "ICELLTYPE LAYERED\n CONSTANT 0\n CONSTANT 1\n CONSTANT 0")},
      "m.npf, line 4: ICELLTYPE at (2, 1, 1), and 2 more cells, isn't 0: such a cell's transmissivity changes with the"
      f" head. {CONFINED}"),
-    ({"m.npf": ("K33\n", "K22\n CONSTANT 1\n K33\n")},
+    ({"m.npf": ("K33\n", "K22\n CONSTANT 1\n K33\n"), "m.dis": ("NROW 1", "NROW 2")},
      "m.npf, line 7: K22/K is 1/3, which no decimal says exactly, at (1, 1, 1)"),
     ({"m.npf": (" K\n CONSTANT 3", " K\n CONSTANT 0")},
      "m.npf, line 5: K at (1, 1, 1), and 8 more cells, isn't above 0"),

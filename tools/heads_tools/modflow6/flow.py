@@ -4,7 +4,7 @@ from __future__ import annotations
 from dataclasses import dataclass
 from decimal import Decimal
 
-from ..common.text import Problem
+from ..common.text import Problem, counted
 from .arrays import Reading, Values
 from .blocks import Block, File
 from .grid import ARRAY_BLOCKS, Grid
@@ -72,8 +72,9 @@ def read_conductivities(simulation: Simulation, grid: Grid) -> tuple[list[str], 
         if name in arrays:
             none = [at for at in grid.active() if value_of(safe(arrays[name], at)) <= 0]
             grid.refuse(arrays[name], none, "isn't above 0 (MODFLOW 6 stops here, too)")
+    vka = verticals(grid, arrays.get("K33"), hk, "K33OVERK" in options)
     hani = ratios(grid, arrays.get("K22"), hk, "K22OVERK" in options)
-    return hk, hani, verticals(grid, arrays.get("K33"), hk, "K33OVERK" in options)
+    return hk, hani, vka
 
 
 def safe(values: Values, at: int) -> str:
@@ -85,15 +86,33 @@ def safe(values: Values, at: int) -> str:
 
 
 def ratios(grid: Grid, k22: Values | None, hk: list[str], is_ratio: bool) -> list[str]:
-    """Conductivity along columns over that along rows."""
+    """Conductivity along columns over that along rows. Where no decimal says it, and the cell has no neighbour with flow
+    along one of the two, that one counts nowhere: then both are the other, and `hk` is changed."""
     if k22 is None:
         return ["1"] * grid.cells
     given = k22.text
+    alone: list[int] = []
 
     def ratio(at: int) -> str:
-        return given(at) if is_ratio or not value_of(hk[at]) else quotient_word(given(at), hk[at], "K22/K")
+        if is_ratio or not value_of(hk[at]):
+            return given(at)
+        try:
+            return quotient_word(given(at), hk[at], "K22/K")
+        except Problem:
+            is_in_column = grid.has_neighbour(at, is_along_row=False)
+            if is_in_column and grid.has_neighbour(at, is_along_row=True):
+                raise
+            if is_in_column:
+                hk[at] = given(at)
+        alone.append(at)
+        return "1"
 
-    return grid.each(k22, "1", ratio)
+    out = grid.each(k22, "1", ratio)
+    if alone:
+        where = f"{counted(len(alone), 'cell')}, the first one {grid.cell(alone[0])}"
+        text = f"K22/K is no decimal in {where}, and flow goes along rows or along columns alone there: written with HANI 1"
+        grid.folder.report.add("needed", k22.line(alone[0]).file, k22.line(alone[0]).number, text)
+    return out
 
 
 def verticals(grid: Grid, k33: Values | None, hk: list[str], is_ratio: bool) -> list[str]:

@@ -54,6 +54,12 @@ class Grid:
     def active(self) -> Iterable[int]:
         return (at for at in range(self.cells) if self.is_active[at])
 
+    def has_neighbour(self, at: int, is_along_row: bool) -> bool:
+        """Whether a cell has a neighbour with flow in its row, or else in its column of the layer."""
+        length, step = (self.ncol, 1) if is_along_row else (self.layer, self.ncol)
+        first = at - at % length
+        return any(first <= beside < first + length and self.is_active[beside] for beside in (at - step, at + step))
+
     def refuse(self, values: Values, cells: list[int], text: str) -> None:
         """Refuses an array for these cells, by the line and the place of the first."""
         if cells:
