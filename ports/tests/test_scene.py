@@ -109,5 +109,24 @@ class OfDeck(unittest.TestCase):
         self.assertEqual(found, ["30500000000", "1", "0", "0", "123456789012345678", "-1"])
 
 
+@unittest.skipUnless(shutil.which("node"), "no node")
+class OfZones(unittest.TestCase):
+    def zones(self, zone_file, more=b""):
+        """The zones that the map has of the cells of layer, row and column of three_aquifers, by a zone file."""
+        about = "{ time: 4, zones: read(2), open: (name) => (name === 'sub/z.txt' ? read(3) : undefined) }"
+        again = f"((read) => scene_of_listing(listing, deck, {about}))((n) => new Uint8Array(readFileSync(process.argv[1 + n])))"
+        text = f"((it) => it.zones && [0, 1, 2].map((k) => [[0, 0], [7, 7], [14, 14]].map(([i, j]) => it.zones[it.place(k, i, j)])))({again})"
+        return told(text, made("three_aquifers", "run", "m.nam"), made("three_aquifers", "write", "m.nam"), zone_file, more)
+
+    def test_each_record_is_read(self):
+        rows = b"\n".join(b"%d 6*%d,\t%d %d 6*%d" % (n, n + 1, n + 2, n + 3, n + 4) for n in range(0, 150, 10))
+        file = b"CONSTANT 7\r\nINTERNAL 2 (FREE) -1\r\n" + rows + b"\nopen/close sub/z.txt 0 (FREE) -1\n"
+        found = self.zones(file, b"225*3 more words\n")
+        self.assertEqual(found, [[7, 7, 7], [0, 2 * 72, 2 * 144], [3, 3, 3]])
+
+    def test_a_file_that_cant_be_read_leaves_the_map_without_zones(self):
+        self.assertIsNone(self.zones(b"CONSTANT 7\n"))
+
+
 if __name__ == "__main__":
     unittest.main()

@@ -12,7 +12,7 @@ from types import ModuleType
 HERE = Path(__file__).resolve().parent
 TOOLS = HERE.parents[1] / "tools" / "heads_tools"
 MAP = TOOLS / "map"
-OWN_SCRIPTS = ("host.mjs", "listing.mjs", "deck.mjs", "scene_of.mjs", "unzip.mjs", "page.mjs")
+OWN_SCRIPTS = ("host.mjs", "listing.mjs", "deck.mjs", "zones.mjs", "scene_of.mjs", "unzip.mjs", "page.mjs")
 WORKER_SCRIPTS = ("host.mjs", "worker.mjs")
 
 

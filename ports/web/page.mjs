@@ -164,6 +164,7 @@ async function begin() {
     // What is asked for is kept: the choices may be changed before the answer comes.
     const name = at("name").value, from = folder_of(name), command = at("command").value;
     const asked = { command, name, from, wide: at("wide").checked ? ["--wide"] : [], listing: held.get(at("listing").value) };
+    asked.zones = held.get(at("zones").value);
     const words = words_of(from), began = performance.now(), line = `heads ${words.join(" ")}`;
     drop_result();
     asked.turn = turn;
@@ -205,10 +206,11 @@ async function show_end(asked, line, { status, out, side, taken, fault }, second
 
 /** Shows the map of a listing, on the grid of its deck as the program reads that. */
 async function show_map(asked, listing, verdict) {
-    const { name, from, wide } = asked, { status, out } = await run(["write", from_folder(name, from), ...wide], from);
+    const { name, from, wide, zones } = asked, { status, out } = await run(["write", from_folder(name, from), ...wide], from);
     const source = `Made by heads.html, which isn't proved, of the listing with sha256 ${await sha256(listing)}`;
     if (asked.turn !== turn) return;
-    const about = { time: time_unit(name), title: name, verdict, source };
+    const folder = new Folder(held, from), open = (named) => folder.find(named);
+    const about = { time: time_unit(name), title: name, verdict, source, zones, open };
     const scene = scene_of_listing(listing, status === 0 ? out : undefined, about);
     at("map").hidden = !scene;
     if (!scene) return;
