@@ -7,7 +7,8 @@ from conftest import TOP
 
 import heads_tools
 from heads_tools import read_listing
-from heads_tools.pages.page import Page, bare, shown, write_page
+from heads_tools.pages.page import Page, write_page
+from heads_tools.pages.templates import bare, shown
 from heads_tools.common.text import sha256
 
 STEPS = """HEADS 2 DIGITS 0 UNIT 2
@@ -39,6 +40,19 @@ def plans(example, tool):
     nam = example("pumping_plans")
     assert tool("batch", nam.with_name("plans.list"))[0] == 0
     return nam.parent
+
+
+def test_no_text_of_a_page_is_taken_for_html(tmp_path):
+    """Titles, facts, cells of tables, captions, names of files and links, each with what HTML would read otherwise."""
+    odd = "<b>&\"'"
+    page = Page(odd, [odd], note=odd, verdict=odd, facts=[(odd, odd)], has_svg=True, files=[odd])
+    page.picture("A room", f"{odd}.png", odd, fold=odd)
+    page.table("A room", [odd], [[odd]], fold=odd, is_sorted=True)
+    page.text(odd, odd)
+    page.map("A room", odd, odd)
+    write_page(page, tmp_path)
+    text = (tmp_path / "index.html").read_text()
+    assert "<b>" not in text and text.count("&lt;b&gt;&amp;&#34;&#39;") == 22 and text.count("<h2") == 3
 
 
 def test_what_stands_between_backticks_is_code_and_no_folder_is_shown():

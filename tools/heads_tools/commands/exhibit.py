@@ -11,9 +11,7 @@ import sys
 import tempfile
 import time
 from dataclasses import dataclass, field, replace
-from html import escape
 from pathlib import Path
-from string import Template
 from typing import IO
 
 from ..common.limits import is_wide, limits_of, wide_words
@@ -32,7 +30,7 @@ from ..listing.what_is_said import NOT_THE_MOST, Words, words_of
 from ..listing.zones import read_zones
 from ..pages.look import look
 from ..pages.looking import title_of
-from ..pages.page import bare, shown
+from ..pages.templates import rendered
 from ..program.explain import explain
 from ..program.program import TOP, Ended, Version, beside, digits_of, program_file, record_of, version
 from ..program.reading import files_of
@@ -78,21 +76,7 @@ class Exhibit:
 
     def page(self) -> str:
         """judge.html."""
-        frame = Template(Path(__file__).with_name("judge.html").read_text(encoding="utf-8"))
-        quote = lambda line, kind: f'<blockquote class="{kind}">{shown(line)}</blockquote>'
-        maps = (f'<p><img src="{escape(name)}" alt="cells whose heads lie below their tops"></p>' for name in self.maps)
-        return frame.substitute(
-            title=bare(self.title),
-            verdict=shown(self.verdict),
-            may="\n".join(quote(line, "may") for line in self.may or [NOTHING]),
-            may_not="\n".join(quote(line, "not") for line in self.words.may_not)
-            + f"\n<p>{shown(self.words.why_not)}</p>",
-            tops="\n".join([*(f"<p>{shown(line)}</p>" for line in self.tops), *maps]),
-            proved=shown(self.words.proved),
-            tests=shown(self.words.tests),
-            commands=escape("\n".join(self.commands)),
-            facts="".join(f"<dt>{shown(name)}</dt><dd>{shown(text)}</dd>" for name, text in self.facts),
-        )
+        return rendered("judge.html", told=self, may=self.may or [NOTHING])
 
 
 def exhibit(nam: Path, folder: Path, options: list[str], out: IO[str]) -> int:

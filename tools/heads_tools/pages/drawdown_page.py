@@ -134,7 +134,7 @@ def draw(it: Drawdown, folder: Path, cells: list[Cell], files: list[str]) -> Non
     page.text("Drawdown", f"In {it.unit}, at the end of the last step, and of that where it is deepest in the cell.")
     page.table("Drawdown", ["cell", "at the end of", "from", "to"], rows)
     if about := write_drawdown_map(it, folder, page):
-        page.add("Maps", f'<p><a href="{NAME}">A map to point at</a>: {about}</p>')
+        page.map("Maps", NAME, about)
     album = Album(folder)
     draw_maps(it, album, page)
     draw_curves(it, album, page, chosen)

@@ -93,7 +93,7 @@ def look_at_map(
 def add_map(it: Look, base: Listing | None, zones: np.ndarray | None) -> None:
     """The map to point at, beside the page, with a link to it."""
     if about := write_map(it, base, zones):
-        it.page.add(HEADS, f'<p><a href="{NAME}">A map to point at</a>: {about}</p>')
+        it.page.map(HEADS, NAME, about)
 
 
 def make_folder(folder: Path) -> None:

@@ -3,9 +3,7 @@ from __future__ import annotations
 
 import json
 from functools import cache
-from html import escape
 from pathlib import Path
-from string import Template
 from typing import Protocol, Sequence, TypeVar
 
 import numpy as np
@@ -20,7 +18,8 @@ from ..planning.drawdown_weather import Weathered
 from .looking import Looking, plan_for
 from .map_data import CHANGE, FALL, HEAD, Difference, Field, Scene, bottoms_of
 from .one_page import one_script, policy
-from .page import Page, bare, shown
+from .page import Page
+from .templates import rendered
 
 PARTS = Path(__file__).parents[1] / "map"
 NAME = "map.html"
@@ -181,18 +180,9 @@ def parts() -> tuple[str, str, str]:
 def write(folder: Path, page: Page, scene: Scene, about: str, has_links: bool) -> None:
     script, style, elements = parts()
     data = json.dumps(scene.data(), separators=(",", ":")).replace("<", "\\u003c")
+    about = f"{scene.source}. {about}".strip()
+    values = {"policy": policy(script, style), "style": style, "script": script, "map": elements, "data": data}
     with whole_file(folder / NAME) as file:
         file.write(
-            Template((PARTS / "page.html").read_text(encoding="utf-8")).substitute(
-                policy=policy(script, style),
-                style=style,
-                title=bare(page.title),
-                kind={True: "yes", False: "no", None: ""}[page.is_good],
-                verdict=shown(scene.verdict),
-                map=elements,
-                about=escape(f"{scene.source}. {about}".strip()),
-                links=' <a href="index.html">Tables and pictures</a>' if has_links else "",
-                data=data,
-                script=script,
-            )
+            rendered("map.html", page=page, verdict=scene.verdict, about=about, has_links=has_links, **values)
         )

@@ -150,7 +150,7 @@ def draw(it: Weathered, folder: Path, tables: list[str], named: str, at_well: li
     for text in at_well:
         page.text("HK within ranges", text)
     if about := write_weather_map(it, folder, page):
-        page.add("Maps", f'<p><a href="{NAME}">A map to point at</a>: {about}</p>')
+        page.map("Maps", NAME, about)
     album = Album(folder)
     draw_maps(it, album, page)
     draw_curves(it, album, page, cells)
