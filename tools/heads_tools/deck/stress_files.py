@@ -217,7 +217,7 @@ def read_evt(reading: Reading) -> None:
 def read_areal(reading: Reading, kind: str, names: tuple[str, ...], layers: str) -> None:
     s, deck = reading.start(kind), reading.deck
     line, declared = after_declaration(reading, s)
-    types = (kind,)
+    types: tuple[str, ...] = (kind,)
     if kind == "EVT" and ONE_PIECE in deck.options:
         line, declared, types = segments_of(reading, s, line)
     option = s.integer(reading.fields(s, line, 1)[0], "the option")
