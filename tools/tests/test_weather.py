@@ -308,7 +308,16 @@ def test_the_page_says_what_may_be_said_and_leaves_the_deck_as_it_is(valley, too
     assert (row["drawdown_lower"], row["drawdown_upper"]) == ("5.378731366", "5.378731629")
     page = (tmp_path / "out" / "index.html").read_text()
     assert "greatest_layer1.png" in page and "least_layer1.png" in page and '<p class="verdict ">' in page
+    assert '<img src="sources.png"' in page and (tmp_path / "out" / "sources.png").stat().st_size > 5000
     assert "heads check difference_low.nam difference.heads --to difference_high.nam" in page
+
+
+def test_two_decks_of_one_weather_are_said_to_be_that(valley, tool, tmp_path):
+    nam, wells = valley
+    nam.with_name("same.nam").write_bytes(nam.read_bytes())
+    status, out, err = tool("drawdown", nam, wells, "--to", "same.nam", tmp_path / "out")
+    assert status == 0 and "In the weather of from.nam, which is that of same.nam: " in out, out + err
+    assert "period 1 step 1, 1 time unit the plan" in out and "m³ per time unit:" in out
 
 
 def test_results_of_others_and_the_decks_own_folder_are_kept(valley, tool, tmp_path):

@@ -22,6 +22,15 @@ def words(line: str) -> list[str]:
     return [w for w in re.split(r"[ \t,\r]+", line) if w]
 
 
+def one_of(unit: str) -> str:
+    """A unit of which there is one: `time units` where the model names none."""
+    return unit[:-1] if unit.endswith(" units") else unit
+
+
+def with_unit(number: float, unit: str) -> str:
+    return f"{number:.6g} {one_of(unit) if number == 1 else unit}"
+
+
 def counted(count: int, name: str) -> str:
     """1 step, 2 steps."""
     return f"{count} {name}" + ("" if count == 1 else "s")

@@ -289,3 +289,21 @@ def budget_bars(
         axes.invert_yaxis()
         axes.axvline(0, color="k", lw=0.6)
         axes.set(xlabel=f"out (left) and in (right), {unit}", title=title)
+
+
+def span_bars(album: Album, name: str, rows: list[tuple[str, float, float]], label: str, title: str) -> None:
+    """A bar of each row with both ends: solid up to the end that lies nearer to 0, pale up to the other one; where 0
+    lies between, pale to both."""
+    tall = 0.34 * len(rows)
+    with album.figure(name, WIDTH, tall + 1.0) as figure:
+        axes = box(figure, 1.4, 0.6, WIDTH - 1.6, tall)
+        plain(axes)
+        for n, (_, low, high) in enumerate(rows):
+            colour = "steelblue" if high > 0 else "indianred"
+            axes.barh(n, high - low, left=low, color=colour, alpha=0.35)
+            axes.barh(n, max(low, 0.0) + min(high, 0.0), color=colour)
+            axes.plot([low, high], [n, n], ls="none", marker="|", ms=9, color="k", mew=0.8)
+        axes.set_yticks(range(len(rows)), [row[0].lower() for row in rows])
+        axes.invert_yaxis()
+        axes.axvline(0, color="k", lw=0.6)
+        axes.set(xlabel=label, title=title)

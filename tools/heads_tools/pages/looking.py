@@ -15,7 +15,7 @@ from .page import Page
 from .page_facts import facts_of, facts_of_making
 from .pictures import Album, Plan, plan_of
 from ..common.progress import bar
-from ..common.text import LENGTHS, Problem, decimal_text, read_text
+from ..common.text import LENGTHS, Problem, decimal_text, one_of, read_text, with_unit
 from ..program.verdict import Verdict, not_checked
 
 ROOMS = "Heads", "Below the tops", "Sections", "Cells over time", "Budget", "Zones", "Given heads", "Difference"
@@ -70,7 +70,7 @@ class Looking:
 
     def when(self, step) -> str:
         times = self.model.times if self.model else {}
-        end = f", {times[step.period, step.step][1]:.6g} {self.time}" if (step.period, step.step) in times else ""
+        end = f", {with_unit(times[step.period, step.step][1], self.time)}" if (step.period, step.step) in times else ""
         return f"period {step.period} step {step.step}{end}"
 
     def grid(self, values: np.ndarray) -> np.ndarray:
@@ -101,7 +101,7 @@ class Looking:
 
     @property
     def rate(self) -> str:
-        return f"{self.unit}³ per {self.time}"
+        return f"{self.unit}³ per {one_of(self.time)}"
 
     def tell_facts(self) -> None:
         facts = facts_of(self.listing, self.unit, self.model)

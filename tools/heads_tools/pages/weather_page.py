@@ -20,6 +20,7 @@ from ..planning.weather_words import (
     rate,
     sentences,
     source_rows,
+    source_spans,
     unit,
     verdict_of,
     when,
@@ -100,14 +101,20 @@ def chosen(it: Weathered) -> list[tuple[str, Cell]]:
     return [(name, cell) for cell, name in found.items()]
 
 
-def add_sources(it: Weathered, page: Page, effects: list[Effect]) -> None:
-    for effect in effects:
+def add_sources(it: Weathered, album: Album, page: Page, effects: list[Effect]) -> None:
+    """What each term gives more under the plan: a table, and bars with both ends."""
+    room = "Where the water comes from"
+    for n, effect in enumerate(effects):
         page.text(
-            "Where the water comes from",
+            room,
             f"What each term gives more under the plan, {when(it, effect)}, in {rate(it)}: by the sums of its least and"
             " greatest flows, and by balance, since all terms together give what the plan's wells take (ALL).",
         )
-        page.table("Where the water comes from", ["term", "from", "to"], source_rows(it, effect, 6))
+        name, about = f"sources{'_deepest' * n}", f"Where the plan's water comes from, {when(it, effect)}"
+        title = f"The plan's water, {when(it, effect)}"
+        curves.span_bars(album, name, source_spans(effect), f"more under the plan, {rate(it)}", title)
+        page.picture(room, f"{name}.png", f"{about}: solid up to the end nearer to 0, pale up to the other one")
+        page.table(room, ["term", "from", "to"], source_rows(it, effect, 6))
 
 
 def commands(it: Weathered) -> list[str]:
@@ -136,7 +143,7 @@ def draw(it: Weathered, folder: Path, tables: list[str], named: str, at_well: li
     page = Page(f"{named}: what {it.plan.name} does, {it.weather}", files=[*tables, "difference.heads", NOTES])
     page.verdict, page.is_good = verdict_of(it), None if it.is_certified else False
     page.facts = [
-        *facts_of(it.listing, unit(it), it.model, "Differences"),
+        *facts_of(it.listing, unit(it), it.model, "Difference"),
         *(fact for name, each in zip(("Base", "Plan"), it.heads) for fact in facts_of(each, unit(it), None, name)),
         *facts_of_making(it.verdicts),
     ]
@@ -155,7 +162,7 @@ def draw(it: Weathered, folder: Path, tables: list[str], named: str, at_well: li
     draw_maps(it, album, page)
     draw_curves(it, album, page, cells)
     last, deep = it.effects[-1], worst(it)
-    add_sources(it, page, [last] + ([deep] if deep is not last else []))
+    add_sources(it, album, page, [last] + ([deep] if deep is not last else []))
     page.text("Once more", f"{spelled_as(it)} In this folder, with the program whose sha256 stands above:")
     for line in commands(it):
         page.text("Once more", f"`{line}`")

@@ -9,7 +9,7 @@ from pathlib import Path
 
 import numpy as np
 
-from ..common.text import Problem, counted, decimal_text, down, up
+from ..common.text import Problem, counted, decimal_text, down, up, with_unit
 from ..common.whole_files import whole_file
 from ..deck.model import Model
 from ..listing.below_top import THINNER, BelowTop
@@ -140,7 +140,7 @@ class Drawdown:
 
     def at(self, change: Change) -> str:
         time = self.time(change)
-        end = f", {time:.6g} {self.model.time}" if self.model and time is not None else ""
+        end = f", {with_unit(time, self.model.time)}" if self.model and time is not None else ""
         return f"period {change.period} step {change.step}{end}"
 
     def time(self, change: Change) -> float | None:

@@ -93,7 +93,9 @@ class Weathered:
         if self.high is self.base:
             return f"in the weather of {self.base.name}"
         differing = what_differs(self.base.deck, self.high.deck)
-        named = " and ".join([", ".join(differing[:-1])] * (len(differing) > 1) + differing[-1:]) or "the weather"
+        if not differing:
+            return f"in the weather of {self.base.name}, which is that of {self.high.name}"
+        named = " and ".join([", ".join(differing[:-1])] * (len(differing) > 1) + differing[-1:])
         return f"whatever the {named} may be between those of {self.base.name} and {self.high.name}"
 
 

@@ -5,13 +5,13 @@ from pathlib import Path
 
 import numpy as np
 
-from ..common.text import counted, decimal_text, down, up
+from ..common.text import counted, decimal_text, down, one_of, up, with_unit
 from ..common.whole_files import whole_file
 from ..listing.below_top import BelowTop
 from ..listing.cell_lines import write_cells
 from .drawdown import place_of, told, tops_lines
 from .drawdown_weather import Cell, Effect, Weathered
-from .plan_sources import FLOW_PLACES
+from .plan_sources import FLOW_PLACES, Pair
 
 NOT_PROVED = (
     "Not proved by machine: that the two difference decks enclose the difference of the plans' heads in each such"
@@ -31,12 +31,12 @@ def unit(it: Weathered) -> str:
 
 
 def rate(it: Weathered) -> str:
-    return f"{it.model.length}³ per {it.model.time}"
+    return f"{it.model.length}³ per {one_of(it.model.time)}"
 
 
 def when(it: Weathered, effect: Effect) -> str:
     end = it.model.times.get((effect.period, effect.step))
-    return f"period {effect.period} step {effect.step}" + (f", {end[1]:.6g} {it.model.time}" if end else "")
+    return f"period {effect.period} step {effect.step}" + (f", {with_unit(end[1], it.model.time)}" if end else "")
 
 
 def cell_at(it: Weathered, at: int) -> Cell:
@@ -131,12 +131,20 @@ def lines(it: Weathered) -> list[str]:
     return out + [f"SOURCE {low} {high} {name}" for name, low, high in source_rows(it, last)]
 
 
-def source_rows(it: Weathered, effect: Effect, shown: int | None = None) -> list[list[str]]:
+def source_pairs(effect: Effect) -> dict[str, Pair]:
     """What each term gives more under the plan, by sums and by balance, and what the plan's wells take of all."""
+    return {name: pair for name, pair in effect.sources.terms.items() if any(pair)} | {"ALL": effect.sources.takes}
+
+
+def source_rows(it: Weathered, effect: Effect, shown: int | None = None) -> list[list[str]]:
     places = it.listing.flow_places if shown is None else shown
-    pairs = {name: pair for name, pair in effect.sources.terms.items() if any(pair)} | {"ALL": effect.sources.takes}
     text = lambda pair: [side(n, FLOW_PLACES, places) for side, n in zip((down, up), pair)]
-    return [[name, *text(pair)] for name, pair in pairs.items()]
+    return [[name, *text(pair)] for name, pair in source_pairs(effect).items()]
+
+
+def source_spans(effect: Effect) -> list[tuple[str, float, float]]:
+    """The same for a picture."""
+    return [(name, low / 10**FLOW_PLACES, high / 10**FLOW_PLACES) for name, (low, high) in source_pairs(effect).items()]
 
 
 def write_tables(it: Weathered, folder: Path) -> list[str]:
