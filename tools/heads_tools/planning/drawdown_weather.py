@@ -86,17 +86,27 @@ class Weathered:
         return all(seen.is_certified for seen in self.verdicts)
 
     @property
+    def differing(self) -> list[str]:
+        """What of the weather differs between the two decks."""
+        return [] if self.high is self.base else what_differs(self.base.deck, self.high.deck)
+
+    @property
     def weather(self) -> str:
         """For which weather it is said."""
         if self.asked.is_any:
             return "whatever the weather is"
         if self.high is self.base:
             return f"in the weather of {self.base.name}"
-        differing = what_differs(self.base.deck, self.high.deck)
+        differing = self.differing
         if not differing:
             return f"in the weather of {self.base.name}, which is that of {self.high.name}"
         named = " and ".join([", ".join(differing[:-1])] * (len(differing) > 1) + differing[-1:])
         return f"whatever the {named} may be between those of {self.base.name} and {self.high.name}"
+
+    @property
+    def is_chosen(self) -> bool:
+        """Whether it is said of more than one weather."""
+        return self.asked.is_any or bool(self.differing)
 
 
 def weathered(asked: Asked, folder: Path) -> Weathered:

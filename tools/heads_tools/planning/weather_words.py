@@ -75,12 +75,17 @@ def change_at(it: Weathered, effect: Effect, at: int) -> str:
     return told(-int(effect.high[at]), -int(effect.low[at]), unit(it), where=place_of(cell_at(it, at)))
 
 
+def said_weather(it: Weathered) -> str:
+    return it.weather + f", {SAME}" * it.is_chosen
+
+
 def sentences(it: Weathered) -> list[str]:
     last, deep = it.effects[-1], worst(it)
     out = [verdict_of(it), *it.plan.said, *([f"{ANY}."] if it.asked.is_any else [])]
-    weather = it.weather[0].upper() + it.weather[1:]
+    weather = said_weather(it)
+    weather = weather[0].upper() + weather[1:]
     most = change_at(it, last, deepest(last))
-    out.append(f"{weather}, {SAME}: at the end of {when(it, last)} {most}, the most of all cells.")
+    out.append(f"{weather}: at the end of {when(it, last)} {most}, the most of all cells.")
     if deep is not last:
         most = change_at(it, deep, deepest(deep))
         out.append(f"The deepest of all {len(it.effects)} steps: at the end of {when(it, deep)} {most}.")
@@ -173,7 +178,7 @@ def may_be_said(it: Weathered) -> list[str]:
     at = deepest(effect)
     if not it.is_certified:
         return ["Nothing may be said of the drawdown: a listing isn't certified."]
-    said = f"{it.weather}, {SAME}, {change_at(it, effect, at)} at the end of {when(it, effect)}"
+    said = f"{said_weather(it)}, {change_at(it, effect, at)} at the end of {when(it, effect)}"
     most, greatest = most_of(it)
     more = f" {ANY}." if it.asked.is_any else ""
     return [
