@@ -6,7 +6,8 @@
 It makes the manual's equations as recheck.py does, solves each time step in fractions, and says whether the solution
 lies between the listed heads. It tests no terms and no flows between zones: take a listing without lines ZONE.
 With a second deck it makes COUNT histories (10 where it is left out): at each time step it draws a deck between the two
-anew, each number of its stresses and STRT by itself, and solves it from the heads of the step before.
+anew, each number of its stresses and STRT by itself, and each given head (CHD) between those that the two decks have at
+this step, and solves it from the heads of the step before.
 A river, a drain and an evapotranspiration is linear in each of its ranges; the ranges are those of the listed heads'
 middle first, then those of the last solution, until they are its own. So what is found is a solution, whatever was
 guessed: its balances are tested to be 0. No floors are used: listings of runs with --wide are taken as they are.
@@ -21,8 +22,9 @@ import sys
 from fractions import Fraction
 from math import lcm
 from random import Random
+from typing import Optional
 
-from recheck import USAGE, ZERO, Entries, Fault, Listing, Model, Step, Values, demand_alike
+from recheck import USAGE, ZERO, Entries, Fault, Listing, Model, Step, Time, Values, demand_alike
 
 FOUND, OUTSIDE, NOT_TRIED = 0, 1, 2
 MOST_CELLS, MOST_ROUNDS, COUNT = 200, 100, 10
@@ -99,8 +101,9 @@ def digits_of(heads: Values) -> int:
     return max((len(str(head.denominator)) for head in heads), default=1)
 
 
-def between(one: Model, two: Model, draw: Random) -> Model:
-    """A deck between two that are alike."""
+def between(one: Model, two: Model, draw: Random, time: Optional[Time] = None) -> Model:
+    """A deck between two that are alike; `time`: the step at which its given heads are drawn, from its begin to its end
+    the same."""
 
     def number(a: Fraction, b: Fraction) -> Fraction:
         return a + (b - a) * Fraction(draw.choice(EIGHTHS), 8) if a != b else a
@@ -114,10 +117,10 @@ def between(one: Model, two: Model, draw: Random) -> Model:
     made = copy.copy(one)
     made.strt = numbers(one.strt, two.strt)
     made.stresses = {k: [entries(a, b) for a, b in zip(p, two.stresses[k])] for k, p in one.stresses.items()}
-    made.given = [
-        {cell: (number(a, b[cell][0]), number(end, b[cell][1])) for cell, (a, end) in heads.items()}
-        for heads, b in zip(one.given, two.given)
-    ]
+    if time is not None:
+        heads, others = one.heads_at(time), two.heads_at(time)
+        drawn = {cell: number(heads[cell], others[cell]) for cell in one.given[time.period + 1] if cell in heads}
+        made.given = [{cell: (head, head) for cell, head in drawn.items()}] * len(one.given)
     return made
 
 
@@ -135,7 +138,7 @@ def follow(one: Model, two: Model, listed: list[tuple[Values, Values]], draw: Ra
     ones; the digits of the longest denominator."""
     old, longest = list(between(one, two, draw).strt), 1
     for time, (lower, upper) in zip(one.times, listed):
-        step = Step(between(one, two, draw), time)
+        step = Step(between(one, two, draw, time), time)
         middle = [(low + high) / 2 for low, high in zip(lower, upper)]
         heads = solve_step(step, middle, old)
         for cell, head in step.constant.items():

@@ -1,6 +1,7 @@
 """solution beside the program: it finds the exact heads, and says where they lie outside."""
 import subprocess
 import sys
+from fractions import Fraction
 
 import pytest
 from conftest import TOOLS, heads
@@ -71,6 +72,26 @@ def test_solutions_of_decks_between_lie_between(tmp_path):
 def test_a_solution_of_a_deck_between_that_lies_outside_is_named(pair, tmp_path):
     status, text = solution(*listing_of_two(tmp_path, *pair), "--to", "b.nam")
     assert status == 1 and text.startswith("OUTSIDE: period 1 step 1, 1 1 2: 1")
+
+
+def test_a_given_head_is_drawn_between_those_that_both_decks_have_at_the_step(tmp_path):
+    """Drawn as entries, 10 to 20 and 20 to 10 would be 10 or 20 at the end of the first step, too."""
+    from random import Random
+    from types import SimpleNamespace
+
+    import solution as module
+
+    ends = {1: (Fraction(10), Fraction(20)), 2: (Fraction(20), Fraction(10))}
+    deck = lambda n: SimpleNamespace(
+        strt=[Fraction(0)], stresses={}, given=[{}, {0: ends[n]}],
+        heads_at=lambda time: {0: ends[n][0] + (ends[n][1] - ends[n][0]) * time.part},
+    )
+    heads_of = lambda part: {
+        module.between(deck(1), deck(2), Random(seed), SimpleNamespace(period=0, part=part)).given[1][0]
+        for seed in range(40)
+    }
+    assert heads_of(Fraction(1, 2)) == {(Fraction(15), Fraction(15))}
+    assert {head for head, _ in heads_of(Fraction(1))} >= {10, 20} and len(heads_of(Fraction(1))) > 4
 
 
 @pytest.mark.program
