@@ -1,7 +1,7 @@
 // What a map shows of its scene: which layer, step and quantity, in which colours, with which contours.
 import { scale_for, zone_colour, DARK, LIGHT } from "./colours.mjs";
 import { contours } from "./contours.mjs";
-import { round_numbers } from "./numbers.mjs";
+import { round_numbers, with_unit } from "./numbers.mjs";
 import { BELOW, SIDES, ZONES } from "./scene.mjs";
 
 const LEVELS = 10, FEW = 4, SHADES = 1024;
@@ -97,7 +97,7 @@ export class Look {
 /** The step's name: period, step, and the time at its end. */
 export function step_name(scene, step) {
     const [period, number, end] = scene.steps[step];
-    return `period ${period} step ${number}${scene.time ? `, ${+end.toPrecision(6)} ${scene.time}` : ""}`;
+    return `period ${period} step ${number}${scene.time ? `, ${with_unit(+end.toPrecision(6), scene.time)}` : ""}`;
 }
 
 export function palette_of(is_paper) {

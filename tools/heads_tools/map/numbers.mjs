@@ -40,6 +40,11 @@ export function index_of(edges, value) {
     return low;
 }
 
+/** A number with its unit; of one `time units` are a `time unit`. */
+export function with_unit(number, unit) {
+    return `${number} ${number === 1 ? unit.replace(/ units$/, " unit") : unit}`;
+}
+
 /** A number with its noun: `1 cell`, `3 cells`. */
 export function counted(count, noun) {
     return `${count} ${noun}${count === 1 ? "" : "s"}`;
