@@ -30,7 +30,7 @@ def page(tool, tmp_path, *words):
 def test_a_page_has_the_models_title_contents_and_a_narrow_form(example, tool, tmp_path):
     nam = example("tide")
     text = page(tool, tmp_path, listed(nam), tmp_path / "look", "--name", nam)
-    title = re.search("(?m)^# *(.+)", nam.read_text()).group(1).strip().replace("'", "&#x27;")
+    title = re.search("(?m)^# *(.+)", nam.read_text()).group(1).strip().replace("'", "&#39;")
     assert f"<h1>{title}</h1>" in text and '<meta name="viewport"' in text
     for room in ("Heads", "Cells over time", "Budget", "Files"):
         place = re.search(rf'<a href="#(\w+)">{room}</a>', text).group(1)
