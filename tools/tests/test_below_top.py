@@ -141,7 +141,7 @@ def test_the_page_of_a_listing_says_it_and_maps_the_cells(drained, tool, tmp_pat
     tool("run", drained)
     status, out, err = tool("look", drained.with_suffix(".heads"), tmp_path / "look", "--name", drained)
     text = (tmp_path / "look" / "index.html").read_text()
-    assert status == 0 and ALL in out and ALL.replace("'", "&#x27;") in text
+    assert status == 0 and ALL in out and ALL.replace("'", "&#39;") in text
     assert "below_top_layer1.png" in text and (tmp_path / "look" / "below_top_layer1.png").is_file()
     assert ALL_FULL not in text
 
@@ -188,7 +188,7 @@ def test_an_exhibit_says_whether_the_layers_are_full(drained, example, tool, tmp
     assert tool("exhibit", drained, tmp_path / "below")[0] == 0
     assert tool("exhibit", example("three_cells"), tmp_path / "full")[0] == 0
     for file in ("judge.html", "EXHIBIT.txt"):
-        text = (tmp_path / "below" / file).read_text().replace("&#x27;", "'")
+        text = (tmp_path / "below" / file).read_text().replace("&#39;", "'")
         assert text.index("What may not be said") < text.index("Whether the layers are full") < text.index(ALL)
         assert "No plan draws the aquifer down by more" in text
         text = (tmp_path / "full" / file).read_text()
