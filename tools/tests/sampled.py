@@ -174,9 +174,6 @@ SAMPLES = {
         lambda _: {"m.wel": "PARAMETER 1 1\n2 53\np Q -20 1\n2 2 3 1\n1 1\n2 2 3 -30\np\n-1 1\np\n"}, "plain"
     ),
     # packages that say nothing more than those that are read
-    "given heads twice": (
-        lambda _: {"m.chd": "2 53\n0 0\n2 0\n2 1 5 8 8.5\n2 1 5 12 12.5\n"}, "plain"
-    ),
     "evapotranspiration of one segment": (
         lambda f: {"m.nam": f["m.nam"].replace("EVT 26 m.evt", "ETS 26 m.ets"), "m.ets": EVT.replace("3 53", "3 53 0 1")},
         "plain",

@@ -106,13 +106,6 @@ def test_a_long_parameter_of_a_constant_multiplier_is_refused(tmp_path, tool):
     assert status == 2 and "m.lpf, line 11" in err and "no deck says it exactly" in err
 
 
-def test_given_heads_of_a_cell_that_stands_twice_are_added(tmp_path, tool):
-    nam = written(tmp_path / "deck", sampled.SAMPLES["given heads twice"][0])
-    assert tool("plain", nam, tmp_path / "out")[0] == 0
-    assert (tmp_path / "out" / "m.chd").read_text().splitlines()[-1] == "2 1 5 20 21"
-    assert "m.chd, line 5: the cell layer 2 row 1 column 5 stands 2 times" in (tmp_path / "out" / "plain.txt").read_text()
-
-
 @pytest.mark.parametrize("auxiliary, entry", [("", (2, 2, 3, -50, 0)), (" AUX IFACE", (2, 2, 3, -50))])
 def test_a_binary_list_of_another_size_is_refused(auxiliary, entry, tmp_path, tool):
     text = f"1 53{auxiliary}\n1 0\nOPEN/CLOSE w.bin (BINARY)\n-1 0\n"

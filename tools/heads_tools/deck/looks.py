@@ -78,7 +78,7 @@ def look_at_entries(model: Model, report: Report) -> None:
                         "refusals",
                         e.file,
                         e.line,
-                        "the cell stands twice in this CHD list (MODFLOW-2005 adds the two heads)",
+                        "the cell stands twice in this CHD list (MODFLOW-2005 adds the two heads): write one entry",
                     )
                 seen.add(e.cell)
     for kind, areal in deck.areal.items():

@@ -11,7 +11,7 @@ from ..common.text import Problem
 from .array_records import read_array
 from .binary_lists import binary_entries
 from .deck import COLUMNS, EVT_ARRAYS, SCALED, Areal, Entry
-from .parameters import Parameter, all_digits, array_of_parameters, named, read_head, read_parameters
+from .parameters import Parameter, array_of_parameters, named, read_head, read_parameters
 from .reading import Reading
 from .sources import Array, Source
 
@@ -50,30 +50,8 @@ def read_list(reading: Reading, kind: str) -> None:
         made = multiplied(reading, kind, named(reading, parameters, active))
         if made:
             demand_count(reading, len(own) + len(made), most)
-        is_new = bool(made) or had_made or count >= 0
-        deck.lists[kind].append(summed(reading, kind, [*own, *made]) if is_new else None)
+        deck.lists[kind].append([*own, *made] if made or had_made or count >= 0 else None)
         had_made = bool(made)
-
-
-def summed(reading: Reading, kind: str, entries: list[Entry]) -> list[Entry]:
-    """The entries of a period's list. Where CHD names a cell more than once MODFLOW-2005 adds the heads."""
-    if kind != "CHD" or not reading.as_modflow:
-        return entries
-    by_cell: dict[tuple[int, int, int], list[Entry]] = {}
-    for entry in entries:
-        by_cell.setdefault(entry.cell, []).append(entry)
-    return [found[0] if len(found) == 1 else sum_of(reading, found) for found in by_cell.values()]
-
-
-def sum_of(reading: Reading, entries: list[Entry]) -> Entry:
-    """One entry of CHD with the sums of the entries' heads."""
-    last = entries[-1]
-    where = "layer {} row {} column {}".format(*last.cell)
-    said = f"the cell {where} stands {len(entries)} times in this CHD list: its heads added, as MODFLOW-2005 adds them"
-    reading.report.add("needed", last.file, last.line, said, is_first=True)
-    with all_digits():
-        sums = [sum((exact(entry.words[at]) for entry in entries), Decimal(0)) for at in range(len(last.words))]
-    return replace(last, words=[exact_word(value, "the sum of the heads of CHD") for value in sums])
 
 
 def demand_count(reading: Reading, count: int, most: int) -> None:
