@@ -442,7 +442,7 @@ class Step:
 
 def demand_alike(one: Model, two: Model) -> None:
     """A ValueError where the decks differ in more than numbers of stresses and STRT. EVTR is 0 in both or in none, EXDP
-    the same, and both heads of an entry of CHD rise from one deck to the other, or both fall."""
+    the same."""
     free: dict[str, object] = {"strt": 0, "stresses": 0, "given": 0}
     shapes = [
         (vars(model) | free, [list(heads) for heads in model.given], list(model.stresses))
@@ -452,8 +452,6 @@ def demand_alike(one: Model, two: Model) -> None:
     ]
     if shapes[0] != shapes[1]:
         raise ValueError("the two decks aren't alike")
-    if any((a[c][0] - b[c][0]) * (a[c][1] - b[c][1]) < 0 for a, b in zip(one.given, two.given) for c in a):
-        raise ValueError("the two heads of an entry of CHD are in two orders")
 
 
 def check_listing(model: Model, listing: Listing, zones: list[int], other: Model) -> None:

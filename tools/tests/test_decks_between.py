@@ -121,7 +121,6 @@ def test_each_deck_has_outputs_of_its_own_for_modflow_and_its_solver(deck, tool,
 
 NOT_ALIKE = {
     "a given head that one deck lacks": ("p.chd", "1\n0 0\n-1 0\n", "m.chd, line 3", "gives the head of cell 1 1 1"),
-    "given heads in two orders": ("p.chd", "1\n1 0\n1 1 1 3.1 3.4\n-1 0\n", "p.chd, line 3", "in another order"),
     "another option": ("p.rch", "1 50\n0\nCONSTANT 0.001\n-1\n", "p.rch, line 1", "the option is 1"),
     "recharge into another layer": (
         "p.rch",

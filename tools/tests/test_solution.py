@@ -74,6 +74,34 @@ def test_a_solution_of_a_deck_between_that_lies_outside_is_named(pair, tmp_path)
     assert status == 1 and text.startswith("OUTSIDE: period 1 step 1, 1 1 2: 1")
 
 
+def crossing(tmp_path, lower, upper):
+    """Two decks whose given head rises from 10 to 20 in one and falls from 20 to 10 in the other, in two steps: 15 in
+    both at the end of the first, 20 and 10 at the end of the second. The middle cell has the mean of it and of 0."""
+    nam, listing = listing_of_two(tmp_path, lower[0], upper[0])
+    (tmp_path / "a.dis").write_text((tmp_path / "a.dis").read_text().replace("1 1 1 SS", "1 2 1 SS"))
+    (tmp_path / "a.bas").write_text("FREE\nINTERNAL 1 (FREE) -1\n-1 1 1\n-999.99\nCONSTANT 0\n")
+    for deck, entry in (("a", "10 20"), ("b", "20 10")):
+        (tmp_path / f"{deck}.chd").write_text(f"1\n1 0\n1 1 3 {entry}\n")
+        names = (tmp_path / f"{deck}.nam").read_text().replace("WEL 14 b.wel", "WEL 14 a.wel")
+        (tmp_path / f"{deck}.nam").write_text(names + f"CHD 15 {deck}.chd\n")
+    first, *_ = text = listing.read_text().splitlines()
+    terms = [line for line in text if line.startswith(("IN", "OUT"))]
+    lines = [first]
+    for step, (low, high) in enumerate(zip(lower, upper), 1):
+        given = ("15.000000000", "15.000000000") if step == 1 else ("10.000000000", "20.000000000")
+        heads_of = ("0.000000000", "0.000000000"), (low, high), given
+        lines += [f"STEP 1 {step}", *(f"HEAD 1 1 {n} {' '.join(pair)}" for n, pair in enumerate(heads_of, 1)), *terms]
+    listing.write_text("\n".join([*lines, "END", ""]))
+    return nam, listing
+
+
+def test_given_heads_may_cross(tmp_path):
+    """The middle cell has half of the given head: 7.5 at the end of the first step, in all decks between."""
+    pairs = crossing(tmp_path, ("7.500000000", "5.000000000"), ("7.500000000", "10.000000000"))
+    status, text = solution(*pairs, "--to", "b.nam", "20")
+    assert status == 0 and text.startswith("FOUND: each of 20 solutions of decks between, of 2 steps lies"), text
+
+
 def test_a_given_head_is_drawn_between_those_that_both_decks_have_at_the_step(tmp_path):
     """Drawn as entries, 10 to 20 and 20 to 10 would be 10 or 20 at the end of the first step, too."""
     from random import Random

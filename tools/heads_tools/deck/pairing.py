@@ -5,7 +5,6 @@ from __future__ import annotations
 from dataclasses import replace
 from typing import Callable
 
-from ..common.spelling import exact
 from ..common.text import Problem
 from .deck import COLUMNS, EVT_ARRAYS, Areal, Deck, Entry
 from .sources import Array
@@ -44,9 +43,6 @@ def pair_entries(kind: str, one: list[Entry], two: list[Entry]) -> tuple[list[En
     a, b = keyed(one), keyed(two)
     keys = [*a, *(key for key in b if key not in a)]
     pairs = [(a.get(key) or lacking(kind, b[key]), b.get(key) or lacking(kind, a[key])) for key in keys]
-    if kind == "CHD":
-        for first, second in pairs:
-            refuse_crossed(first, second)
     return [own(first) for first, _ in pairs], [own(second) for _, second in pairs]
 
 
@@ -74,16 +70,6 @@ def lacking(kind: str, entry: Entry) -> Entry:
         )
     words = ["0" if n == ZEROED[kind] else word for n, word in enumerate(entry.words)]
     return Entry(entry.cell, words, entry.file, entry.line)
-
-
-def refuse_crossed(one: Entry, two: Entry) -> None:
-    """Refuses an entry of CHD of which one deck has the higher head at the period's begin, and the other at its end."""
-    begin, end = (exact(two.words[n]) - exact(one.words[n]) for n in (0, 1))
-    if begin * end < 0:
-        raise Problem(
-            f"{two.file}, line {two.line}: the two heads of cell {place(two.cell)} lie in another order than in"
-            f" {one.file}, line {one.line}: both are at most, or both at least, those of the other deck"
-        )
 
 
 def pair_areal(kind: str, one: Deck, two: Deck) -> None:
