@@ -34,7 +34,7 @@ pub zones_give : (files : FileSet) (grid : Grid) (name : List ℕ) → GivesOnly
 unfolding zones_of
 zones_give files grid name =
     goes_on (name_at (codes "-") 0 name) _ (λ file a.
-        goes_on (file_at files file) _ (λ bytes b. then_ _ (array_files_have_form.integer_grids files file grid.layers grid.rows grid.cols (left_from 1 bytes))
+    goes_on (file_at files file) _ (λ bytes b. then_ _ (array_files_have_form.integer_grids files file grid.layers grid.rows grid.cols (left_from 1 bytes))
     (λ zones many. then_ _ (tested_is file grid zones.0) (λ tested are. ok_gives_only (many, are)))))
 
 small : (z : ℤ) → IsZone z → unsigned_abs z ≤ 999
