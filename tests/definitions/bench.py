@@ -17,7 +17,7 @@ TERMS = ("STORAGE", "CONSTANT HEAD", "WELLS", "DRAINS", "RIVER LEAKAGE", "HEAD D
 LONG = 200
 # A record of records is False by a field, and by the fields around it.
 MOST_NESTED = 3
-OK, NOTHING_PUT = Made("Ok"), record(written=some(()), faults=0)
+OK, NOTHING_PUT = Made("Ok"), some(())
 Bytes = tuple[int, ...]
 
 # The functions and relations that cases call, by the names that they have here.
@@ -135,6 +135,6 @@ def file_set(files: dict[str, bytes]) -> Any:
 
 def put(content: bytes) -> Any:
     """What was seen of a sink that took these bytes."""
-    return record(written=some(tuple(content)), faults=0)
+    return some(tuple(content))
 
 

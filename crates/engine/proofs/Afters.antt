@@ -2,7 +2,7 @@
 use Rattle.engine.proofs.Common.{[], ◌≡◌, ◌++◌, ◌∷◌, Bool, true, false, List, None, Option, Some, inl, inr, refl, subst, sym, ◌∙◌, Put, Text, Status, whole_put}
 use Rattle.engine.proofs.Common.{After, Begins, Case, CutOf, Due, IsCutListing, IsFirstPut, IsListingBeside, IsListingOf, IsRun, IsRunOf, IsValid, Listing}
 use Rattle.engine.proofs.Common.{PutsMore, ReadsFolder, Task, after_text, all_due, broken_off, cut, defined, early, puts_are_joined, lacks_at_first, left}
-use Rattle.engine.proofs.Common.{listed, nothing, put_not_ok, unread, wanting_not_ok, run_of_less, whole, ViewPutsOf, ℕ}
+use Rattle.engine.proofs.Common.{listed, nothing, put_not_ok, unread, wanting_not_ok, run_of_less, whole, ℕ, IsFirstIf, SinkUse, ViewsPut}
 use Rattle.engine.proofs.DeckEnds.{run_map}
 use Rattle.run_puts.specs.declared.puts.Status.TheVariants as status
 
@@ -50,12 +50,12 @@ module _ (beside : Type 0) (text : Text) (case : Case) where
   after_run end more (early meant before after tail b t) = early meant (text ∷ before) after tail (begins_after before after b) t
 
   -- the text was taken, and then the case was run
-  pub run_after : (end : Status) (first more : List Put) → IsFirstPut text None first → IsRunOf ⊥ beside case end more → IsRunOf ⊥ beside (After text case) end (first ++ more)
+  run_after : (end : Status) (first more : List Put) → IsFirstPut text None first → IsRunOf ⊥ beside case end more → IsRunOf ⊥ beside (After text case) end (first ++ more)
   run_after end first more (inl is) run = let P : List Put → Type 0 = λ ps. IsRunOf ⊥ beside (After text case) end (ps ++ more) in subst P (sym is) (after_run end more run)
   run_after end first more (inr (other, same, w)) run = absurd (let bad : Path (Option Status) None (Some other) = same in cc)
 
   -- the text ended the run
-  pub run_before : (end : Status) (puts : List Put) → IsFirstPut text (Some end) puts → IsRunOf ⊥ beside (After text case) end puts
+  run_before : (end : Status) (puts : List Put) → IsFirstPut text (Some end) puts → IsRunOf ⊥ beside (After text case) end puts
   run_before end puts (inl h) = early end [] (text ∷ []) puts (cut [] (text ∷ []) alone) (h [])
   run_before end puts (inr (other, same, w)) =
       let is : other ≡ end = (let both : Path (Option Status) (Some end) (Some other) = same in cc) in
@@ -63,16 +63,32 @@ module _ (beside : Type 0) (text : Text) (case : Case) where
       subst P is (lacks_at_first (Due ⊥ beside (After text case)) (CutOf (After text case)) other puts w)
 
 -- a run that the text ended didn't end Ok
-pub before_not_ok : (text : Text) (end : Status) (puts : List Put) → IsFirstPut text (Some end) puts → end ≡ status.Ok → ⊥
+before_not_ok : (text : Text) (end : Status) (puts : List Put) → IsFirstPut text (Some end) puts → end ≡ status.Ok → ⊥
 before_not_ok text end puts (inl h) e = put_not_ok text end puts h e
 before_not_ok text end puts (inr (other, same, w)) e =
     let is : end ≡ other = (let both : Path (Option Status) (Some end) (Some other) = same in cc) in
     wanting_not_ok other puts w (sym is ∙ e)
 
--- nothing was put to the side
-pub no_views : (k : Task) (leads : List Put → Type 0) (views : Option ℕ) → leads [] → ViewPutsOf k leads views
-no_views k leads None h = h
-no_views k leads (Some n) h = inl h
+-- A text that is put first, if that is asked for.
+module _ (beside : Type 0) (text : Text) (case : Case) where
+  pub run_first : (deck : Bool) (end : Status) (first more : List Put) → IsFirstIf deck text None first → IsRunOf ⊥ beside case end more →
+      IsRunOf ⊥ beside (after_text deck text case) end (first ++ more)
+  run_first true end first more h run = run_after beside text case end first more h run
+  run_first false end first more (none, is) run = let P : List Put → Type 0 = λ ps. IsRunOf ⊥ beside case end (ps ++ more) in subst P (sym is) run
+
+  pub ended_first : (deck : Bool) (end : Status) (puts : List Put) → IsFirstIf deck text (Some end) puts → IsRunOf ⊥ beside (after_text deck text case) end puts
+  ended_first true end puts h = run_before beside text case end puts h
+  ended_first false end puts h = absurd (let bad : Path (Option Status) (Some end) None = h.0 in cc)
+
+-- a run that the text ended didn't end Ok
+pub first_not_ok : (deck : Bool) (text : Text) (end : Status) (puts : List Put) → IsFirstIf deck text (Some end) puts → end ≡ status.Ok → ⊥
+first_not_ok true text end puts h e = before_not_ok text end puts h e
+first_not_ok false text end puts h e = absurd (let bad : Path (Option Status) (Some end) None = h.0 in cc)
+
+-- no view was put
+pub no_views : (k : Task) (views : Option ℕ) (beside : SinkUse) (end : Status) → (end ≡ status.Ok → ⊥) → beside.leads [] → ViewsPut k views beside end
+no_views k None beside end never h = h
+no_views k (Some n) beside end never h = (inl h, λ e. absurd (never e))
 
 -- A case after a text, if that is asked for.
 module _ (deck : Bool) (text : Text) where

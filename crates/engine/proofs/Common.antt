@@ -24,18 +24,18 @@ pub use Rattle.deck_problems.specs.declared.decks.Decks.{Decks}
 pub use Rattle.deck_span.specs.{AreAlike, Choice, DifferenceIsOne, IsFirstDifference, step_from}
 pub use Rattle.deck_span.specs.declared.difference.Difference.{Difference}
 pub use Rattle.engine.specs.{After, Answers, AnswersBeside, AreDecksAs, AreDecksOf, AreItsSteps, ArePairOf, ArePutInTurn, AreTasks, AreText, AreViews}
-pub use Rattle.engine.specs.{AreWatched, Case, Checking, ChecksWritten, Comparing, CutOf, DeckAndListingAreStated, DeckHasSameListing, DecksAndListingAreStated}
-pub use Rattle.engine.specs.{Defines, Due, EndIsDefined, EndsOk, GoesThrough, GoesWell, HasEnded, HasNoList, HeadlineOf, IsCheck, IsDeck, IsDecksRefusal, IsDue}
-pub use Rattle.engine.specs.{IsFirstPut, IsJobEnd, IsJobListing, IsListed, IsListingOf, IsMade, IsNamedFault, IsNoSecond, IsOrder, IsPlain, IsPlainJob}
-pub use Rattle.engine.specs.{IsReadingEnd, IsRunOf, IsRunResult, IsRunText, IsSaid, IsStopNumber, IsStopped, IsUnlikeFault, IsValid, IsValidJob, IsView}
-pub use Rattle.engine.specs.{IsWatched, JobDefines, Jobs, Listing, ListsPairs, Making, MayRead, NoWords, OneDeck, OneDeckListing, OneDeckSpan, OneOf, OneRun}
-pub use Rattle.engine.specs.{OneRunSpan, OneSpan, OneSummary, OneTextVerdict, OneVerdict, ReadsFolder, ReadsNothing, Refuses, RunHeadline, RunSpanHeadline}
-pub use Rattle.engine.specs.{Said, SameDeckHasSameModel, SameModelHasSameListing, Saying, Second, Shows, SidePuts, SpanStated, SpanVerdict, StorageHolds}
-pub use Rattle.engine.specs.{ViewPutsOf, Writing, WrittenIsCertified, after_text, broken_off, but_batch, case_decks, case_listed, case_named, case_of}
-pub use Rattle.engine.specs.{case_parts, case_read, case_rest, certified_line, decks_task, decks_text, defined, files_if, files_of, job_of, job_task, jobs_read}
-pub use Rattle.engine.specs.{lines_of, listing_read, made_fault, made_model, made_task, model_line, names_read, not_alike, of_both, of_first, of_second}
-pub use Rattle.engine.specs.{read_by_name, second_by, span_task_of, steps_read, summed_text, task_of, unread, verdict_line, verdict_status, views_in}
-pub use Rattle.engine.specs.{words_text, zones_read}
+pub use Rattle.engine.specs.{AreWatched, ByDeck, Case, Checking, ChecksWritten, Comparing, CutOf, DeckAndListingAreStated, DeckHasSameListing}
+pub use Rattle.engine.specs.{DecksAndListingAreStated, Defines, Due, EndIsDefined, EndsOk, FolderUse, GoesThrough, GoesWell, HasEnded, HasNoList, HeadlineOf}
+pub use Rattle.engine.specs.{IsAsked, IsCheck, IsDecksRefusal, IsDue, IsFaultOf, IsFirstIf, IsFirstPut, IsJobEnd, IsJobListing, IsListed, IsListingOf, IsMade}
+pub use Rattle.engine.specs.{IsNoSecond, IsOrder, IsPlain, IsReadingEnd, IsRefusedBy, IsRunOf, IsRunResult, IsRunText, IsSaid, IsStopNumber, IsStopped}
+pub use Rattle.engine.specs.{IsTaskRead, IsValid, IsValidJob, IsView, IsWatched, JobDefines, Jobs, Listing, ListsPairs, Making, MayRead, NoWords, OneDeck}
+pub use Rattle.engine.specs.{OneDeckListing, OneDeckSpan, OneOf, OneSpan, OneSummary, OneTextVerdict, OneVerdict, ReadsFolder, ReadsNothing, Refuses}
+pub use Rattle.engine.specs.{RunHeadline, RunSpanHeadline, SameDeckHasSameModel, SameModelHasSameListing, Saying, Second, Serves, Shows, SidePuts, SinkUse}
+pub use Rattle.engine.specs.{SpanStated, SpanVerdict, StorageHolds, ViewsPut, Writing, WrittenIsCertified, after_text, broken_off, but_batch, case_decks}
+pub use Rattle.engine.specs.{case_listed, case_named, case_of, case_parts, case_read, case_rest, certified_line, decks_task, decks_text, defined, failed_write}
+pub use Rattle.engine.specs.{files_if, files_of, folder_use, job_of, job_task, jobs_read, lines_of, listing_read, made_fault, made_model, made_task, model_line}
+pub use Rattle.engine.specs.{names_read, not_alike, of_both, of_first, of_second, read_by_name, second_by, sink_use, span_task_of, steps_read, summed_text}
+pub use Rattle.engine.specs.{task_of, unread, verdict_line, verdict_status, views_in, words_text, zones_read}
 unfoldable pub use Rattle.engine.specs.{second_in}
 pub use Rattle.engine.specs.Batched.{Batched}
 pub use Rattle.engine.specs.OneListing.{OneListing}
@@ -79,8 +79,8 @@ pub use Rattle.record_lines.specs.{Has, Stops, StopsText, ◌>>=◌}
 pub use Rattle.run_puts.proofs.Batches.{batch_run, batch_settles, batches_agree, ends_of_jobs}
 pub use Rattle.run_puts.proofs.Makes.{all_written, early_rose}
 pub use Rattle.run_puts.proofs.Pieces.{IsLate, lacks_at_first, late_not_read, lone_line_is_run, puts_are_joined, run_of_less, tail_late}
-pub use Rattle.run_puts.specs.{Agree, Begins, EndsOutOfMemory, IsBatch, IsEnd, IsLast, IsPut, IsRun, IsUnfinished, NeverCut, PutsMore, Text, all_due, code_of}
-pub use Rattle.run_puts.specs.{cut, early, end_line, failed, first_not_ok, memory_put, nothing, or_else, read_fault_line, status_after, texts, wanting, whole}
+pub use Rattle.run_puts.specs.{Agree, Begins, EndsOutOfMemory, IsBatch, IsEnd, IsLast, IsRun, IsUnfinished, NeverCut, PutsMore, Text, all_due, code_of, cut}
+pub use Rattle.run_puts.specs.{early, end_line, failed, first_not_ok, memory_put, nothing, or_else, read_fault_line, status_after, texts, wanting, whole}
 pub use Rattle.run_puts.specs.declared.job_end.JobEnd.{JobEnd}
 pub use Rattle.run_puts.specs.declared.puts.Status.{Status}
 pub use Rattle.settle_driver.specs.{AddsPhases, EnclosesPair}

@@ -1,11 +1,11 @@
 -- The ends of a command that reads decks, one or two, and then lists them, checks a listing of them, or writes the first one.
-use Rattle.engine.proofs.Common.{reads, [], ◌≡◌, ℕ, List, ◌∷◌, Ok, Err, Result, Option, None, Some, sym, ap, inl, inr, ◌∙◌, FileSet, Rose, InputCounts, Put}
-use Rattle.engine.proofs.Common.{InputFault, Refusal, FlowModel, refused_line, Text, IsEnd, IsRun, Status, Task, ListingOrder, AskedCheck, Case, Refuses}
+use Rattle.engine.proofs.Common.{subst, reads, [], ◌≡◌, ℕ, List, ◌∷◌, Ok, Err, Result, Option, None, Some, sym, ap, inl, inr, ◌∙◌, FileSet, Rose, InputCounts}
+use Rattle.engine.proofs.Common.{Put, InputFault, Refusal, FlowModel, refused_line, Text, IsRun, Status, Task, ListingOrder, AskedCheck, Case, Refuses}
 use Rattle.engine.proofs.Common.{Checking, Writing, read_by_name, Due, ReadsFolder, CutOf, AreDecksAs, Answers, IsReadingEnd, IsValid, defined, Decks}
 use Rattle.engine.proofs.Common.{Comparing, IsListingOf, Begins, all_due, cut, early, nothing, whole, Second, one_deck, Limits, of_both, of_first, of_second}
 use Rattle.engine.proofs.Common.{AreAlike, IfSome, option_map, is_some, unread, case_decks, IsDecksRefusal, listing_read, second_in, two, zones_read}
-use Rattle.engine.proofs.Common.{broken_off, case_named, case_read, case_listed, Defines, IsRunOf}
-use Rattle.engine.proofs.Ends.{ends_without_words, lone_defined, refused_line_answers, read_fault_line_answers, of_case, read_reads}
+use Rattle.engine.proofs.Common.{broken_off, case_named, case_read, case_listed, Defines, IsRunOf, IsFaultOf, refl}
+use Rattle.engine.proofs.Ends.{fault_ends, of_case, read_reads}
 use Rattle.outside.specs.declared.inputs.InputFault.TheVariants as input
 use Rattle.run_puts.specs.declared.puts.Status.TheVariants as status
 
@@ -87,28 +87,48 @@ within_ends {n} {m} {end} {puts} a last case alike x = record {
   valid = elim (x.valid) [ inl stops ↦ inl stops | inr h ↦ inr (within_valid a last case h) ];
 }
 
+-- a fault of the case of decks
+within_fault : (a : FlowModel) (last : Option Second) (case : Case) → IfSome last (λ b. AreAlike a b.model) → (fault : InputFault) → IsFaultOf case fault →
+    IsFaultOf (within a last case) fault
+within_fault a last case alike (input.Refused refusal) (d, valid) =
+    (within_defines a last case (status.Refused refusal) (refused_line refusal ∷ []) alike d, within_valid a last case valid)
+within_fault a None case alike input.ReadFault f = f
+within_fault a (Some b) case alike input.ReadFault f = tt
+within_fault a last case alike input.Memory f = tt
+
 module _ (limits : Limits) (name : Text) (to : Option Text) (files : FileSet) (come : Decks → Case) where
   abbrev Here : Case
   Here = case_named files limits name to come
 
-  module _ {n m : ℕ} {end : Status} {puts : List Put} where
-    refused_by : (refusal : Refusal) → IsDecksRefusal (read_by_name name (reads limits files))
-        (option_map (λ last. read_by_name last (second_in limits files)) to) refusal → IsEnd (refused_line refusal) (status.Refused refusal) end puts →
-        Answers Here n m end puts
-    refused_by refusal (of_first h) e = of_case (Refuses refusal)
-        (sym (ap (λ x. case_decks x (option_map (λ last. read_by_name last (second_in limits files)) to) come) h)) (refused_line_answers refusal e)
-    refused_by refusal (of_second a h k) e = of_case (Refuses refusal) (sym (λ i. case_decks (h i) (k i) come)) (refused_line_answers refusal e)
-    refused_by refusal (of_both a b d h k first never same) e =
-        of_case (Comparing a b (come (two a b.model))) (sym (λ i. case_decks (h i) (k i) come)) (lone_defined (refused_line refusal) (status.Refused refusal)
-        (inl (record { difference = d; first = first; unlike = never; status = ap status.Refused same; are = ap (λ (x : Refusal). refused_line x ∷ []) same })) (inl never) e)
+  refused_case : (refusal : Refusal) (other : Case) → Here ≡ other → IsFaultOf other (input.Refused refusal) → IsFaultOf Here (input.Refused refusal)
+  refused_case refusal other is f = let P : Case → Type 0 = λ c. IsFaultOf c (input.Refused refusal) in subst P (sym is) f
 
-    -- no decks were read
+  refused_by : (refusal : Refusal) → IsDecksRefusal (read_by_name name (reads limits files))
+      (option_map (λ last. read_by_name last (second_in limits files)) to) refusal → IsFaultOf Here (input.Refused refusal)
+  refused_by refusal (of_first h) =
+      refused_case refusal (Refuses refusal) (ap (λ x. case_decks x (option_map (λ last. read_by_name last (second_in limits files)) to) come) h) ((refl, refl), tt)
+  refused_by refusal (of_second a h k) = refused_case refusal (Refuses refusal) (λ i. case_decks (h i) (k i) come) ((refl, refl), tt)
+  refused_by refusal (of_both a b d h k first never same) = refused_case refusal (Comparing a b (come (two a b.model))) (λ i. case_decks (h i) (k i) come) (
+    inl (record { difference = d; first = first; unlike = never; status = ap status.Refused same; are = ap (λ (x : Refusal). refused_line x ∷ []) same }),
+    inl never,
+  )
+
+  -- no decks were read
+  pub fault_of_decks : ((d : Decks) → ReadsFolder (come d)) → (fault : InputFault) → AreDecksAs limits name to files (Err fault) → IsFaultOf Here fault
+  fault_of_decks all (input.Refused refusal) p = refused_by refusal p
+  fault_of_decks all input.ReadFault p = decks_reads (read_by_name name (reads limits files)) (option_map (λ last. read_by_name last (second_in limits files)) to) come all
+  fault_of_decks all input.Memory p = tt
+
+  -- decks were read, and what comes then has a fault
+  pub decked_fault : (d : Decks) → AreDecksAs limits name to files (Ok d) → (fault : InputFault) → IsFaultOf (come d) fault → IsFaultOf Here fault
+  decked_fault d p fault f =
+      let P : Case → Type 0 = λ c. IsFaultOf c fault in
+      subst P (case_within limits name to files come d p) (within_fault d.first p.last (come d) p.alike fault f)
+
+  module _ {n m : ℕ} {end : Status} {puts : List Put} where
     pub ends_undecked : ((d : Decks) → ReadsFolder (come d)) → (fault : InputFault) → AreDecksAs limits name to files (Err fault) →
         InputCounts {T = Decks} n m (Err fault) → IsReadingEnd fault end puts → Answers Here n m end puts
-    ends_undecked all (input.Refused refusal) p counts h = refused_by refusal p h
-    ends_undecked all input.ReadFault p counts h =
-        read_fault_line_answers (decks_reads (read_by_name name (reads limits files)) (option_map (λ last. read_by_name last (second_in limits files)) to) come all) counts h
-    ends_undecked all input.Memory p counts h = ends_without_words h
+    ends_undecked all fault p counts h = fault_ends Decks Here fault (fault_of_decks all fault p) counts h
 
     -- decks were read
     pub ends_decked : (d : Decks) → AreDecksAs limits name to files (Ok d) → Answers (come d) n m end puts → Answers Here n m end puts

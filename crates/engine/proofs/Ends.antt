@@ -4,7 +4,7 @@ use Rattle.engine.proofs.Common.{Refusal, usage_line, FlowModel, IsModel, most_b
 use Rattle.engine.proofs.Common.{memory_put, status_after, Text, Status, tail_late, lone_line_is_run, lacks_at_first, run_of_less, Case, NoWords, Refuses}
 use Rattle.engine.proofs.Common.{made_model, Due, ReadsFolder, CutOf, IsMade, Answers, IsStopped, IsValid, defined, unread, read_by_name, made_task}
 use Rattle.engine.proofs.Common.{summed_text, IsReadingEnd, made_fault, InputFault, ListingEnd, last_line, listing, status_of, made_files, made_name, Plain}
-use Rattle.engine.proofs.Common.{IsSummarized, reads, Defines, InputCounts, IsRun, case_read, Making, PutsMore}
+use Rattle.engine.proofs.Common.{IsSummarized, reads, Defines, InputCounts, IsRun, case_read, Making, PutsMore, IsFaultOf}
 use Rattle.engine.proofs.Dues.{late_stops}
 use Rattle.listing_summary.specs.declared.summary.Summary.{Summary}
 use Rattle.outside.specs.declared.inputs.InputFault.TheVariants as input
@@ -50,7 +50,23 @@ pub read_reads : {T : Type 0} (come : T → Case) → ((x : T) → ReadsFolder (
 read_reads come reads (Ok x) = reads x
 read_reads come reads (Err refusal) = tt
 
+-- what could not be read has a fault of its case
+pub fault_of_reading : {T V : Type 0} (r : Result T Refusal) (come : T → Case) (view : V → T) → ((x : T) → ReadsFolder (come x)) → (fault : InputFault) →
+    IsReading view r (Err fault) → IsFaultOf (case_read r come) fault
+fault_of_reading {T} r come view reads (input.Refused refusal) is =
+    let P : Result T Refusal → Type 0 = λ y. IsFaultOf (case_read y come) (input.Refused refusal) in
+    subst P (sym is) ((refl, refl), tt)
+fault_of_reading r come view reads input.ReadFault is = read_reads come reads r
+fault_of_reading r come view reads input.Memory is = tt
+
 module _ {n m : ℕ} {end : Status} {puts : List Put} where
+  -- a run ends by a fault of its case
+  pub fault_ends : (T : Type 0) (case : Case) (fault : InputFault) → IsFaultOf case fault → InputCounts {T = T} n m (Err fault) → IsReadingEnd fault end puts →
+      Answers case n m end puts
+  fault_ends T case (input.Refused refusal) (d, valid) counts h = lone_defined (refused_line refusal) (status.Refused refusal) d valid h
+  fault_ends T case input.ReadFault read counts h = read_fault_line_answers read counts h
+  fault_ends T case input.Memory f counts h = ends_without_words h
+
   pub ends_usage : IsLast usage_line status.Usage end puts → Answers NoWords n m end puts
   ends_usage h = lone_defined usage_line status.Usage (refl, refl) tt (inl h)
 
@@ -64,9 +80,7 @@ module _ {n m : ℕ} {end : Status} {puts : List Put} where
 
     pub ends_unread : {V : Type 0} (view : V → T) → ((x : T) → ReadsFolder (come x)) → (fault : InputFault) → IsReading view r (Err fault) →
         InputCounts {T = V} n m (Err fault) → IsReadingEnd fault end puts → Answers (case_read r come) n m end puts
-    ends_unread view reads (input.Refused refusal) is counts h = let P : Result T Refusal → Type 0 = λ y. Answers (case_read y come) n m end puts in subst P (sym is) (refused_line_answers refusal h)
-    ends_unread view reads input.ReadFault is counts h = read_fault_line_answers (read_reads come reads r) counts h
-    ends_unread view reads input.Memory is counts h = ends_without_words h
+    ends_unread {V} view reads fault is counts h = fault_ends V (case_read r come) fault (fault_of_reading r come view reads fault is) counts h
 
 -- The ends of the run of a made model, which reads no folder.
 module _ (seed size : ℕ) where

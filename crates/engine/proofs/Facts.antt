@@ -1,10 +1,11 @@
 -- The public clauses of a run, from all that it comes to.
-use Rattle.engine.proofs.Common.{[], Wanted, HasNoList, AskedBatch, Batch, Case, AnswersBeside, IsStopped, views_in, HasEnded, IsJobListing, Jobs, case_of}
-use Rattle.engine.proofs.Common.{job_of, job_task, names_read, CutOf, Defines, IsJobEnd, IsRunText, ReadsFolder, model_line, IsValid, IsValidJob, Rose, Put}
-use Rattle.engine.proofs.Common.{PutsMake, Seen, FileSet, whole_put, Text, end_line, Status, List, None, Option, Some, inl, inr, subst, sym, ℕ, ◌∙◌, ◌≡◌, ◌⊎◌}
-use Rattle.engine.proofs.Common.{Err, IfOk, Ok, Result, ap, map, refl, ◌++◌, ◌∷◌, texts, JobEnd, AreDecks, history_exists, history_is_one, IsWhole}
-use Rattle.engine.proofs.Common.{whole_listing, IsListing, listing, reads, FlowModel, Refusal, all_written, All-head, All-tail, AllZip, concat, All, ◌>>=◌}
-use Rattle.engine.proofs.Common.{Batched, case_read, IsRunResult, OneOf}
+use Rattle.engine.proofs.Common.{[], Wanted, HasNoList, AskedBatch, Batch, Case, IsStopped, HasEnded, IsJobListing, Jobs, case_of, job_of, job_task, names_read}
+use Rattle.engine.proofs.Common.{CutOf, Defines, IsJobEnd, IsRunText, ReadsFolder, model_line, IsValid, IsValidJob, Rose, Put, PutsMake, Seen, FileSet}
+use Rattle.engine.proofs.Common.{whole_put, Text, end_line, Status, List, None, Option, Some, inl, inr, subst, sym, ◌∙◌, ◌≡◌, ◌⊎◌, Err, IfOk, Ok, Result, ap}
+use Rattle.engine.proofs.Common.{map, refl, ◌++◌, ◌∷◌, texts, JobEnd, AreDecks, history_exists, history_is_one, IsWhole, whole_listing, IsListing, listing}
+use Rattle.engine.proofs.Common.{reads, FlowModel, Refusal, all_written, All-head, All-tail, AllZip, concat, All, ◌>>=◌, Batched, case_read, IsRunResult, OneOf}
+use Rattle.engine.proofs.Common.{FolderUse, Serves, SinkUse, failed_write, sink_use, PutsMore}
+use Rattle.outside.specs.declared.traits.Sink.{Ghosts as SinkOf}
 use Rattle.engine.proofs.Outcomes.{complete, decided, put_rose, read_rose}
 use Rattle.engine.proofs.Certifying.{not_stopped}
 use Rattle.engine.proofs.OkRuns.{Laws, headline_of, one_of, valid_of}
@@ -76,41 +77,53 @@ module _ (laws : Laws) (b : AskedBatch) (files : FileSet) where
         let x = subst P wanted (valid, d) in
         of_list (names_read files b) refl x.0 x.1
 
-module _ (order : Option Wanted) (agrees : FileSet → Type 0) (n m : ℕ) (failed : Type 0) (side leads : List Put → Type 0) (end : Status) (old new : Seen)
-    (puts : List Put) (makes : PutsMake old puts new)
-    (laws : Laws) (on : leads puts) (some : (files : FileSet) × agrees files) (all : (files : FileSet) → agrees files →
-    AnswersBeside (case_of order files) (views_in order) n m failed side end puts) where
-  was_valid : (IsStopped end → ⊥) → (files : FileSet) → agrees files → IsValid (case_of order files)
+-- The result of a run of an order.
+module _ (order : Option Wanted) (folder : FolderUse) (beside out : SinkUse) (end : Status) (puts : List Put) (makes : PutsMake out.old puts out.new)
+    (laws : Laws) (on : out.leads puts) (some : (files : FileSet) × folder.agrees files) (all : Serves order folder beside end puts) where
+  was_valid : (IsStopped end → ⊥) → (files : FileSet) → folder.agrees files → IsValid (case_of order files)
   was_valid goes files agree = valid_of (case_of order files) end goes (all files agree).valid
 
-  was_delivered : (IsStopped end → ⊥) → (files : FileSet) → agrees files → Delivers (Defines (case_of order files)) end puts
-  was_delivered goes files agree = delivers (Rose n m × ReadsFolder (case_of order files)) failed (Defines (case_of order files)) (CutOf (case_of order files)) end puts (all files agree).run goes
+  was_delivered : (IsStopped end → ⊥) → (files : FileSet) → folder.agrees files → Delivers (Defines (case_of order files)) end puts
+  was_delivered goes files agree =
+      delivers (Rose folder.before folder.after × ReadsFolder (case_of order files)) (failed_write beside) (Defines (case_of order files)) (CutOf (case_of order files))
+      end puts (all files agree).run goes
 
-  batch : (IsStopped end → ⊥) → (b : AskedBatch) → order ≡ Some (Batch b) → (files : FileSet) → agrees files → HasNoList b files end ⊎ Batched b files end old.written new.written
-  batch goes b wanted files agree = batched laws b files end old new puts makes order wanted (was_valid goes files agree) (was_delivered goes files agree)
+  batch : (IsStopped end → ⊥) → (b : AskedBatch) → order ≡ Some (Batch b) → (files : FileSet) → folder.agrees files →
+      HasNoList b files end ⊎ Batched b files end out.old.written out.new.written
+  batch goes b wanted files agree = batched laws b files end out.old out.new puts makes order wanted (was_valid goes files agree) (was_delivered goes files agree)
 
-  one : end ≡ status.Ok → (files : FileSet) → agrees files → OneOf order files end old new
+  one : end ≡ status.Ok → (files : FileSet) → folder.agrees files → OneOf order files end out.old.written out.new.written
   one ok files agree =
-      one_of laws order files end puts old new makes ok (was_valid goes files agree) (was_delivered goes files agree) (λ b wanted. whole b (batch goes b wanted files agree))
+      one_of laws order files end puts out.old out.new makes ok (was_valid goes files agree) (was_delivered goes files agree) (λ b wanted. whole b (batch goes b wanted files agree))
     where
       goes : IsStopped end → ⊥
       goes stops = not_stopped (subst IsStopped ok stops)
 
-      whole : (b : AskedBatch) → HasNoList b files end ⊎ Batched b files end old.written new.written → Batched b files end old.written new.written
+      whole : (b : AskedBatch) → HasNoList b files end ⊎ Batched b files end out.old.written out.new.written → Batched b files end out.old.written out.new.written
       whole b (inl (refusal, read, is)) = absurd (let bad : status.Refused refusal ≡ status.Ok = sym is ∙ ok in cc)
       whole b (inr h) = h
 
-  pub result_of : IsRunResult order agrees n m failed side leads end old new
+  result_of : IsRunResult order folder beside out end
   result_of = record {
     puts = λ files agree. record { puts = puts; leads_on = on; run = (all files agree).run };
     side = λ files agree. (all files agree).side;
     watched = λ ok j views files agree. (all files agree).watched ok j views;
     told = some;
-    headline = λ ok files agree. headline_of order files end old new (one ok files agree);
+    headline = λ ok files agree. headline_of order files end out.old.written out.new.written (one ok files agree);
     one = one;
     batch = batch;
-    read_fault = read_rose (Rose n m) failed order some.0 end puts old new makes (all some.0 some.1).run;
-    write_fault = put_rose (Rose n m) failed order some.0 end puts old new makes (all some.0 some.1).run;
-    decided = λ files agree. decided (Rose n m) failed order files end puts old new makes (all files agree).run laws (all files agree).valid;
-    complete = λ files agree. complete (Rose n m) failed order files end puts old new makes (all files agree).run laws (all files agree).valid;
+    read_fault = read_rose (Rose folder.before folder.after) (failed_write beside) order some.0 end puts out.old out.new makes (all some.0 some.1).run;
+    write_fault = put_rose (Rose folder.before folder.after) (failed_write beside) order some.0 end puts out.old out.new makes (all some.0 some.1).run;
+    decided = λ files agree. decided (Rose folder.before folder.after) (failed_write beside) order files end puts out.old out.new makes (all files agree).run
+        laws (all files agree).valid;
+    complete = λ files agree. complete (Rose folder.before folder.after) (failed_write beside) order files end puts out.old out.new makes (all files agree).run
+        laws (all files agree).valid;
   }
+
+-- by what it puts to its output
+pub run_result : {S : Type 0} (K : SinkOf S) (old new : S) (order : Option Wanted) (folder : FolderUse) (beside : SinkUse) (end : Status) →
+    ((s : S) → K.leads s [] s) → ((s : S) (puts : List Put) (t : S) → K.leads s puts t → PutsMake (K.seen s) puts (K.seen t)) → Laws →
+    ((files : FileSet) × folder.agrees files) → PutsMore K.leads old new (Serves order folder beside end) → IsRunResult order folder beside (sink_use K old new) end
+run_result K old new order folder beside end rests tells laws some serves =
+    let r = serves old [] (rests old) in
+    result_of order folder beside (sink_use K old new) end r.0 (tells old r.0 new r.1) laws r.1 some r.2

@@ -1,8 +1,8 @@
 -- The ends of listings, and of the jobs of a batch: none is a fault, and which is certain.
 use Rattle.engine.proofs.Common.{TimeStep, JobEnd, AllZip, first_not_ok, or_else, IsBatch, batch_settles, batches_agree, AreDecks, IsRunText, JobDefines}
-use Rattle.engine.proofs.Common.{model_line, IsJobEnd, IsValidJob, GoesThrough, IsPlainJob, Job, IsListing, status_of, AllSteps, ListingEnd, Step, Task}
-use Rattle.engine.proofs.Common.{Refusal, Agree, Text, Status, Err, IfOk, Ok, Result, ap, inl, inr, refl, subst, sym, ◌∙◌, ◌∷◌, ◌≡◌, List, [], All-head}
-use Rattle.engine.proofs.Common.{All-tail, All, NoBound, false}
+use Rattle.engine.proofs.Common.{model_line, IsJobEnd, IsValidJob, GoesThrough, Job, IsListing, status_of, AllSteps, ListingEnd, Step, Task, Refusal, Agree}
+use Rattle.engine.proofs.Common.{Text, Status, Err, IfOk, Ok, Result, ap, inl, inr, refl, subst, sym, ◌∙◌, ◌∷◌, ◌≡◌, List, [], All-head, All-tail, All, NoBound}
+use Rattle.engine.proofs.Common.{false}
 use Rattle.engine.proofs.Certifying.{IsFault}
 use Rattle.engine.proofs.OkRuns.{Laws}
 use Rattle.run_puts.specs.declared.puts.Status.TheVariants as status
@@ -66,6 +66,10 @@ with_jobs P R [] [] each h = tt
 with_jobs P R [] (e ∷ es) each h = absurd h
 with_jobs P R (job ∷ jobs) [] each h = absurd h
 with_jobs P R (job ∷ jobs) (e ∷ es) each (x, h) = ((All-head P job jobs each, x), with_jobs P R jobs es (All-tail P job jobs each) h)
+
+-- the job is no listing with --quick
+abbrev IsPlainJob : Job → Type 0
+IsPlainJob job = IfOk job.read (λ k. k.quick ≡ false)
 
 -- an end of a job whose model is valid and whose listing is not quick
 abbrev IsPlainEnd : Job → JobEnd → Type 0

@@ -5,12 +5,11 @@ use Rattle.engine.proofs.Common.{one_deck, AreDecks, one_valid, ListingEnd, AllS
 use Rattle.engine.proofs.Common.{VerdictIsOne, ListingOrder, Case, Run, Make, Check, Write, Listing, Making, Checking, case_of, listing_read, made_model}
 use Rattle.engine.proofs.Common.{read_by_name, task_of, zones_read, OneDeck, Defines, made_task, summed_text, OneSummary, IfOk, IsStopped, IsValid, Plain}
 use Rattle.engine.proofs.Common.{Limits, ListingIsOne, ListingExcludesRefusal, RefusalIsOne, Comparing, two, true, Second, most_bytes, with_limit, case_decks}
-use Rattle.engine.proofs.Common.{span_task_of, IsDeck, deck_text, deck_reads, summary_of, summary_text, HeadlineOf, OneOf, Wanted, AskedBatch, Batch, second_in}
-use Rattle.engine.proofs.Common.{reads, Decks, Batched, case_read, OneListing, false, DifferenceIsOne, Appends, Bool, CheckText, IsSaid, OneDeckListing}
-use Rattle.engine.proofs.Common.{OneDeckSpan, OneRun, OneRunSpan, OneSpan, RunHeadline, RunSpanHeadline, Said, Task, Words, after_text, case_listed, concat}
-use Rattle.engine.proofs.Common.{decks_text, words_text, zoned_text, ◌++◌, AreText, AskedText, ListingVerdict, OneTextVerdict, IsVerdict, case_parts, case_rest}
-use Rattle.engine.proofs.Common.{certified_line, file_at, is_some, option_map, pairs_in, sym, verdict_line, unwrap_or, StandsIn, parts_text, steps_after}
-use Rattle.engine.proofs.Common.{unlike, Part, text_of}
+use Rattle.engine.proofs.Common.{span_task_of, deck_text, deck_reads, summary_of, summary_text, HeadlineOf, OneOf, Wanted, AskedBatch, Batch, second_in, reads}
+use Rattle.engine.proofs.Common.{Decks, Batched, case_read, OneListing, false, DifferenceIsOne, Appends, Bool, CheckText, IsSaid, OneDeckListing, OneDeckSpan}
+use Rattle.engine.proofs.Common.{OneSpan, RunHeadline, RunSpanHeadline, Task, Words, after_text, case_listed, concat, decks_text, words_text, zoned_text, ◌++◌}
+use Rattle.engine.proofs.Common.{AreText, AskedText, ListingVerdict, OneTextVerdict, IsVerdict, case_parts, case_rest, certified_line, file_at, is_some}
+use Rattle.engine.proofs.Common.{option_map, pairs_in, sym, verdict_line, unwrap_or, StandsIn, parts_text, steps_after, unlike, Part, text_of, ByDeck}
 use Rattle.engine.proofs.Certifying.{certified_and_one, is_certified}
 use Rattle.engine.proofs.Dues.{Delivers}
 use Rattle.engine.proofs.Labels.{listing_pairs, listing_times}
@@ -38,6 +37,9 @@ pub record Laws : Type 0 where
   pub refusal : RefusalIsOne
   pub verdict : VerdictIsOne
   pub difference : DifferenceIsOne
+
+pub laws_of : ListingIsOne → ListingExcludesRefusal → RefusalIsOne → VerdictIsOne → DifferenceIsOne → Laws
+laws_of one bound refusal verdict difference = record { one = one; bound = bound; refusal = refusal; verdict = verdict; difference = difference }
 
 -- the text of decks, as the one that stands in a text
 text_is : (d : Decks) (zones : Option (List ℕ)) → parts_text d.first d.second zones ≡ decks_text d zones
@@ -135,7 +137,8 @@ module _ (laws : Laws) (old new : Seen) (puts : List Put) (pieces : List Text) (
           }
 
       of_listing : (deck : Bool) → AreDecks (one_deck m) →
-          Defines (after_text deck (decks_text (one_deck m) zones) (Listing (task_of asked m zones))) status.Ok pieces → OneRun deck asked files old new
+          Defines (after_text deck (decks_text (one_deck m) zones) (Listing (task_of asked m zones))) status.Ok pieces
+          → ByDeck deck (OneListing asked files old.written new.written) (OneDeckListing asked files old.written new.written)
       of_listing true valid d = of_deck_first valid d.others d.are (whole_listing (task_of asked m zones) d.others d.then)
       of_listing false valid d = of_plain valid (whole_listing (task_of asked m zones) pieces d)
 
@@ -172,23 +175,24 @@ module _ (laws : Laws) (old new : Seen) (puts : List Put) (pieces : List Text) (
             values = one.values;
           }
 
-      of_span : (deck : Bool) → AreDecks (two a b.model) → Defines (after_text deck (decks_text (two a b.model) zones) (Listing k)) status.Ok pieces → OneRunSpan deck asked to files old new
+      of_span : (deck : Bool) → AreDecks (two a b.model) → Defines (after_text deck (decks_text (two a b.model) zones) (Listing k)) status.Ok pieces →
+          ByDeck deck (OneSpan asked to files old.written new.written) (OneDeckSpan asked to files old.written new.written)
       of_span true valid d = span_decks_first valid d.others d.are (whole_listing k d.others d.then)
       of_span false valid d = span_plain valid (whole_listing k pieces d)
 
-    of_words : IsSaid words_text status.Ok pieces → Said old new
-    of_words d = let P : List ℕ → Type 0 = λ t. Appends old.written new.written t in subst P (append-nil words_text) (appended (words_text ∷ []) d.1)
+    -- a text that was said
+    of_text : (text : Text) → IsSaid text status.Ok pieces → Appends old.written new.written text
+    of_text text d = let P : List ℕ → Type 0 = λ t. Appends old.written new.written t in subst P (append-nil text) (appended (text ∷ []) d.1)
 
-    of_deck : (limits : Limits) (name : Text) (m : FlowModel) → read_by_name name (reads limits files) ≡ Ok m → IsModel m → IsDeck m status.Ok pieces →
+    of_deck : (limits : Limits) (name : Text) (m : FlowModel) → read_by_name name (reads limits files) ≡ Ok m → IsModel m → IsSaid (deck_text m) status.Ok pieces →
         OneDeck limits name files old.written new.written
     of_deck limits name m is valid d =
-        let P : List ℕ → Type 0 = λ t. Appends old.written new.written t in
         let read = named_read name (reads limits files) m is in
         record {
           model = m;
           read = read;
           valid = valid;
-          written = subst P (append-nil (deck_text m)) (all_written (deck_text m ∷ []) old new puts (written ∙ ap (map whole_put) d.1) makes);
+          written = of_text (deck_text m) d;
           again = deck_reads limits files name m read;
         }
 
@@ -254,7 +258,7 @@ module _ (laws : Laws) (old new : Seen) (puts : List Put) (pieces : List Text) (
           (of_rest (two a.model b.model) a.zones b.line b.rest (is ∙ ap (λ (t : List ℕ). t ++ b.rest) (text_is (two a.model b.model) a.zones)))
 
     one_by : (order : Option Wanted) (end : Status) → ((b : AskedBatch) → order ≡ Some (Batch b) → Batched b files end old.written new.written) →
-        AfterOk (case_of order files) (OneOf order files end old new)
+        AfterOk (case_of order files) (OneOf order files end old.written new.written)
     one_by None end batched = λ valid d. absurd (let bad : status.Ok ≡ status.Usage = d.0 in cc)
     one_by (Some (Run asked None)) end batched = of_one (read_by_name asked.name (reads asked.limits files)) (to_list files asked) (λ m read.
         of_read (zones_read files asked.zones m) (case_listed asked (one_deck m))
@@ -277,27 +281,28 @@ module _ (laws : Laws) (old new : Seen) (puts : List Put) (pieces : List Text) (
         of_read (read_by_name asked.text (file_at files)) _ (λ bytes read.
         of_read (parts_in asked.limits asked.text bytes) (λ p. case_parts asked p.first p.second) (λ p parts.
         of_parts asked bytes read p.first p.second (parts_stand_in_text asked.limits asked.text bytes p parts)))
-    one_by (Some Words) end batched = λ valid d. of_words d
+    one_by (Some Words) end batched = λ valid d. of_text words_text d
     one_by (Some (Write limits name)) end batched = of_one (read_by_name name (reads limits files)) to_write (λ m read valid d. of_deck limits name m read valid d)
 
 pub one_of : (laws : Laws) (order : Option Wanted) (files : FileSet) (end : Status) (puts : List Put) (old new : Seen) → PutsMake old puts new → end ≡
     status.Ok → IsValid (case_of order files) → Delivers (Defines (case_of order files)) end puts →
-    ((b : AskedBatch) → order ≡ Some (Batch b) → Batched b files end old.written new.written) → OneOf order files end old new
+    ((b : AskedBatch) → order ≡ Some (Batch b) → Batched b files end old.written new.written) → OneOf order files end old.written new.written
 one_of laws order files end puts old new makes ok valid d batched =
     let D : Status → Type 0 = λ s. Defines (case_of order files) s d.pieces in
     one_by laws old new puts d.pieces d.written makes files order end batched valid (subst D ok d.defines)
 
 -- the headline
-pub headline_of : (order : Option Wanted) (files : FileSet) (end : Status) (old new : Seen) → OneOf order files end old new → HeadlineOf order files end old new
+pub headline_of : (order : Option Wanted) (files : FileSet) (end : Status) (old new : Option (List ℕ)) → OneOf order files end old new →
+    HeadlineOf order files end old new
 headline_of None files end old new o = o
 headline_of (Some (Run asked None)) files end old new o = by_deck asked.deck o
   where
-    by_deck : (deck : Bool) → OneRun deck asked files old new → RunHeadline deck asked files old new
+    by_deck : (deck : Bool) → ByDeck deck (OneListing asked files old new) (OneDeckListing asked files old new) → RunHeadline deck asked files old new
     by_deck true x = x.headline
     by_deck false x = x.headline
 headline_of (Some (Run asked (Some to))) files end old new o = by_deck asked.deck o
   where
-    by_deck : (deck : Bool) → OneRunSpan deck asked to files old new → RunSpanHeadline deck asked to files old new
+    by_deck : (deck : Bool) → ByDeck deck (OneSpan asked to files old new) (OneDeckSpan asked to files old new) → RunSpanHeadline deck asked to files old new
     by_deck true x = x.headline
     by_deck false x = x.headline
 headline_of (Some (Check asked None)) files end old new o = o.certified

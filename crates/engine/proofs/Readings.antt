@@ -1,10 +1,10 @@
 -- What a reading gives, by the name and the files of the folder.
-use Rattle.engine.proofs.Common.{◌≡◌, ℕ, ◌≤◌, Bool, true, length, List, Option, None, Some, Result, Ok, Err, IfOk, sym, ap, refl, ◌∙◌, codes, if◌then◌else◌}
-use Rattle.engine.proofs.Common.{map, subst, ℤ, unsigned_abs, length-map, FileSet, IsReading, file_refusal, input_fault, IsGoodName, is_good_name, InputFault}
-use Rattle.engine.proofs.Common.{Refusal, Has, Stops, StopsText, FlowModel, IsModel, Text, ListedStep, AreZonesOf, ZonedListing, read_by_name, IsNamedFault}
-use Rattle.engine.proofs.Common.{Limits, not_alike, ◌>>=◌, model_of, Difference, one_deck, AreDecksAs, IsUnlikeFault, second_by, Second, of_both, of_first}
-use Rattle.engine.proofs.Common.{of_second, InputCounts, cell_count, AreDecks, Decks, AreDecksOf, IsNoSecond, IfErr, second_in, reads, ReadsOn, names_in}
-use Rattle.engine.proofs.Common.{AreAlike, IfSome, option_map, IsSecond, err_from_is_err_and, IsErrAnd, BadName, TextFault}
+use Rattle.engine.proofs.Common.{IsRefusedBy, ◌≡◌, ℕ, ◌≤◌, Bool, true, length, List, Option, None, Some, Result, Ok, Err, IfOk, sym, ap, refl, ◌∙◌, codes}
+use Rattle.engine.proofs.Common.{if◌then◌else◌, map, subst, ℤ, unsigned_abs, length-map, FileSet, IsReading, file_refusal, input_fault, IsGoodName}
+use Rattle.engine.proofs.Common.{is_good_name, InputFault, Refusal, Has, Stops, StopsText, FlowModel, IsModel, Text, ListedStep, AreZonesOf, ZonedListing}
+use Rattle.engine.proofs.Common.{read_by_name, Limits, not_alike, ◌>>=◌, model_of, one_deck, AreDecksAs, second_by, Second, of_both, of_first, of_second}
+use Rattle.engine.proofs.Common.{InputCounts, cell_count, AreDecks, Decks, AreDecksOf, IsNoSecond, IfErr, second_in, reads, ReadsOn, names_in, AreAlike, IfSome}
+use Rattle.engine.proofs.Common.{option_map, IsSecond, err_from_is_err_and, IsErrAnd, BadName, TextFault}
 use Rattle.std.proofs.Common.{false, All}
 use Rattle.name_file.specs.Pairs.{Pairs}
 use Rattle.engine.specs.declared.two_decks.Second.{Second as SecondBy}
@@ -30,7 +30,7 @@ good_named name read good = rw (is_taken name good) refl
 
 -- what a reading of a name gave
 module _ {T V : Type 0} (view : V → T) (name : Text) (r : Result T Refusal) where
-  pub bad_reading : (fault : InputFault) → (IsGoodName name → ⊥) → IsNamedFault fault → IsReading view (read_by_name name (λ n. r)) (Err fault)
+  pub bad_reading : (fault : InputFault) → (IsGoodName name → ⊥) → IsRefusedBy (file_refusal BadName (codes "-")) fault → IsReading view (read_by_name name (λ n. r)) (Err fault)
   bad_reading (input.Refused refusal) bad is = bad_named name (λ n. r) bad ∙ ap Err (sym is)
   bad_reading other bad is = tt
 
@@ -205,14 +205,14 @@ pub reads_both : {S T U V : Type 0} (F : FolderOf S) (old mid new : S) (x : T) (
     ReadsOn {T = U} F mid new (Ok y) → InputCounts (F.faults old) (F.faults old) result → ReadsOn {T = V} F old new result
 reads_both F old mid new x y result first second = reads_as F old new y result (in_a_row first second)
 
-pub unlike_counts : (T : Type 0) (b : Second) (d : Difference) (fault : InputFault) (n : ℕ) → IsUnlikeFault b d fault → InputCounts {T = T} n n (Err fault)
-unlike_counts T b d (input.Refused refusal) n is = refl
-unlike_counts T b d input.ReadFault n is = absurd is
-unlike_counts T b d input.Memory n is = refl
+refused_counts : (T : Type 0) (refusal : Refusal) (fault : InputFault) (n : ℕ) → IsRefusedBy refusal fault → InputCounts {T = T} n n (Err fault)
+refused_counts T refusal (input.Refused given) n is = refl
+refused_counts T refusal input.ReadFault n is = absurd is
+refused_counts T refusal input.Memory n is = refl
 
 pub compared_counts : (a : FlowModel) (b : Second) (r : Result Decks InputFault) (n : ℕ) → IfErr r (IsNoSecond a b) → InputCounts n n r
 compared_counts a b (Ok d) n e = refl
-compared_counts a b (Err fault) n (d, first, never, is) = unlike_counts Decks b d fault n is
+compared_counts a b (Err fault) n (d, first, never, is) = refused_counts Decks (b.unlike d) fault n is
 
 -- The zones of a zone file.
 

@@ -1,7 +1,7 @@
 -- What a viewer that puts to a sink put in a run.
 use Rattle.engine.proofs.Common.{◌≡◌, ◌∙◌, ◌⊎◌, ℕ, List, [], true, false, Option, None, Some, ap, refl, Bool, inl, inr, sym, subst, is_some, Rose, Put}
 use Rattle.engine.proofs.Common.{PutsMake, Seen, SinkError, Bound, Entries, Edges, EnclosesPair, LeadOn, ViewPuts, no_lead, no_view, Task, ReachesFirst}
-use Rattle.engine.proofs.Common.{IsSettledBy, Reaches, RestsOrSettles, rests, settled, IsWatched, Shows, ViewPutsOf, lines_of, TimeStep, times, begun, edges_by}
+use Rattle.engine.proofs.Common.{IsSettledBy, Reaches, RestsOrSettles, rests, settled, IsWatched, Shows, lines_of, TimeStep, times, begun, edges_by}
 use Rattle.outside.specs.declared.traits.SinkError.TheVariants.{Write}
 use Rattle.outside.specs.declared.traits.Sink.{Ghosts as SinkOf}
 use Rattle.view_puts.specs.declared.viewer.SinkViewer.{SinkViewer}
@@ -92,7 +92,8 @@ module _ {W : Type 0} (K : SinkOf W) where
       (λ s. refl) k first now refl h).0
 
   module _ (starts : (s : W) → leads s [] s) (k : Task) (n : ℕ) (first now : Viewer) (fits : first.grid.now ≡ k.decks.first.grid) (none : first.stop ≡ None) where
-    pub puts_of_side : ReachesBy n k first now → ViewPutsOf k (λ puts. leads first.sink.now puts now.sink.now) (Some n)
+    pub puts_of_side : ReachesBy n k first now →
+        leads first.sink.now [] now.sink.now ⊎ IsWatched false k n (λ puts. leads first.sink.now puts now.sink.now)
     puts_of_side h = side_puts leads sink text_of (λ s. s.at.period) (λ s. s.at.step) stop begins viewed stopped is_begun is_viewed (λ s h.
         h) no_view_yet starts k n first now (ap lines_of fits) none h
 

@@ -1,8 +1,7 @@
 -- The ends of the check of a text.
-use Rattle.engine.proofs.Common.{◌≡◌, ◌∷◌, [], ℕ, List, Err, Result, ap, inl, refl, Answers, AreAlike, Case, Comparing, Difference, InputCounts, IsReadingEnd}
-use Rattle.engine.proofs.Common.{Put, Refusal, Second, Status, input_fault, refused_line, StopsText, InputFault, case_read, ReadsFolder, subst, FlowModel}
-use Rattle.engine.proofs.Common.{IsFirstDifference, AskedText, Checking, None, Option, Some, case_parts, false, one_deck, pairs_in, TextFault, IsRefused}
-use Rattle.engine.proofs.Common.{steps_after, Part}
+use Rattle.engine.proofs.Common.{◌∷◌, [], ℕ, List, Err, Result, ap, inl, refl, Answers, AreAlike, Case, Comparing, Difference, InputCounts, IsReadingEnd, Put}
+use Rattle.engine.proofs.Common.{Refusal, Second, Status, input_fault, refused_line, StopsText, case_read, ReadsFolder, FlowModel, IsFirstDifference, AskedText}
+use Rattle.engine.proofs.Common.{Checking, None, Option, Some, case_parts, false, one_deck, pairs_in, TextFault, IsRefused, steps_after, Part}
 use Rattle.engine.proofs.Ends.{ends_unread, ends_without_words, lone_defined, read_reads}
 use Rattle.engine.proofs.Readings.{text_read}
 use Rattle.outside.specs.declared.inputs.TextFault.TheVariants as texts
@@ -21,21 +20,15 @@ text_counts T texts.Memory n = refl
 module _ {n : ℕ} {end : Status} {puts : List Put} where
   -- a reading of a text that stopped
   pub ends_stopped : {T : Type 0} (r : Result T Refusal) (come : T → Case) → ((x : T) → ReadsFolder (come x)) → (fault : TextFault) → StopsText fault r →
-      (given : InputFault) → given ≡ input_fault fault → IsReadingEnd given end puts → Answers (case_read r come) n n end puts
-  ends_stopped {T} r come reads fault stops given is h =
-      let E : InputFault → Type 0 = λ f. IsReadingEnd f end puts in
-      ends_unread r come (λ (x : T). x) reads (input_fault fault) (text_read (λ (x : T). x) r fault stops) (text_counts T fault n) (subst E is h)
+      IsReadingEnd (input_fault fault) end puts → Answers (case_read r come) n n end puts
+  ends_stopped {T} r come reads fault stops h =
+      ends_unread r come (λ (x : T). x) reads (input_fault fault) (text_read (λ (x : T). x) r fault stops) (text_counts T fault n) h
 
-  unlike_ends : (a : FlowModel) (b : Second) (case : Case) (d : Difference) → IsFirstDifference a b.model d → (AreAlike a b.model → ⊥) → (fault : TextFault) →
+  -- two decks of a text that aren't alike
+  pub ends_unlike : (a : FlowModel) (b : Second) (case : Case) (d : Difference) → IsFirstDifference a b.model d → (AreAlike a b.model → ⊥) → (fault : TextFault) →
       IsRefused (b.unlike d) fault → IsReadingEnd (input_fault fault) end puts → Answers (Comparing a b case) n n end puts
-  unlike_ends a b case d first never (texts.Refused r) is h =
+  ends_unlike a b case d first never (texts.Refused r) is h =
       lone_defined (refused_line r) (status.Refused r)
       (inl (record { difference = d; first = first; unlike = never; status = ap status.Refused is; are = ap (λ (x : Refusal). refused_line x ∷ []) is }))
       (inl never) h
-  unlike_ends a b case d first never texts.Memory is h = ends_without_words h
-
-  -- two decks of a text that aren't alike
-  pub ends_unlike : (a : FlowModel) (b : Second) (case : Case) (d : Difference) → IsFirstDifference a b.model d → (AreAlike a b.model → ⊥) →
-      (fault : TextFault) → IsRefused (b.unlike d) fault → (given : InputFault) → given ≡ input_fault fault → IsReadingEnd given end puts →
-      Answers (Comparing a b case) n n end puts
-  ends_unlike a b case d first never fault refused given is h = let E : InputFault → Type 0 = λ f. IsReadingEnd f end puts in unlike_ends a b case d first never fault refused (subst E is h)
+  ends_unlike a b case d first never texts.Memory is h = ends_without_words h

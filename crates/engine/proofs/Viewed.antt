@@ -3,8 +3,7 @@ use Rattle.engine.proofs.Common.{◌≡◌, ◌∙◌, ◌⊎◌, ℕ, ◌+◌, 
 use Rattle.engine.proofs.Common.{refl, arith, is_some, append_assoc, append-nil, map-append, All-append, All-cons, All-nil, All-weaker, Rose, Put, PutsMake}
 use Rattle.engine.proofs.Common.{Seen, failed_put, whole_put, SinkError, Bound, Entries, Edges, TimeStep, AddsPhases, EnclosesPair, Text, failed, AreAllShown}
 use Rattle.engine.proofs.Common.{IsStopPut, LeadOn, ViewPuts, no_lead, Task, Step, IsStep, IsSettledBy, PairEncloses, Reaches, ReachesFirst, begun, rests}
-use Rattle.engine.proofs.Common.{settled, AreViews, AreWatched, ArePutInTurn, IsView, IsWatched, Shows, ViewPutsOf, lines_of, edges_by, false, view_text}
-use Rattle.engine.proofs.Common.{early_rose}
+use Rattle.engine.proofs.Common.{settled, AreViews, AreWatched, ArePutInTurn, IsView, IsWatched, Shows, lines_of, edges_by, false, view_text, early_rose}
 use Rattle.std.proofs.Common.{All}
 use Rattle.view_puts.proofs.Views.{lead_more}
 use Rattle.model_types.specs.{times as times_of}
@@ -263,7 +262,7 @@ module _ {V W : Type 0} (leads : W → List Put → W → Type 0) (sink : V → 
         let w = viewed_from whole k n h.start (times_of k.decks.first) s t fits none h.reaches in
         record { start = h.start; is_start = h.is_start; texts = w.texts; watched = w.views; puts = w.puts; in_turn = w.in_turn; led = w.led (sink s) [] (starts (sink s)) }
 
-    pub side_puts : (t ≡ s) ⊎ ReachesFirst begins (Shows viewed stopped n) stop k false s t → ViewPutsOf k (λ puts. leads (sink s) puts (sink t)) (Some n)
+    pub side_puts : (t ≡ s) ⊎ ReachesFirst begins (Shows viewed stopped n) stop k false s t → leads (sink s) [] (sink t) ⊎ IsWatched false k n (λ puts. leads (sink s) puts (sink t))
     side_puts (inl same) = inl (let P : V → Type 0 = λ x. leads (sink s) [] (sink x) in subst P (sym same) (starts (sink s)))
     side_puts (inr h) = inr (is_watched false h)
 

@@ -1,5 +1,5 @@
 -- What is promised of a deck that is written.
-use Rattle.std.specs.Prelude.{◌≡◌, ℕ, List, [], ◌∷◌, Ok, Option}
+use Rattle.std.specs.Prelude.{◌≡◌, ℕ, List, Ok, Option}
 use Rattle.std.specs.Io.KnownBytes.{Appends}
 use Rattle.outside.specs.{FileSet}
 use Rattle.model_types.specs.declared.limits.Limits.{Limits}
@@ -8,12 +8,6 @@ use Rattle.model_types.specs.{IsModel}
 use Rattle.model_reader.specs.{reads}
 use Rattle.model_text.specs.{deck_text, IsReadAgain}
 use Rattle.run_puts.specs.{Text}
-use Rattle.run_puts.specs.declared.puts.Status.{Status}
-use Rattle.run_puts.specs.declared.puts.Status.TheVariants as status
-
--- The writing of a model's deck ends Ok, and its text is one piece.
-abbrev pub IsDeck : FlowModel → Status → List Text → Type 0
-IsDeck m end pieces = (end ≡ status.Ok) × (pieces ≡ deck_text m ∷ [])
 
 -- A run by these limits over these files, of this name, that ended Ok, where a sink had the bytes `old` before it and `new` after it,
 -- has written the one deck of the model that the files read as; and the files of that deck are read as the same model.

@@ -16,7 +16,7 @@ use Rattle.deck_span.specs.{AreAlike}
 use Rattle.engine.specs.TwoDecks.{IsUnlike}
 use Rattle.engine.specs.Made.{IsMade}
 use Rattle.engine.specs.Checked.{IsCheck}
-use Rattle.engine.specs.Decks.{IsDeck}
+use Rattle.model_text.specs.{deck_text}
 
 -- a refusal has this end and these pieces: its line
 abbrev pub IsRefusal : Refusal → Status → List Text → Type 0
@@ -62,7 +62,7 @@ Defines (Listing k) end pieces = IsListing k end pieces
 Defines (Making seed size read) end pieces = IsMade seed size read end pieces
 Defines (Checking limits d s listing) end pieces = IsCheck limits d s listing end pieces
 Defines (Jobs jobs) end pieces = IsBatch IsJobEnd jobs end pieces
-Defines (Writing m) end pieces = IsDeck m end pieces
+Defines (Writing m) end pieces = IsSaid (deck_text m) end pieces
 Defines (Saying text) end pieces = IsSaid text end pieces
 Defines (After text case) end pieces = IsAfter text (Defines case end) pieces
 Defines (Comparing a b case) end pieces = IsUnlike a b end pieces ⊎ (AreAlike a b.model × Defines case end pieces)

@@ -21,6 +21,7 @@ pub mod Stated
 pub mod Serving
 pub mod Batched
 pub mod BatchReads
+pub mod Uses
 pub use Rattle.engine.specs.BatchReads.{AreTasks, HasNames, IsBatchRead, NeverRefused}
 pub use Rattle.engine.specs.Batched.{HasEnded, HasNoList, IsJobListing}
 pub use Rattle.engine.specs.Cases.{After, Case, Checking, Comparing, IsListingOf, IsOrder, Jobs, Listing, Making, NoWords, ReadsNothing, Refuses, Saying}
@@ -30,16 +31,16 @@ pub use Rattle.engine.specs.Cases.{second_text, span_task_of, steps_read, task_o
 pub use Rattle.engine.specs.Checked.{IsCheck, certified_line, verdict_line, verdict_status}
 pub use Rattle.engine.specs.Commands.{MayRead}
 pub use Rattle.engine.specs.DeckListing.{OneDeckListing, OneDeckSpan}
-pub use Rattle.engine.specs.Decks.{IsDeck, OneDeck}
+pub use Rattle.engine.specs.Decks.{OneDeck}
 pub use Rattle.engine.specs.Defined.{CutOf, Defines, Due, IsDue, IsJobEnd, IsRunText, IsSaid, JobDefines, ReadsFolder, broken_off, defined, model_line, unread}
 pub use Rattle.engine.specs.Headline.{ListsPairs}
 pub use Rattle.engine.specs.Made.{IsMade, made_task, summed_text}
 pub use Rattle.engine.specs.OneListing.{AreItsSteps, OneSummary, OneVerdict}
-pub use Rattle.engine.specs.Parts.{Answers, AnswersBeside, AreDecksAs, AreDecksOf, IsFirstPut, IsListed, IsNamedFault, IsNoSecond, IsReadingEnd, IsStopped}
-pub use Rattle.engine.specs.Parts.{IsUnlikeFault, IsValid, IsValidJob, made_fault, second_by}
-pub use Rattle.engine.specs.Runs.{EndIsDefined, EndsOk, GoesThrough, GoesWell, IsPlain, IsPlainJob, IsRunOf}
-pub use Rattle.engine.specs.Serving.{HeadlineOf, IsProgramEnd, IsRunResult, IsStopNumber, OneOf, OneRun, OneRunSpan, RunHeadline, RunSpanHeadline, Said}
-pub use Rattle.engine.specs.Serving.{bytes_asked, files_if, files_named, files_of, limits_asked}
+pub use Rattle.engine.specs.Parts.{Answers, AnswersBeside, AreDecksAs, AreDecksOf, IsAsked, IsFaultOf, IsFirstIf, IsFirstPut, IsListed, IsNoSecond}
+pub use Rattle.engine.specs.Parts.{IsReadingEnd, IsRefusedBy, IsStopped, IsTaskRead, IsValid, IsValidJob, Serves, ServesAlone, made_fault, second_by}
+pub use Rattle.engine.specs.Runs.{EndIsDefined, EndsOk, GoesThrough, GoesWell, IsPlain, IsRunOf}
+pub use Rattle.engine.specs.Serving.{ByDeck, HeadlineOf, IsProgramEnd, IsRunResult, IsStopNumber, OneOf, RunHeadline, RunSpanHeadline, bytes_asked, files_if}
+pub use Rattle.engine.specs.Serving.{files_named, files_of, limits_asked}
 pub use Rattle.engine.specs.SpanHeadline.{ArePairOf, OneSpan, SpanVerdict}
 pub use Rattle.engine.specs.Stated.{DeckAndListingAreStated, DeckHasSameListing, DecksAndListingAreStated, SameDeckHasSameModel, SameModelHasSameListing}
 pub use Rattle.engine.specs.Stated.{SpanStated}
@@ -47,6 +48,7 @@ pub use Rattle.engine.specs.Storage.{StorageHolds}
 pub use Rattle.engine.specs.TextCertified.{AreText, OneTextVerdict}
 pub use Rattle.engine.specs.TwoDecks.{IsDecksRefusal, Second, not_alike, of_both, of_first, of_second}
 unfoldable pub use Rattle.engine.specs.TwoDecks.{second_in}
-pub use Rattle.engine.specs.Watched.{ArePutInTurn, AreViews, AreWatched, IsView, IsWatched, Shows, SidePuts, ViewPutsOf, lines_of, views_in}
+pub use Rattle.engine.specs.Uses.{FolderUse, SinkUse, failed_write, folder_use, sink_use}
+pub use Rattle.engine.specs.Watched.{ArePutInTurn, AreViews, AreWatched, IsView, IsWatched, Shows, SidePuts, ViewsPut, lines_of, views_in}
 pub use Rattle.engine.specs.Words.{words_text}
 pub use Rattle.engine.specs.Written.{ChecksWritten, OneListingIsCertified, OneSpanIsCertified, WrittenIsCertified}

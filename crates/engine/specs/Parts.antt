@@ -1,8 +1,10 @@
 -- What the parts of a run return and put.
-use Rattle.std.specs.Prelude.{◌≡◌, ◌⊎◌, ℕ, List, Result, Option, Some, true, IfOk, codes, option_map, All}
+use Rattle.std.specs.Prelude.{◌≡◌, ◌⊎◌, ℕ, Bool, List, [], ◌∷◌, Result, Ok, Err, Option, Some, None, true, false, IfOk, codes, option_map, All}
 use Rattle.outside.specs.{Rose, Put, FileSet, file_refusal}
+use Rattle.command_line.specs.{ListingOrder, Run, Wanted}
 use Rattle.outside.specs.declared.codes.Code.TheVariants.{BadName}
 use Rattle.outside.specs.declared.inputs.InputFault.{InputFault}
+use Rattle.outside.specs.declared.inputs.Refusal.{Refusal}
 use Rattle.outside.specs.declared.inputs.InputFault.TheVariants as input
 use Rattle.model_types.specs.declared.limits.Limits.{Limits}
 use Rattle.model_types.specs.declared.model.FlowModel.{FlowModel}
@@ -21,10 +23,13 @@ use Rattle.step_chain.specs.{two}
 use Rattle.run_puts.specs.{IsEnd, IsLast, IsPut, EndsOutOfMemory, Text, read_fault_line}
 use Rattle.run_puts.specs.declared.puts.Status.{Status}
 use Rattle.run_puts.specs.declared.puts.Status.TheVariants as status
-use Rattle.engine.specs.Cases.{After, Case, Listing, Making, Checking, Jobs, Writing, Comparing, read_by_name}
+use Rattle.engine.specs.Cases.{After, Case, Listing, Making, Checking, Jobs, Writing, Comparing, case_of, decks_task, read_by_name, zones_read}
+use Rattle.engine.specs.Defined.{Defines, ReadsFolder}
+use Rattle.listing_run.specs.declared.steps.Task.{Task}
+use Rattle.engine.specs.Uses.{FolderUse, SinkUse, failed_write}
 use Rattle.engine.specs.declared.job.Job.{Job}
 use Rattle.engine.specs.Runs.{IsRunOf}
-use Rattle.engine.specs.Watched.{SidePuts, Watched}
+use Rattle.engine.specs.Watched.{SidePuts, Watched, views_in}
 
 -- the puts of an end because of this fault of reading
 abbrev pub IsReadingEnd : InputFault → Status → List Put → Type 0
@@ -36,22 +41,21 @@ IsReadingEnd input.Memory end puts = EndsOutOfMemory end puts
 abbrev pub IsFirstPut : Text → Option Status → List Put → Type 0
 IsFirstPut text answer puts = IsPut text answer puts ⊎ ((end : Status) × (answer ≡ Some end) × EndsOutOfMemory end puts)
 
--- the refusal of a bad name, or lack of memory for it
-abbrev pub IsNamedFault : InputFault → Type 0
-IsNamedFault (input.Refused refusal) = refusal ≡ file_refusal BadName (codes "-")
-IsNamedFault input.ReadFault = ⊥
-IsNamedFault input.Memory = Unit {0}
+-- the puts of a text that is put first, if that is asked for
+abbrev pub IsFirstIf : (asked : Bool) → Text → Option Status → List Put → Type 0
+IsFirstIf true text answer puts = IsFirstPut text answer puts
+IsFirstIf false text answer puts = (answer ≡ None) × (puts ≡ [])
+
+-- this refusal, or lack of memory for it
+abbrev pub IsRefusedBy : Refusal → InputFault → Type 0
+IsRefusedBy given (input.Refused refusal) = refusal ≡ given
+IsRefusedBy given input.ReadFault = ⊥
+IsRefusedBy given input.Memory = Unit {0}
 
 -- A reading gave the deck that a name means, or the two that two names mean.
 abbrev pub AreDecksAs : Limits → Text → Option Text → FileSet → Result Decks InputFault → Type 0
 AreDecksAs limits name to files answer = AreDecksRead (read_by_name name (reads limits files))
     (option_map (λ last. read_by_name last (second_in limits files)) to) answer
-
--- the refusal of a second deck at this difference, or lack of memory for it
-abbrev pub IsUnlikeFault : Second → Difference → InputFault → Type 0
-IsUnlikeFault b d (input.Refused refusal) = refusal ≡ b.unlike d
-IsUnlikeFault b d input.ReadFault = ⊥
-IsUnlikeFault b d input.Memory = Unit {0}
 
 -- the decks of two models that are alike
 abbrev pub AreDecksOf : (first second : FlowModel) → Decks → Type 0
@@ -59,7 +63,7 @@ AreDecksOf a b d = (d ≡ two a b) × AreAlike a b
 
 -- the fault of a second deck that is not like the first
 abbrev pub IsNoSecond : FlowModel → Second → InputFault → Type 0
-IsNoSecond a b fault = (d : Difference) × IsFirstDifference a b.model d × (AreAlike a b.model → ⊥) × IsUnlikeFault b d fault
+IsNoSecond a b fault = (d : Difference) × IsFirstDifference a b.model d × (AreAlike a b.model → ⊥) × IsRefusedBy (b.unlike d) fault
 
 -- a second deck, in the form of the code
 abbrev pub second_by : SecondBy → Second
@@ -94,14 +98,35 @@ pub record Answers (case : Case) (before after : ℕ) (end : Status) (puts : Lis
   pub run : IsRunOf (Rose before after) ⊥ case end puts
   pub valid : IsStopped end ⊎ IsValid case
 
--- all facts of the result of a run of this case beside which a side sink is led so: those above, where a write beside it may fail; and
+-- all facts of the result of a run of this case with this side sink: those above, where a write beside it may fail; and
 -- the side sink got the views that are asked for: of the first steps, and if the run ended Ok of all
-pub record AnswersBeside (case : Case) (views : Option ℕ) (before after : ℕ) (failed_beside : Type 0)
-    (leads : List Put → Type 0) (end : Status) (puts : List Put) : Type 0 where
-  pub run : IsRunOf (Rose before after) failed_beside case end puts
+pub record AnswersBeside (case : Case) (views : Option ℕ) (folder : FolderUse) (beside : SinkUse) (end : Status) (puts : List Put) : Type 0 where
+  pub run : IsRunOf (Rose folder.before folder.after) (failed_write beside) case end puts
   pub valid : IsStopped end ⊎ IsValid case
-  pub watched : end ≡ status.Ok → (n : ℕ) → views ≡ Some n → Watched true case n leads
-  pub side : SidePuts leads case views
+  pub watched : end ≡ status.Ok → (n : ℕ) → views ≡ Some n → Watched true case n beside.leads
+  pub side : SidePuts beside.leads case views
+
+-- the result of a run of this order, for all files that agree with its folder: with a side sink, and without
+abbrev pub Serves : Option Wanted → FolderUse → SinkUse → Status → List Put → Type 0
+Serves order folder beside end puts = (files : FileSet) → folder.agrees files → AnswersBeside (case_of order files) (views_in order) folder beside end puts
+
+abbrev pub ServesAlone : Wanted → FolderUse → Status → List Put → Type 0
+ServesAlone asked folder end puts = (files : FileSet) → folder.agrees files → Answers (case_of (Some asked) files) folder.before folder.after end puts
+
+-- a fault of the reading for a case: the refusal that the case defines; a read fault, where the folder is read; or lack of memory
+abbrev pub IsFaultOf : Case → InputFault → Type 0
+IsFaultOf case (input.Refused refusal) = Defines case (status.Refused refusal) (refused_line refusal ∷ []) × IsValid case
+IsFaultOf case input.ReadFault = ReadsFolder case
+IsFaultOf case input.Memory = Unit {0}
+
+-- what is listed was read, its decks and the zones of their cells; or it has this fault
+abbrev pub IsTaskRead : ListingOrder → Option Text → FileSet → Result Task InputFault → Type 0
+IsTaskRead asked to files (Ok k) = AreDecksAs asked.limits asked.name to files (Ok k.decks) × (zones_read files asked.zones k.decks.first ≡ Ok k.zones)
+IsTaskRead asked to files (Err fault) = IsFaultOf (case_of (Some (Run asked to)) files) fault
+
+-- the task that this order asks for, of some decks and zones
+abbrev pub IsAsked : ListingOrder → Task → Type 0
+IsAsked asked k = k ≡ decks_task asked k.decks k.zones
 
 -- a fault of reading made files: they are in memory, so one that is no refusal is lack of memory
 abbrev pub made_fault : InputFault → InputFault

@@ -1,8 +1,7 @@
 -- What a run puts, how it ends, and which end is certain.
 use Rattle.std.specs.Prelude.{◌≡◌, ◌⊎◌, ℕ, List, false, Ok, Option, IfOk, All}
 use Rattle.command_line.specs.{Wanted}
-use Rattle.engine.specs.declared.job.Job.{Job}
-use Rattle.outside.specs.{Rose, Put, FileSet}
+use Rattle.outside.specs.{Put, FileSet, Rose}
 use Rattle.step_problem.specs.declared.place.NoBound.{NoBound}
 use Rattle.model_types.specs.declared.time_steps.TimeStep.{TimeStep}
 use Rattle.run_puts.specs.{IsUnfinished, Text, IsRun}
@@ -18,29 +17,24 @@ use Rattle.engine.specs.Cases.{After, Case, Checking, Listing, Making, Comparing
 use Rattle.deck_span.specs.{AreAlike}
 use Rattle.engine.specs.Made.{made_task}
 use Rattle.engine.specs.Defined.{Defines, Due, CutOf}
+use Rattle.engine.specs.Uses.{FolderUse, SinkUse, failed_write}
 
 -- the puts of a run of this case with this end
 abbrev pub IsRunOf : Type 0 → Type 0 → Case → Status → List Put → Type 0
 IsRunOf read_failed failed_beside case = IsRun (Due read_failed failed_beside case) (CutOf case)
 
--- What a run puts, for every status: `leads` says which puts take the sink from its state before to its state after,
--- and the two numbers are the folder's counts of faults before and after. `failed_beside` says that a write to the side failed.
-pub record Puts (leads : List Put → Type 0) (order : Option Wanted) (files : FileSet) (before after : ℕ)
-    (failed_beside : Type 0) (end : Status) : Type 0 where
+-- What a run puts, for every status.
+pub record Puts (folder : FolderUse) (beside out : SinkUse) (order : Option Wanted) (files : FileSet) (end : Status) : Type 0 where
   pub puts : List Put
-  pub leads_on : leads puts
-  pub run : IsRunOf (Rose before after) failed_beside (case_of order files) end puts
-
--- the job is no listing with --quick
-abbrev pub IsPlainJob : Job → Type 0
-IsPlainJob job = IfOk job.read (λ k. k.quick ≡ false)
+  pub leads_on : out.leads puts
+  pub run : IsRunOf (Rose folder.before folder.after) (failed_write beside) (case_of order files) end puts
 
 -- the case has no listing with --quick, whose end the words and files leave open
 abbrev pub IsPlain : Case → Type 0
 IsPlain (Listing k) = k.quick ≡ false
 IsPlain (Comparing a b case) = IsPlain case
 IsPlain (After text case) = IsPlain case
-IsPlain (Jobs jobs) = All IsPlainJob jobs
+IsPlain (Jobs jobs) = All (λ job. IfOk job.read (λ k. k.quick ≡ false)) jobs
 IsPlain other = Unit {0}
 
 -- The run has the end that the words and files define, unless a read or a write fails, memory runs out, or a step doesn't settle within the rounds.

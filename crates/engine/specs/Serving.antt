@@ -1,7 +1,7 @@
 -- How a program ends that runs its words and ends with the number of the run's status.
 use Rattle.std.specs.Prelude.{◌≡◌, ◌⊎◌, ℕ, Bool, List, Option, Some, true, false, [], ◌∷◌, ◌++◌, None, option_to_list}
 use Rattle.std.specs.Io.KnownBytes.{Appends}
-use Rattle.outside.specs.{FileSet, Put, Rose, Seen}
+use Rattle.outside.specs.{FileSet, Rose}
 use Rattle.run_puts.specs.{Text, code_of}
 use Rattle.run_puts.specs.declared.puts.Status.{Status}
 use Rattle.run_puts.specs.declared.puts.Status.TheVariants as status
@@ -15,6 +15,7 @@ use Rattle.engine.specs.SpanHeadline.{OneSpan, SpanCertified, SpanHeadline, Span
 use Rattle.engine.specs.TextCertified.{OneTextVerdict, TextCertified}
 use Rattle.engine.specs.Parts.{IsStopped}
 use Rattle.engine.specs.Runs.{EndsOk, EndIsDefined, Puts}
+use Rattle.engine.specs.Uses.{FolderUse, HasFailed, SinkUse, failed_write}
 use Rattle.engine.specs.Watched.{SidePuts, Watched, views_in}
 use Rattle.engine.specs.Words.{words_text}
 use Rattle.engine.specs.Batched.{Batched, HasNoList}
@@ -57,81 +58,71 @@ limits_asked other = Plain
 abbrev pub bytes_asked : List Text → ℕ
 bytes_asked words = most_bytes (limits_asked (order_of_words words))
 
--- The words were said.
-abbrev pub Said : Seen → Seen → Type 0
-Said old new = Appends old.written new.written words_text
-
 -- The headline of a run; of one with --deck, which has put the text of the deck first; and the same of two decks.
-abbrev pub RunHeadline : (deck : Bool) → ListingOrder → FileSet → Seen → Seen → Type 0
-RunHeadline false asked files old new = Headline asked files old.written new.written
-RunHeadline true asked files old new = DeckHeadline asked files old.written new.written
+abbrev pub RunHeadline : (deck : Bool) → ListingOrder → FileSet → (old new : Option (List ℕ)) → Type 0
+RunHeadline false asked files old new = Headline asked files old new
+RunHeadline true asked files old new = DeckHeadline asked files old new
 
-abbrev pub RunSpanHeadline : (deck : Bool) → ListingOrder → Text → FileSet → Seen → Seen → Type 0
-RunSpanHeadline false asked to files old new = SpanHeadline asked to files old.written new.written
-RunSpanHeadline true asked to files old new = DeckSpanHeadline asked to files old.written new.written
+abbrev pub RunSpanHeadline : (deck : Bool) → ListingOrder → Text → FileSet → (old new : Option (List ℕ)) → Type 0
+RunSpanHeadline false asked to files old new = SpanHeadline asked to files old new
+RunSpanHeadline true asked to files old new = DeckSpanHeadline asked to files old new
 
 -- The headline of an order: of a listing, or of one of two decks; of a check, or of one of two decks, or of a text; of a made model, whose listing is
 -- summed up; of each listing of a batch; of a deck; or of the words.
-abbrev pub HeadlineOf : Option Wanted → FileSet → Status → Seen → Seen → Type 0
+abbrev pub HeadlineOf : Option Wanted → FileSet → Status → (old new : Option (List ℕ)) → Type 0
 HeadlineOf None files end old new = ⊥
 HeadlineOf (Some (Run asked None)) files end old new = RunHeadline asked.deck asked files old new
 HeadlineOf (Some (Run asked (Some to))) files end old new = RunSpanHeadline asked.deck asked to files old new
-HeadlineOf (Some (Check asked None)) files end old new = Certified asked files old.written new.written
-HeadlineOf (Some (Check asked (Some to))) files end old new = SpanCertified asked to files old.written new.written
-HeadlineOf (Some (Make seed size)) files end old new = Made seed size old.written new.written
-HeadlineOf (Some (Batch asked)) files end old new = Batched asked files end old.written new.written
-HeadlineOf (Some (Write limits name)) files end old new = OneDeck limits name files old.written new.written
-HeadlineOf (Some (CheckText asked)) files end old new = TextCertified asked files old.written new.written
-HeadlineOf (Some Words) files end old new = Said old new
+HeadlineOf (Some (Check asked None)) files end old new = Certified asked files old new
+HeadlineOf (Some (Check asked (Some to))) files end old new = SpanCertified asked to files old new
+HeadlineOf (Some (Make seed size)) files end old new = Made seed size old new
+HeadlineOf (Some (Batch asked)) files end old new = Batched asked files end old new
+HeadlineOf (Some (Write limits name)) files end old new = OneDeck limits name files old new
+HeadlineOf (Some (CheckText asked)) files end old new = TextCertified asked files old new
+HeadlineOf (Some Words) files end old new = Appends old new words_text
 
--- The one listing of a run, and of two decks, after their text with --deck.
-abbrev pub OneRun : (deck : Bool) → ListingOrder → FileSet → Seen → Seen → Type 0
-OneRun false asked files old new = OneListing asked files old.written new.written
-OneRun true asked files old new = OneDeckListing asked files old.written new.written
-
-abbrev pub OneRunSpan : (deck : Bool) → ListingOrder → Text → FileSet → Seen → Seen → Type 0
-OneRunSpan false asked to files old new = OneSpan asked to files old.written new.written
-OneRunSpan true asked to files old new = OneDeckSpan asked to files old.written new.written
+-- what is so of a listing alone, and of one after the text of its decks
+abbrev pub ByDeck : (deck : Bool) → (alone after_deck : Type 0) → Type 0
+ByDeck false alone after_deck = alone
+ByDeck true alone after_deck = after_deck
 
 -- And what was put is the one listing that the files define, or with --quick one by certificates; or each step of the one that was
 -- checked is certified; or what was put sums it up, is the one deck, or is the words.
-abbrev pub OneOf : Option Wanted → FileSet → Status → Seen → Seen → Type 0
+abbrev pub OneOf : Option Wanted → FileSet → Status → (old new : Option (List ℕ)) → Type 0
 OneOf None files end old new = ⊥
-OneOf (Some (Run asked None)) files end old new = OneRun asked.deck asked files old new
-OneOf (Some (Run asked (Some to))) files end old new = OneRunSpan asked.deck asked to files old new
-OneOf (Some (Check asked None)) files end old new = OneVerdict asked files old.written new.written
-OneOf (Some (Check asked (Some to))) files end old new = SpanVerdict asked to files old.written new.written
-OneOf (Some (Make seed size)) files end old new = OneSummary seed size old.written new.written
-OneOf (Some (Batch asked)) files end old new = Batched asked files end old.written new.written
-OneOf (Some (Write limits name)) files end old new = OneDeck limits name files old.written new.written
-OneOf (Some (CheckText asked)) files end old new = OneTextVerdict asked files old.written new.written
-OneOf (Some Words) files end old new = Said old new
+OneOf (Some (Run asked None)) files end old new = ByDeck asked.deck (OneListing asked files old new) (OneDeckListing asked files old new)
+OneOf (Some (Run asked (Some to))) files end old new = ByDeck asked.deck (OneSpan asked to files old new) (OneDeckSpan asked to files old new)
+OneOf (Some (Check asked None)) files end old new = OneVerdict asked files old new
+OneOf (Some (Check asked (Some to))) files end old new = SpanVerdict asked to files old new
+OneOf (Some (Make seed size)) files end old new = OneSummary seed size old new
+OneOf (Some (Batch asked)) files end old new = Batched asked files end old new
+OneOf (Some (Write limits name)) files end old new = OneDeck limits name files old new
+OneOf (Some (CheckText asked)) files end old new = OneTextVerdict asked files old new
+OneOf (Some Words) files end old new = Appends old new words_text
 
--- What a run of this order has come to. `agrees` are the files that agree with all results of its folder, which counted `before` and then
--- `after` faults; `leads` and `leads_beside` say which puts take `out` and `side` from before it to after it, and `out` was seen as
--- `old` and then as `new`.
-pub record IsRunResult (order : Option Wanted) (agrees : FileSet → Type 0) (before after : ℕ) (failed_beside : Type 0)
-    (leads_beside leads : List Put → Type 0) (end : Status) (old new : Seen) : Type 0 where
+-- What a run of this order has come to, by what it did with its folder, its side sink and its output.
+pub record IsRunResult (order : Option Wanted) (folder : FolderUse) (beside out : SinkUse) (end : Status) : Type 0 where
   -- What is put to `out`, for every status, with the status' cause.
-  pub puts : (files : FileSet) → agrees files → Puts leads order files before after failed_beside end
+  pub puts : (files : FileSet) → folder.agrees files → Puts folder beside out order files end
   -- What is put to `side`, for every status: nothing without `--watch`, else the views of the first steps, in turn, up to the
   -- first put that failed. If the run ends Ok, they are the views of all steps.
-  pub side : (files : FileSet) → agrees files → SidePuts leads_beside (case_of order files) (views_in order)
-  pub watched : end ≡ status.Ok → (n : ℕ) → views_in order ≡ Some n → (files : FileSet) → agrees files → Watched true (case_of order files) n leads_beside
+  pub side : (files : FileSet) → folder.agrees files → SidePuts beside.leads (case_of order files) (views_in order)
+  pub watched : end ≡ status.Ok → (n : ℕ) → views_in order ≡ Some n → (files : FileSet) → folder.agrees files →
+      Watched true (case_of order files) n beside.leads
   -- Some files agree with all that the folder has answered.
-  pub told : (files : FileSet) × agrees files
+  pub told : (files : FileSet) × folder.agrees files
   -- The headline, and that the listing is the one that the files define.
-  pub headline : end ≡ status.Ok → (files : FileSet) → agrees files → HeadlineOf order files end old new
-  pub one : end ≡ status.Ok → (files : FileSet) → agrees files → OneOf order files end old new
+  pub headline : end ≡ status.Ok → (files : FileSet) → folder.agrees files → HeadlineOf order files end out.old.written out.new.written
+  pub one : end ≡ status.Ok → (files : FileSet) → folder.agrees files → OneOf order files end out.old.written out.new.written
   -- A batch that didn't stop has put the text of each job, whatever the jobs' statuses, or its list is refused.
-  pub batch : (IsStopped end → ⊥) → (asked : AskedBatch) → order ≡ Some (Batch asked) → (files : FileSet) → agrees files →
-      HasNoList asked files end ⊎ Batched asked files end old.written new.written
+  pub batch : (IsStopped end → ⊥) → (asked : AskedBatch) → order ≡ Some (Batch asked) → (files : FileSet) → folder.agrees files →
+      HasNoList asked files end ⊎ Batched asked files end out.old.written out.new.written
   -- These statuses have a count as their cause.
-  pub read_fault : end ≡ status.ReadFault → Rose before after
-  pub write_fault : end ≡ status.WriteFault → Rose old.faults new.faults ⊎ failed_beside
+  pub read_fault : end ≡ status.ReadFault → Rose folder.before folder.after
+  pub write_fault : end ≡ status.WriteFault → failed_write out ⊎ failed_write beside
   -- The end that the words and files define is the end of the run, if nothing outside failed.
-  pub decided : (files : FileSet) → agrees files → EndIsDefined (Rose before after ⊎ (Rose old.faults new.faults ⊎ failed_beside)) order files end
-  pub complete : (files : FileSet) → agrees files → EndsOk (Rose before after ⊎ (Rose old.faults new.faults ⊎ failed_beside)) order files end
+  pub decided : (files : FileSet) → folder.agrees files → EndIsDefined (HasFailed folder beside out) order files end
+  pub complete : (files : FileSet) → folder.agrees files → EndsOk (HasFailed folder beside out) order files end
 
 -- the numbers of a run that stopped: since a read failed, a write failed, or memory ran out
 abbrev pub IsStopNumber : ℕ → Type 0
@@ -140,13 +131,12 @@ IsStopNumber number = (number ≡ 5) ⊎ ((number ≡ 6) ⊎ (number ≡ 7))
 -- A program that ends with this number: it is that of its run's status; and where it is 0, the headline holds of files that agree
 -- with the folder, of which there are some, and the listing is the one that they define. As many bytes of a file are read as the
 -- limits say that the words ask for. A batch with any number but 5, 6 and 7 has its list refused, or has put the text of each of its models.
-pub record IsProgramEnd (agrees : FileSet → Type 0) (words : List Text) (before after : ℕ)
-    (failed_beside : Type 0) (leads_beside leads : List Put → Type 0) (old new : Seen) (number : ℕ) : Type 0 where
+pub record IsProgramEnd (words : List Text) (folder : FolderUse) (beside out : SinkUse) (number : ℕ) : Type 0 where
   pub end : Status
   pub number_is : number ≡ code_of end
-  pub run : IsRunResult (order_of_words words) agrees before after failed_beside leads_beside leads end old new
-  pub limit : (files : FileSet) → agrees files → files.limit ≡ bytes_asked words
-  pub headline : number ≡ 0 → (files : FileSet) → agrees files → HeadlineOf (order_of_words words) files end old new
-  pub one : number ≡ 0 → (files : FileSet) → agrees files → OneOf (order_of_words words) files end old new
-  pub batch : (IsStopNumber number → ⊥) → (asked : AskedBatch) → order_of_words words ≡ Some (Batch asked) → (files : FileSet) → agrees files →
-      HasNoList asked files end ⊎ Batched asked files end old.written new.written
+  pub run : IsRunResult (order_of_words words) folder beside out end
+  pub limit : (files : FileSet) → folder.agrees files → files.limit ≡ bytes_asked words
+  pub headline : number ≡ 0 → (files : FileSet) → folder.agrees files → HeadlineOf (order_of_words words) files end out.old.written out.new.written
+  pub one : number ≡ 0 → (files : FileSet) → folder.agrees files → OneOf (order_of_words words) files end out.old.written out.new.written
+  pub batch : (IsStopNumber number → ⊥) → (asked : AskedBatch) → order_of_words words ≡ Some (Batch asked) → (files : FileSet) →
+      folder.agrees files → HasNoList asked files end ⊎ Batched asked files end out.old.written out.new.written

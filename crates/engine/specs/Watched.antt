@@ -1,5 +1,5 @@
 -- What a watched run puts to its side sink.
-use Rattle.std.specs.Prelude.{◌≡◌, ◌⊎◌, ℕ, ◌*◌, ◌<◌, List, [], ◌∷◌, ◌++◌, length, map, All, Bool, true, false, Option, Some, None, option_and_then}
+use Rattle.std.specs.Prelude.{◌≡◌, ◌⊎◌, ℕ, ◌*◌, ◌<◌, List, [], ◌∷◌, ◌++◌, length, map, All, Bool, true, false, Option, Some, None}
 use Rattle.outside.specs.{Put, whole_put, failed_put}
 use Rattle.outside.specs.declared.traits.SinkError.{SinkError}
 use Rattle.step_problem.specs.declared.heads.Bound.{Bound}
@@ -17,15 +17,15 @@ use Rattle.run_puts.specs.{Text}
 use Rattle.listing_run.specs.declared.steps.Task.{Task}
 use Rattle.listing_run.specs.declared.solving.Step.{Step}
 use Rattle.listing_run.specs.{time, EnclosesSolutions, IsStep}
+use Rattle.run_puts.specs.declared.puts.Status.{Status}
+use Rattle.run_puts.specs.declared.puts.Status.TheVariants as status
 use Rattle.engine.specs.Cases.{Case, IsListingOf}
+use Rattle.engine.specs.Uses.{SinkUse}
 
 -- the number of views in each phase that the words ask for
-abbrev pub views_asked : Wanted → Option ℕ
-views_asked (Run asked to) = asked.watch
-views_asked other = None
-
 abbrev pub views_in : Option Wanted → Option ℕ
-views_in order = option_and_then views_asked order
+views_in (Some (Run asked to)) = asked.watch
+views_in other = None
 
 -- the text of a view, by the stress period and the number of its step
 abbrev pub lines_of : Grid → ℕ → ℕ → List Entries → List Bound → List ℕ
@@ -79,10 +79,11 @@ pub record Watched (whole : Bool) (case : Case) (each_phase : ℕ) (leads : List
   pub is : IsListingOf task case
   pub watched : IsWatched whole task each_phase leads
 
--- what a listing puts to the side sink, whatever its status, where this number of views is asked for, or none
-abbrev pub ViewPutsOf : Task → (List Put → Type 0) → Option ℕ → Type 0
-ViewPutsOf k leads None = leads []
-ViewPutsOf k leads (Some n) = leads [] ⊎ IsWatched false k n leads
+-- What a listing that ended so puts to the side sink, where this number of views is asked for, or none: nothing; or the views of the
+-- first steps, and if it ended Ok those of all.
+abbrev pub ViewsPut : Task → Option ℕ → SinkUse → Status → Type 0
+ViewsPut k None beside end = beside.leads []
+ViewsPut k (Some n) beside end = (beside.leads [] ⊎ IsWatched false k n beside.leads) × (end ≡ status.Ok → IsWatched true k n beside.leads)
 
 -- What is put to the side sink, whatever the status: nothing; or, with `--watch`, the views of the first steps.
 abbrev pub SidePuts : (List Put → Type 0) → Case → Option ℕ → Type 0

@@ -1,22 +1,19 @@
 // A batch of models.
-ghost use Rattle.std.specs.Prelude.{◌≡◌, ◌≤◌, List, length, map, IfSome, Some, ◌<◌, ◌^◌, slice_get};
-ghost use Rattle.outside.specs.{WordsMay, folder_name, FileSet, Rose};
-ghost use Rattle.engine.specs.Serving.{files_named};
+ghost use Rattle.std.specs.Prelude.{◌≡◌, ◌≤◌, List, length, IfSome, ◌<◌, ◌^◌, slice_get};
+ghost use Rattle.outside.specs.{folder_name, FileSet};
 ghost use Rattle.run_puts.specs.{IsRun, NeverCut, PutsMore, IsBatch};
 ghost use Rattle.engine.specs.BatchReads.{AreTasks};
-ghost use Rattle.command_line.specs.{batch_of, order_of_words, Batch};
-ghost use Rattle.engine.specs.Cases.{case_of, ReadsNothing};
+ghost use Rattle.command_line.specs.{batch_of, Batch};
 ghost use Rattle.engine.specs.Defined.{IsJobEnd};
-ghost use Rattle.engine.specs.Parts.{Answers, AnswersBeside};
-ghost use Rattle.engine.specs.Watched.{views_in};
+ghost use Rattle.engine.specs.Parts.{ServesAlone};
+ghost use Rattle.engine.specs.Uses.{folder_use};
 ghost use Rattle.engine.specs.declared.job.Job.{Job as JobRead};
 
 use crate::batch_reading::read_batch;
 use crate::ending::end_reading;
 use crate::job::{Job, end_of_job};
-use crate::running::run_order;
 use batch_book::{Jobs, run_batch};
-use command_line::{BatchOrder, Order, read_order};
+use command_line::BatchOrder;
 use outside::{Folder, Gate, Sink};
 use run_puts::{JobEnd, Status, put_ends, put_memory};
 use std::alloc::{AllocError, Global};
@@ -44,8 +41,8 @@ fn put_jobs<R: Threads + Wait + Sync, K: Sink, G: Gate + Sync>(
     }
 }
 
-// Reads a batch, runs its jobs, and puts the text of each.
-fn put_batch<'a, R: Threads + Wait + Sync, F: Folder, K: Sink, G: Gate + Sync>(
+/// Reads a batch, runs its jobs, and puts the text of each.
+pub(crate) fn put_batch<'a, R: Threads + Wait + Sync, F: Folder, K: Sink, G: Gate + Sync>(
     rt: &R,
     alloc: Global,
     asked: BatchOrder<'a>,
@@ -55,45 +52,11 @@ fn put_batch<'a, R: Threads + Wait + Sync, F: Folder, K: Sink, G: Gate + Sync>(
 ) -> Status
     requires may { F.may folder.old (folder_name asked.list.now) }
     ensures since { (files : FileSet) → F.agrees folder.new files → F.agrees folder.old files }
-    ensures answers { PutsMore K.leads out.old out.new (λ more. (files : FileSet) → F.agrees folder.new files →
-        Answers (case_of (Some (Batch (batch_of asked.entry))) files) (F.faults folder.old) (F.faults folder.new) result more) }
+    ensures serves { PutsMore K.leads out.old out.new (ServesAlone (Batch (batch_of asked.entry)) (folder_use F.Folder folder.old folder.new) result) }
 {
     match read_batch(alloc, folder, asked) {
         Ok(jobs) => put_jobs(rt, alloc, jobs.as_slice(), asked.workers, out, gate),
         Err(fault) => end_reading(alloc, fault, out),
-    }
-}
-
-/// Does what the words ask for: a batch, or another command.
-pub(crate) fn run_any_order<
-    R: Threads + Wait + Sync,
-    F: Folder,
-    K: Sink + Send,
-    W: Sink + Send,
-    G: Gate + Sync,
->(
-    rt: &R,
-    alloc: Global,
-    words: &[&str],
-    folder: &mut F,
-    out: &mut K,
-    side: &mut W,
-    gate: &G,
-) -> Status
-    requires may { WordsMay (F.may folder.old) (files_named (map (λ w. w.now) words.now)) }
-    ensures since { (files : FileSet) → F.agrees folder.new files → F.agrees folder.old files }
-    ensures unasked { ReadsNothing (order_of_words (map (λ w. w.now) words.now)) → folder.new ≡ folder.old }
-    ensures answers { PutsMore K.leads out.old out.new (λ more. (files : FileSet) → F.agrees folder.new files →
-        AnswersBeside (case_of (order_of_words (map (λ w. w.now) words.now)) files) (views_in (order_of_words (map (λ w. w.now) words.now)))
-        (F.faults folder.old) (F.faults folder.new)
-        (Rose (W.seen side.old).faults (W.seen side.new).faults) (λ puts. W.leads side.old puts side.new) result more) }
-{
-    match read_order(alloc, words) {
-        Ok(order) => match order {
-            Order::Batch(asked) => put_batch(rt, alloc, asked, folder, out, gate),
-            _ => run_order(rt, alloc, Ok(order), folder, out, side, gate),
-        },
-        Err(fault) => run_order(rt, alloc, Err(fault), folder, out, side, gate),
     }
 }
 

@@ -6,7 +6,7 @@ ghost use Rattle.zone_pairs.specs.{pairs_in, AreZones};
 ghost use Rattle.listing_io.specs.{AreListed};
 ghost use Rattle.run_puts.specs.{IsRun, NeverCut, PutsMore};
 ghost use Rattle.command_line.specs.{Check, check_of, text_if};
-ghost use Rattle.engine.specs.{IsCheck, case_of, MayRead, Answers, AreDecksAs, IsListed, listing_read, steps_read};
+ghost use Rattle.engine.specs.{IsCheck, case_of, MayRead, Answers, AreDecksAs, IsListed, ServesAlone, folder_use, listing_read, steps_read};
 ghost use Rattle.deck_problems.specs.{AreDecks};
 
 use crate::ending::end_reading;
@@ -136,9 +136,8 @@ pub(crate) fn check<'a, F: Folder, K: Sink>(
     requires may { MayRead (F.may folder.old) (check_of asked).name (text_if asked.to) (check_of asked).zones }
     requires listing { F.may folder.old (folder_name asked.listing.now) }
     ensures since { (files : FileSet) → F.agrees folder.new files → F.agrees folder.old files }
-    ensures answers { PutsMore K.leads out.old out.new (λ more. (files : FileSet) → F.agrees folder.new files →
-        Answers (case_of (Some (Check (check_of asked.entry) (text_if asked.entry.to))) files)
-        (F.faults folder.old) (F.faults folder.new) result more) }
+    ensures serves { PutsMore K.leads out.old out.new
+        (ServesAlone (Check (check_of asked.entry) (text_if asked.entry.to)) (folder_use F.Folder folder.old folder.new) result) }
 {
     match read_decks(alloc, asked.limits, folder, asked.name, asked.to) {
         Ok(decks) => {

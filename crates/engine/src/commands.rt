@@ -1,12 +1,14 @@
 ghost use Rattle.std.specs.Prelude.{◌≡◌, ℕ, map, Some, true};
-ghost use Rattle.outside.specs.{WordsMay, FileSet, Rose};
-ghost use Rattle.engine.specs.{bytes_asked, case_of, files_named, IsProgramEnd, IsRunResult, ReadsNothing, views_in};
+ghost use Rattle.outside.specs.{WordsMay, FileSet};
+ghost use Rattle.engine.specs.{bytes_asked, case_of, files_named, folder_use, IsProgramEnd, IsRunResult, ReadsNothing, sink_use, views_in};
 ghost use Rattle.command_line.specs.{order_of_words};
 ghost use Rattle.engine.specs.Watched.{Watched};
 ghost use Rattle.std.specs.Process.{exit_status};
 
-use crate::batching::run_any_order;
+use crate::batching::put_batch;
+use crate::running::run_order;
 use check_run::laws::one_verdict;
+use command_line::{Order, read_order};
 use deck_span::laws::one_difference;
 use listing_run::laws::one_listing;
 use outside::{Folder, Gate, Sink};
@@ -39,16 +41,31 @@ pub fn run<R: Threads + Wait + Sync, F: Folder, K: Sink + Send, W: Sink + Send, 
     ensures unasked { ReadsNothing (order_of_words (map (λ w. w.now) words.now)) → folder.new ≡ folder.old }
 
     // The headline and all else that a run has come to.
-    ensures runs { IsRunResult (order_of_words (map (λ w. w.now) words.now)) (F.agrees folder.new) (F.faults folder.old) (F.faults folder.new)
-        (Rose (W.seen side.old).faults (W.seen side.new).faults) (λ puts. W.leads side.old puts side.new) (λ puts. K.leads out.old puts out.new)
-        result (K.seen out.old) (K.seen out.new) }
+    ensures runs { IsRunResult (order_of_words (map (λ w. w.now) words.now))
+        (folder_use F.Folder folder.old folder.new) (sink_use W.Sink side.old side.new) (sink_use K.Sink out.old out.new) result }
 {
     one_listing();
     one_verdict();
     one_difference();
-    let status = run_any_order(rt, alloc, words, folder, out, side, gate);
-    folder.some_agree();
-    status
+    match read_order(alloc, words) {
+        Ok(order) => match order {
+            Order::Batch(asked) => {
+                let status = put_batch(rt, alloc, asked, folder, out, gate);
+                folder.some_agree();
+                status
+            }
+            _ => {
+                let status = run_order(rt, alloc, Ok(order), folder, out, side, gate);
+                folder.some_agree();
+                status
+            }
+        },
+        Err(fault) => {
+            let status = run_order(rt, alloc, Err(fault), folder, out, side, gate);
+            folder.some_agree();
+            status
+        }
+    }
 }
 
 /// Does what the words ask, as `run` does, and ends with the number of its status: where that is 0, the headline holds, and
@@ -68,10 +85,8 @@ pub fn serve<R: Threads + Wait + Sync, F: Folder, K: Sink + Send, W: Sink + Send
     requires may { WordsMay (F.may folder.old) (files_named (map (λ w. w.now) words.now)) }
     // It reads at most as many bytes of a file as the limits say that the words ask for.
     requires limit { (files : FileSet) → F.agrees folder.old files → files.limit ≡ bytes_asked (map (λ w. w.now) words.now) }
-    ensures serves { IsProgramEnd (F.agrees folder.new) (map (λ w. w.now) words.now)
-        (F.faults folder.old) (F.faults folder.new) (Rose (W.seen side.old).faults (W.seen side.new).faults)
-        (λ puts. W.leads side.old puts side.new) (λ puts. K.leads out.old puts out.new)
-        (K.seen out.old) (K.seen out.new) (exit_status result) }
+    ensures serves { IsProgramEnd (map (λ w. w.now) words.now)
+        (folder_use F.Folder folder.old folder.new) (sink_use W.Sink side.old side.new) (sink_use K.Sink out.old out.new) (exit_status result) }
     ensures watched { exit_status result ≡ 0 → (n : ℕ) → views_in (order_of_words (map (λ w. w.now) words.now)) ≡ Some n → (files : FileSet) →
         F.agrees folder.new files → Watched true (case_of (order_of_words (map (λ w. w.now) words.now)) files) n (λ puts. W.leads side.old puts side.new) }
 {

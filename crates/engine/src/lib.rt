@@ -13,6 +13,7 @@ mod listing;
 mod making;
 mod reading;
 mod running;
+mod tasks;
 mod text_check;
 mod two_decks;
 mod verdict;

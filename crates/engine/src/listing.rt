@@ -1,19 +1,21 @@
 // A listing by workers in threads.
-ghost use Rattle.std.specs.Prelude.{◌≡◌, IfSome, None, true, false};
-ghost use Rattle.outside.specs.{Rose};
+ghost use Rattle.std.specs.Prelude.{◌≡◌};
+ghost use Rattle.command_line.specs.{asked_of};
 ghost use Rattle.run_puts.specs.{IsRun, PutsMore};
-ghost use Rattle.step_problem.specs.{IsBarrier, Settles, settled};
+ghost use Rattle.step_problem.specs.{IsBarrier, Settles};
 ghost use Rattle.settle_driver.specs.{IsPlan};
-ghost use Rattle.listing_run.specs.{IsTask, IsListing, IsListingBeside, IsCutListing};
-ghost use Rattle.engine.specs.{IsWatched, ViewPutsOf};
+ghost use Rattle.listing_run.specs.{IsTask, IsListing, IsCutListing};
+ghost use Rattle.engine.specs.{IsAsked, IsRunOf, Listing, ViewsPut, after_text, decks_text, failed_write, sink_use};
 
 use crate::viewing::put_texts;
+use crate::writing::put_text_if;
 use certified_pair::QuickPairs;
+use command_line::RunOrder;
 use listing_run::{Task, put_steps};
 use near_settler::NearSettler;
 use outside::{Gate, Sink};
 use run_puts::Status;
-use settle_driver::{ClosureSettler, Plan, StepSettler};
+use settle_driver::{ClosureSettler, Plan};
 use std::alloc::Global;
 use std::thread::Threads;
 use step_problem::{Barrier, Bound, Problem, SettleFault};
@@ -21,32 +23,8 @@ use step_problem::{Barrier, Bound, Problem, SettleFault};
 /// The turns of a worker for each cell in a phase.
 pub(crate) const TURNS: u32 = 64;
 
-// Puts the listing of a task, each step by this settler, which never stops; in a quick task only where no guessed pair is a
-// certificate.
-fn put_by<R: Threads + Sync, K: Sink + Send, S: StepSettler + Drop>(
-    rt: &R,
-    alloc: Global,
-    task: &Task,
-    settler: S,
-    out: &mut K,
-) -> Status
-    requires task { IsTask task.now }
-    requires ready { S.ready settler }
-    requires rounds { S.rounds settler ≡ task.now.rounds }
-    requires pairs { S.pairs ≡ settled }
-    requires goes_on { (s : S) → S.stop s ≡ None }
-    ensures { PutsMore K.leads out.old out.new (IsRun (IsListing task.now) (IsCutListing task.now) result) }
-{
-    if task.quick {
-        let mut pairs = QuickPairs::new(settler);
-        return put_steps(rt, alloc, task, &mut pairs, out);
-    }
-    let mut settler = settler;
-    put_steps(rt, alloc, task, &mut settler, out)
-}
-
-// Puts the listing of a task, each step settled by this plan.
-fn put_unwatched<R: Threads + Sync, K: Sink + Send, G: Gate + Sync>(
+// Puts the listing of a task, each step settled by this plan; in a quick task only where no guessed pair is a certificate.
+fn put_settled<R: Threads + Sync, K: Sink + Send, G: Gate + Sync>(
     rt: &R,
     alloc: Global,
     task: &Task,
@@ -61,39 +39,47 @@ fn put_unwatched<R: Threads + Sync, K: Sink + Send, G: Gate + Sync>(
 {
     let near = NearSettler::new(rt, plan, gate);
     let near = &near;
-    let settler = ClosureSettler::new(
+    let mut settler = ClosureSettler::new(
         plan.rounds,
         |alloc: Global, p: &Problem, b: &Barrier| -> Result<Vec<Bound>, SettleFault>
             requires { IsBarrier p.now b.now }
             ensures { Settles p.entry.now b.entry.now near.entry.now.plan.rounds result }
         { near.settle(alloc, p, b) },
     );
-    put_by(rt, alloc, task, settler, out)
+    if task.quick {
+        let mut pairs = QuickPairs::new(settler);
+        return put_steps(rt, alloc, task, &mut pairs, out);
+    }
+    put_steps(rt, alloc, task, &mut settler, out)
 }
 
-/// Puts the listing of a task, each step settled by this plan, or in a quick task by a certificate. Workers pass the gate
-/// before each turn. If `views` is given, that number of views is put to the side sink in each phase.
-pub(crate) fn put_listing<R: Threads + Sync, K: Sink + Send, W: Sink + Send, G: Gate + Sync>(
+/// Puts the listing of the task that an order asks for: with `--deck` the text of its decks first, as one piece. Workers pass the
+/// gate before each turn. With `--watch` views of the heads are put to the side sink.
+pub(crate) fn put_listing<'a, R: Threads + Sync, K: Sink + Send, W: Sink + Send, G: Gate + Sync>(
     rt: &R,
     alloc: Global,
+    asked: RunOrder<'a>,
     task: &Task,
-    plan: Plan,
-    views: Option<u32>,
     out: &mut K,
     side: &mut W,
     gate: &G,
 ) -> Status
     requires task { IsTask task.now }
-    requires plan { IsPlan plan }
-    requires rounds { plan.rounds ≡ task.now.rounds }
-    requires plain { IfSome views (λ n. task.now.quick ≡ false) }
-    ensures puts { PutsMore K.leads out.old out.new (λ more.
-        IsRun (IsListingBeside (Rose (W.seen side.old).faults (W.seen side.new).faults) task.now) (IsCutListing task.now) result more
-        × (result ≡ Status.Ok → IfSome views (λ n. IsWatched true task.now n (λ puts. W.leads side.old puts side.new)))) }
-    ensures side { ViewPutsOf task.now (λ puts. W.leads side.old puts side.new) views }
+    requires asked { IsAsked (asked_of asked) task.now }
+    ensures puts { PutsMore K.leads out.old out.new (IsRunOf ⊥ (failed_write (sink_use W.Sink side.old side.new))
+        (after_text asked.entry.deck (decks_text task.now.decks task.now.zones) (Listing task.now)) result) }
+    ensures side { ViewsPut task.now asked.entry.watch (sink_use W.Sink side.old side.new) result }
 {
-    match views {
-        None => put_unwatched(rt, alloc, task, plan, out, gate),
+    if let Some(status) = put_text_if(alloc, asked.deck, task, out) {
+        return status;
+    }
+    let plan = Plan {
+        workers: asked.workers,
+        turns_per_cell: TURNS,
+        rounds: asked.rounds,
+    };
+    match asked.watch {
+        None => put_settled(rt, alloc, task, plan, out, gate),
         Some(views) => put_texts(rt, alloc, task, plan, views, out, side, gate),
     }
 }

@@ -1,10 +1,11 @@
 // The model of a name, and the zones of its cells.
-ghost use Rattle.std.specs.Prelude.{IfOk, IfSome, option_map};
-ghost use Rattle.outside.specs.{folder_name, file_at, FileSet, IsReading, ReadsOn, TextMay};
+ghost use Rattle.std.specs.Prelude.{IfOk, IfSome, codes, option_map};
+ghost use Rattle.outside.specs.declared.codes.Code.TheVariants.{BadName};
+ghost use Rattle.outside.specs.{file_refusal, folder_name, file_at, FileSet, IsReading, ReadsOn, TextMay};
 ghost use Rattle.model_types.specs.{IsModel};
 ghost use Rattle.zone_pairs.specs.{AreZones};
 ghost use Rattle.model_reader.specs.{reads};
-ghost use Rattle.engine.specs.{IsNamedFault, read_by_name, zones_read};
+ghost use Rattle.engine.specs.{IsRefusedBy, read_by_name, zones_read};
 
 use model_reader::read_named_model;
 use model_types::{FlowModel, Limits, Listed};
@@ -14,7 +15,7 @@ use zone_file::{read_zones, zone_numbers};
 
 /// The refusal of a bad name.
 pub(crate) fn bad_name(alloc: Global) -> InputFault
-    ensures { IsNamedFault result }
+    ensures { IsRefusedBy (file_refusal BadName (codes "-")) result }
 {
     match file_refusal(alloc, Code::BadName, "-") {
         Ok(refusal) => InputFault::Refused(refusal),

@@ -1,33 +1,23 @@
-ghost use Rattle.std.specs.Prelude.{◌≡◌, map, false, IfOk, IfSome, Ok, Option, Some, true};
-ghost use Rattle.outside.specs.{WordsMay, folder_name, FileSet, Rose};
-ghost use Rattle.engine.specs.{files_named, files_of, but_batch, case_of, decks_task, IsOrder, ReadsNothing, views_in, IsRunResult, MayRead, AnswersBeside};
-ghost use Rattle.engine.specs.{After, AreDecksAs, IsRunOf, IsWatched, Listing, ViewPutsOf, after_text, case_listed, decks_text};
+ghost use Rattle.std.specs.Prelude.{◌≡◌, map, IfOk, Option, Some};
+ghost use Rattle.outside.specs.{WordsMay, FileSet};
+ghost use Rattle.engine.specs.{files_named, files_of, but_batch, IsOrder, ReadsNothing, IsRunResult, MayRead, Serves, folder_use, sink_use};
 ghost use Rattle.command_line.specs.{asked_of, text_if, wanted_by, order_of_words, Run, Wanted};
 ghost use Rattle.run_puts.specs.{PutsMore};
-ghost use Rattle.listing_run.specs.{IsTask};
-ghost use Rattle.settle_driver.specs.{IsPlan};
-ghost use Rattle.zone_pairs.specs.{AreZones};
-ghost use Rattle.deck_problems.specs.{AreDecks};
 
 use crate::checking::check;
 use crate::ending::end_reading;
-use crate::listing::{TURNS, put_listing};
+use crate::listing::put_listing;
 use crate::making::put_made;
-use crate::reading::read_zones_of;
+use crate::tasks::read_task;
 use crate::text_check::check_text;
-use crate::two_decks::read_decks;
 use crate::words::put_words;
-use crate::writing::{put_decks_text, write};
+use crate::writing::write;
 use check_run::laws::one_verdict;
 use command_line::{Order, RunOrder, WordsFault, read_order};
-use deck_problems::Decks;
 use deck_span::laws::one_difference;
 use listing_run::laws::one_listing;
-use listing_run::{Task, zone_slice};
-use model_types::Listed;
 use outside::{Folder, Gate, Sink};
 use run_puts::{Status, put_last, put_memory};
-use settle_driver::Plan;
 use std::alloc::Global;
 use std::thread::Threads;
 
@@ -65,9 +55,8 @@ pub fn run_one<R: Threads + Sync, F: Folder, K: Sink + Send, W: Sink + Send, G: 
     ensures unasked { ReadsNothing (but_batch (order_of_words (map (λ w. w.now) words.now))) → folder.new ≡ folder.old }
 
     // The headline and all else that a run has come to.
-    ensures runs { IsRunResult (but_batch (order_of_words (map (λ w. w.now) words.now))) (F.agrees folder.new) (F.faults folder.old) (F.faults folder.new)
-        (Rose (W.seen side.old).faults (W.seen side.new).faults) (λ puts. W.leads side.old puts side.new) (λ puts. K.leads out.old puts out.new)
-        result (K.seen out.old) (K.seen out.new) }
+    ensures runs { IsRunResult (but_batch (order_of_words (map (λ w. w.now) words.now)))
+        (folder_use F.Folder folder.old folder.new) (sink_use W.Sink side.old side.new) (sink_use K.Sink out.old out.new) result }
 {
     one_listing();
     one_verdict();
@@ -96,9 +85,8 @@ pub(crate) fn run_order<
     requires may { IfOk read (λ order. WordsMay (F.may folder.old) (files_of (wanted_by order))) }
     ensures since { (files : FileSet) → F.agrees folder.new files → F.agrees folder.old files }
     ensures unasked { (order : Option Wanted) → IsOrder read.entry order → ReadsNothing order → folder.new ≡ folder.old }
-    ensures answers { (order : Option Wanted) → IsOrder read.entry order → PutsMore K.leads out.old out.new (λ more.
-        (files : FileSet) → F.agrees folder.new files → AnswersBeside (case_of order files) (views_in order) (F.faults folder.old) (F.faults folder.new)
-        (Rose (W.seen side.old).faults (W.seen side.new).faults) (λ puts. W.leads side.old puts side.new) result more) }
+    ensures serves { (order : Option Wanted) → IsOrder read.entry order → PutsMore K.leads out.old out.new
+        (Serves order (folder_use F.Folder folder.old folder.new) (sink_use W.Sink side.old side.new) result) }
 {
     match read {
         Ok(order) => match order {
@@ -115,137 +103,8 @@ pub(crate) fn run_order<
     }
 }
 
-// Puts the text of a task's decks as one piece, and then its listing, each step settled by this plan.
-fn put_after_text<R: Threads + Sync, K: Sink + Send, W: Sink + Send, G: Gate + Sync>(
-    rt: &R,
-    alloc: Global,
-    task: &Task,
-    plan: Plan,
-    views: Option<u32>,
-    out: &mut K,
-    side: &mut W,
-    gate: &G,
-) -> Status
-    requires task { IsTask task.now }
-    requires plan { IsPlan plan }
-    requires rounds { plan.rounds ≡ task.now.rounds }
-    requires plain { IfSome views (λ n. task.now.quick ≡ false) }
-    ensures puts { PutsMore K.leads out.old out.new (λ more.
-        IsRunOf ⊥ (Rose (W.seen side.old).faults (W.seen side.new).faults)
-        (After (decks_text task.now.decks task.now.zones) (Listing task.now)) result more
-        × (result ≡ Status.Ok → IfSome views (λ n. IsWatched true task.now n (λ puts. W.leads side.old puts side.new)))) }
-    ensures side { ViewPutsOf task.now (λ puts. W.leads side.old puts side.new) views }
-{
-    match put_decks_text(alloc, &task.decks, zone_slice(&task.zones), out) {
-        None => put_listing(rt, alloc, task, plan, views, out, side, gate),
-        Some(status) => status,
-    }
-}
-
-// Puts the listing of a task; first the text of its decks, if that is asked for.
-fn put_task<R: Threads + Sync, K: Sink + Send, W: Sink + Send, G: Gate + Sync>(
-    rt: &R,
-    alloc: Global,
-    deck: bool,
-    task: &Task,
-    plan: Plan,
-    views: Option<u32>,
-    out: &mut K,
-    side: &mut W,
-    gate: &G,
-) -> Status
-    requires task { IsTask task.now }
-    requires plan { IsPlan plan }
-    requires rounds { plan.rounds ≡ task.now.rounds }
-    requires plain { IfSome views (λ n. task.now.quick ≡ false) }
-    ensures puts { PutsMore K.leads out.old out.new (λ more.
-        IsRunOf ⊥ (Rose (W.seen side.old).faults (W.seen side.new).faults)
-        (after_text deck (decks_text task.now.decks task.now.zones) (Listing task.now)) result more
-        × (result ≡ Status.Ok → IfSome views (λ n. IsWatched true task.now n (λ puts. W.leads side.old puts side.new)))) }
-    ensures side { ViewPutsOf task.now (λ puts. W.leads side.old puts side.new) views }
-{
-    if deck {
-        put_after_text(rt, alloc, task, plan, views, out, side, gate)
-    } else {
-        put_listing(rt, alloc, task, plan, views, out, side, gate)
-    }
-}
-
-// Puts the listing of decks; with --deck their text first.
-fn put_decks<'a, R: Threads + Sync, K: Sink + Send, W: Sink + Send, G: Gate + Sync>(
-    rt: &R,
-    alloc: Global,
-    asked: RunOrder<'a>,
-    decks: Decks,
-    zones: Option<Listed<u32>>,
-    out: &mut K,
-    side: &mut W,
-    gate: &G,
-) -> Status
-    requires decks { AreDecks decks }
-    requires zones { AreZones decks.first zones }
-    ensures puts { PutsMore K.leads out.old out.new (λ more.
-        IsRunOf ⊥ (Rose (W.seen side.old).faults (W.seen side.new).faults) (case_listed (asked_of asked.entry) decks zones) result more
-        × (result ≡ Status.Ok → IfSome asked.entry.watch
-        (λ n. IsWatched true (decks_task (asked_of asked.entry) decks zones) n (λ puts. W.leads side.old puts side.new)))) }
-    ensures side { ViewPutsOf (decks_task (asked_of asked.entry) decks zones) (λ puts. W.leads side.old puts side.new) asked.entry.watch }
-{
-    let task = Task {
-        limits: asked.limits,
-        decks,
-        digits: asked.digits,
-        zones,
-        rounds: asked.rounds,
-        quick: asked.quick,
-    };
-    let plan = Plan {
-        workers: asked.workers,
-        turns_per_cell: TURNS,
-        rounds: asked.rounds,
-    };
-    let status = put_task(
-        rt,
-        alloc,
-        asked.deck,
-        &task,
-        plan,
-        asked.watch,
-        out,
-        side,
-        gate,
-    );
-    // one call, so that the proof has no part for each of its fields
-    drop(task);
-    status
-}
-
-// Reads the zones of decks' cells, and puts the listing of the decks.
-fn list_decks<'a, R: Threads + Sync, F: Folder, K: Sink + Send, W: Sink + Send, G: Gate + Sync>(
-    rt: &R,
-    alloc: Global,
-    asked: RunOrder<'a>,
-    decks: Decks,
-    folder: &mut F,
-    out: &mut K,
-    side: &mut W,
-    gate: &G,
-) -> Status
-    requires decks { AreDecks decks }
-    requires zones { IfSome (asked_of asked).zones (λ zones. F.may folder.old (folder_name zones)) }
-    ensures since { (files : FileSet) → F.agrees folder.new files → F.agrees folder.old files }
-    ensures answers { PutsMore K.leads out.old out.new (λ more. (files : FileSet) → F.agrees folder.new files →
-        AreDecksAs (asked_of asked.entry).limits (asked_of asked.entry).name (text_if asked.entry.to) files (Ok decks) →
-        AnswersBeside (case_of (Some (Run (asked_of asked.entry) (text_if asked.entry.to))) files) asked.entry.watch
-        (F.faults folder.old) (F.faults folder.new)
-        (Rose (W.seen side.old).faults (W.seen side.new).faults) (λ puts. W.leads side.old puts side.new) result more) }
-{
-    match read_zones_of(alloc, &decks.first, asked.zones, folder) {
-        Ok(zones) => put_decks(rt, alloc, asked, decks, zones, out, side, gate),
-        Err(fault) => end_reading(alloc, fault, out),
-    }
-}
-
-// Puts the listing of a deck of the folder, or of all models between two.
+/// Reads a deck of the folder, or two, and the zones of its cells; and puts the listing of the deck, or of all models between
+/// the two.
 fn run_listing<'a, R: Threads + Sync, F: Folder, K: Sink + Send, W: Sink + Send, G: Gate + Sync>(
     rt: &R,
     alloc: Global,
@@ -257,13 +116,16 @@ fn run_listing<'a, R: Threads + Sync, F: Folder, K: Sink + Send, W: Sink + Send,
 ) -> Status
     requires may { MayRead (F.may folder.old) (asked_of asked).name (text_if asked.to) (asked_of asked).zones }
     ensures since { (files : FileSet) → F.agrees folder.new files → F.agrees folder.old files }
-    ensures answers { PutsMore K.leads out.old out.new (λ more. (files : FileSet) → F.agrees folder.new files →
-        AnswersBeside (case_of (Some (Run (asked_of asked.entry) (text_if asked.entry.to))) files) asked.entry.watch
-        (F.faults folder.old) (F.faults folder.new)
-        (Rose (W.seen side.old).faults (W.seen side.new).faults) (λ puts. W.leads side.old puts side.new) result more) }
+    ensures serves { PutsMore K.leads out.old out.new (Serves (Some (Run (asked_of asked.entry) (text_if asked.entry.to)))
+        (folder_use F.Folder folder.old folder.new) (sink_use W.Sink side.old side.new) result) }
 {
-    match read_decks(alloc, asked.limits, folder, asked.name, asked.to) {
-        Ok(decks) => list_decks(rt, alloc, asked, decks, folder, out, side, gate),
+    match read_task(alloc, folder, asked) {
+        Ok(task) => {
+            let status = put_listing(rt, alloc, asked, &task, out, side, gate);
+            // one call, so that the proof has no part for each of its fields
+            drop(task);
+            status
+        }
         Err(fault) => end_reading(alloc, fault, out),
     }
 }

@@ -1,6 +1,6 @@
 // The check of a text: its decks, the zones of their cells, and the listing after them.
-ghost use Rattle.std.specs.Prelude.{ℕ, IfOk, IfSome, None, Some, option_map};
-ghost use Rattle.outside.specs.{folder_name, FileSet};
+ghost use Rattle.std.specs.Prelude.{ℕ, IfOk, IfSome, Some, option_map};
+ghost use Rattle.outside.specs.{folder_name, input_fault, FileSet};
 ghost use Rattle.model_types.specs.{IsModel};
 ghost use Rattle.record_lines.specs.{HasText};
 ghost use Rattle.zone_pairs.specs.{pairs_in, AreZones};
@@ -8,10 +8,8 @@ ghost use Rattle.listing_io.specs.{AreListed};
 ghost use Rattle.stated_text.specs.{parts_in, steps_after};
 ghost use Rattle.run_puts.specs.{PutsMore};
 ghost use Rattle.command_line.specs.{CheckText, asked_text};
-ghost use Rattle.engine.specs.{Answers, case_of, case_parts, case_read, case_rest};
+ghost use Rattle.engine.specs.{Answers, IsReadingEnd, ServesAlone, case_parts, case_read, case_rest, folder_use};
 ghost use Rattle.deck_problems.specs.{AreDecks};
-ghost use Rattle.deck_span.specs.{AreAlike};
-ghost use Rattle.step_chain.specs.{two};
 
 use crate::checking::put_check;
 use crate::ending::end_reading;
@@ -25,7 +23,7 @@ use listing_run::zone_slice;
 use model_types::{FlowModel, Listed};
 use outside::{Folder, InputFault, Sink, TextFault};
 use run_puts::Status;
-use stated_text::{Part, Parts, read_parts, read_steps, unlike};
+use stated_text::{Part, Parts, Rest, read_parts, read_steps, unlike};
 use std::alloc::Global;
 
 // The steps of the listing after decks whose first one has this model, from this line of the text on.
@@ -54,6 +52,13 @@ fn read_rest(
         asked.digits,
         zones,
     )
+}
+
+// Ends a check whose text has no decks or no listing.
+fn end_text<K: Sink>(alloc: Global, fault: TextFault, out: &mut K) -> Status
+    ensures { PutsMore K.leads out.old out.new (IsReadingEnd (input_fault fault) result) }
+{
+    end_reading(alloc, InputFault::from(fault), out)
 }
 
 // Checks the listing after decks, from this line of the text on, and puts the line of its verdict.
@@ -85,70 +90,24 @@ fn check_rest<K: Sink>(
             let listing = ZonedListing { zones, steps };
             put_check(alloc, asked.limits, decks, &listing, asked.digits, out)
         }
-        Err(fault) => end_reading(alloc, InputFault::from(fault), out),
+        Err(fault) => end_text(alloc, fault, out),
     }
 }
 
-// Checks the listing after one deck.
-fn check_one<K: Sink>(alloc: Global, asked: TextOrder, part: Part, out: &mut K) -> Status
-    requires model { IsModel part.model }
-    requires zones { AreZones part.model part.zones }
-    ensures { PutsMore K.leads out.old out.new (λ more. (n : ℕ) → Answers (case_parts (asked_text asked.entry) part.entry None) n n result more) }
-{
-    let Part {
-        files,
-        model,
-        zones,
-        rest,
-        line,
-    } = part;
-    drop(files);
-    let decks = Decks {
-        first: model,
-        second: None,
-    };
-    let status = check_rest(alloc, asked, &decks, zones, line, rest.as_slice(), out);
-    // one call, so that the proof has no part for each of their fields
-    drop(decks);
-    status
-}
-
-// Checks the listing after two decks that are alike.
-fn check_alike<K: Sink>(
+// Checks the listing after decks, in what follows the last part.
+fn check_last<K: Sink>(
     alloc: Global,
     asked: TextOrder,
-    first: Part,
-    second: Part,
+    decks: Decks,
+    zones: Option<Listed<u32>>,
+    line: u32,
+    rest: Rest,
     out: &mut K,
 ) -> Status
-    requires first { IsModel first.model }
-    requires second { IsModel second.model }
-    requires alike { AreAlike first.model second.model }
-    requires zones { AreZones first.model first.zones }
-    ensures { PutsMore K.leads out.old out.new (λ more. (n : ℕ) → Answers (case_rest (asked_text asked.entry)
-        (two first.entry.model second.entry.model) first.entry.zones second.entry.line second.entry.rest) n n result more) }
+    requires decks { AreDecks decks }
+    requires zones { AreZones decks.first zones }
+    ensures { PutsMore K.leads out.old out.new (λ more. (n : ℕ) → Answers (case_rest (asked_text asked.entry) decks zones line rest.entry) n n result more) }
 {
-    let Part {
-        files: first_files,
-        model: first_model,
-        zones,
-        rest: _,
-        line: _,
-    } = first;
-    let Part {
-        files,
-        model,
-        zones: same_zones,
-        rest,
-        line,
-    } = second;
-    drop(first_files);
-    drop(files);
-    drop(same_zones);
-    let decks = Decks {
-        first: first_model,
-        second: Some(model),
-    };
     let status = check_rest(alloc, asked, &decks, zones, line, rest.as_slice(), out);
     // one call, so that the proof has no part for each of their fields
     drop(decks);
@@ -170,13 +129,36 @@ fn check_two<K: Sink>(
         Answers (case_parts (asked_text asked.entry) first.entry (Some second.entry)) n n result more) }
 {
     match first_difference(&first.model, &second.model) {
-        None => check_alike(alloc, asked, first, second, out),
         Some(difference) => {
             let fault = unlike(alloc, asked.text, &second, difference);
             // by calls, so that the proof has no part for each of their fields
             drop(first);
             drop(second);
-            end_reading(alloc, InputFault::from(fault), out)
+            end_text(alloc, fault, out)
+        }
+        None => {
+            let Part {
+                files: first_files,
+                model: first_model,
+                zones,
+                rest: _,
+                line: _,
+            } = first;
+            let Part {
+                files,
+                model,
+                zones: same_zones,
+                rest,
+                line,
+            } = second;
+            drop(first_files);
+            drop(files);
+            drop(same_zones);
+            let decks = Decks {
+                first: first_model,
+                second: Some(model),
+            };
+            check_last(alloc, asked, decks, zones, line, rest, out)
         }
     }
 }
@@ -191,8 +173,22 @@ fn check_parts<K: Sink>(alloc: Global, asked: TextOrder, parts: Parts, out: &mut
 {
     let Parts { first, second } = parts;
     match second {
-        None => check_one(alloc, asked, first, out),
         Some(second) => check_two(alloc, asked, first, second, out),
+        None => {
+            let Part {
+                files,
+                model,
+                zones,
+                rest,
+                line,
+            } = first;
+            drop(files);
+            let decks = Decks {
+                first: model,
+                second: None,
+            };
+            check_last(alloc, asked, decks, zones, line, rest, out)
+        }
     }
 }
 
@@ -204,7 +200,7 @@ fn check_bytes<K: Sink>(alloc: Global, asked: TextOrder, bytes: &[u8], out: &mut
 {
     match read_parts(alloc, asked.limits, asked.text, bytes) {
         Ok(parts) => check_parts(alloc, asked, parts, out),
-        Err(fault) => end_reading(alloc, InputFault::from(fault), out),
+        Err(fault) => end_text(alloc, fault, out),
     }
 }
 
@@ -218,8 +214,7 @@ pub(crate) fn check_text<'a, F: Folder, K: Sink>(
 ) -> Status
     requires may { F.may folder.old (folder_name asked.text.now) }
     ensures since { (files : FileSet) → F.agrees folder.new files → F.agrees folder.old files }
-    ensures answers { PutsMore K.leads out.old out.new (λ more. (files : FileSet) → F.agrees folder.new files →
-        Answers (case_of (Some (CheckText (asked_text asked.entry))) files) (F.faults folder.old) (F.faults folder.new) result more) }
+    ensures serves { PutsMore K.leads out.old out.new (ServesAlone (CheckText (asked_text asked.entry)) (folder_use F.Folder folder.old folder.new) result) }
 {
     match read_file(alloc, folder, asked.text) {
         Ok(bytes) => check_bytes(alloc, asked, bytes.as_slice(), out),

@@ -4,7 +4,7 @@ ghost use Rattle.outside.specs.{folder_name, FileSet, IsReading, ReadsOn};
 ghost use Rattle.model_types.specs.{cell_count, place, HasSize, IsModel};
 ghost use Rattle.deck_problems.specs.{AreDecks};
 ghost use Rattle.command_line.specs.{text_if};
-ghost use Rattle.engine.specs.{AreDecksAs, AreDecksOf, IsNoSecond, IsUnlikeFault, read_by_name, second_by, second_in};
+ghost use Rattle.engine.specs.{AreDecksAs, AreDecksOf, IsNoSecond, IsRefusedBy, read_by_name, second_by, second_in};
 
 use crate::reading::{bad_name, read_named};
 use deck_problems::Decks;
@@ -65,7 +65,7 @@ fn place_if(grid: &Grid, cell: Option<CellId>) -> Option<[u32; 3]>
 fn unlike(alloc: Global, second: &Second, difference: Difference) -> InputFault
     requires size { HasSize second.now.model.grid }
     requires cell { IfSome difference.cell (λ c. c.0 < cell_count second.now.model.grid) }
-    ensures { IsUnlikeFault (second_by second.now) difference result }
+    ensures { IsRefusedBy ((second_by second.now).unlike difference) result }
 {
     let file = match second.files.file_of(difference.package) {
         Some(file) => file,

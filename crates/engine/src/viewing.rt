@@ -1,12 +1,11 @@
 // A listing by workers in threads, whose heads are viewed while they settle.
 ghost use Rattle.std.specs.Prelude.{◌≡◌, ◌⊎◌, None, Some, true, false};
-ghost use Rattle.outside.specs.{Rose};
 ghost use Rattle.outside.specs.declared.traits.SinkError.TheVariants.{Write};
 ghost use Rattle.run_puts.specs.{IsRun, PutsMore};
 ghost use Rattle.step_problem.specs.{IsBarrier, Settles};
 ghost use Rattle.settle_driver.specs.{IsPlan, AddsPhases, had_memory};
 ghost use Rattle.listing_run.specs.{IsTask, IsListingBeside, IsCutListing, ReachesFirst};
-ghost use Rattle.engine.specs.{IsWatched, Shows, ViewPutsOf};
+ghost use Rattle.engine.specs.{Shows, ViewsPut, failed_write, sink_use};
 
 use listing_run::{Task, put_steps};
 use near_settler::NearSettler;
@@ -71,10 +70,9 @@ pub(crate) fn put_texts<R: Threads + Sync, K: Sink + Send, W: Sink + Send, G: Ga
     requires plan { IsPlan plan }
     requires rounds { plan.rounds ≡ task.now.rounds }
     requires plain { task.now.quick ≡ false }
-    ensures puts { PutsMore K.leads out.old out.new (λ more.
-        IsRun (IsListingBeside (Rose (W.seen side.old).faults (W.seen side.new).faults) task.now) (IsCutListing task.now) result more
-        × (result ≡ Status.Ok → IsWatched true task.now views (λ puts. W.leads side.old puts side.new))) }
-    ensures side { ViewPutsOf task.now (λ puts. W.leads side.old puts side.new) (Some views) }
+    ensures puts { PutsMore K.leads out.old out.new
+        (IsRun (IsListingBeside (failed_write (sink_use W.Sink side.old side.new)) task.now) (IsCutListing task.now) result) }
+    ensures side { ViewsPut task.now (Some views) (sink_use W.Sink side.old side.new) result }
 {
     let mut viewer = SinkViewer::new(alloc, side, &task.decks.first.grid);
     put_shown(rt, alloc, task, plan, views, &mut viewer, out, gate)

@@ -1,15 +1,18 @@
 // The deck of a model of the folder, and the text of decks before their listing.
-ghost use Rattle.std.specs.Prelude.{◌≡◌, ◌++◌, IfOk, IfSome, Some, option_map};
+ghost use Rattle.std.specs.Prelude.{◌≡◌, ◌++◌, IfOk, IfSome, option_map};
 ghost use Rattle.outside.specs.{folder_name, FileSet};
 ghost use Rattle.model_types.specs.{HasSize};
 ghost use Rattle.run_puts.specs.{IsRun, NeverCut, PutsMore};
 ghost use Rattle.command_line.specs.{Write};
 ghost use Rattle.deck_problems.specs.{AreDecks};
-ghost use Rattle.engine.specs.{IsDeck, IsFirstPut, case_of, decks_text, second_text, Answers};
+ghost use Rattle.listing_run.specs.{IsTask};
+ghost use Rattle.model_text.specs.{deck_text};
+ghost use Rattle.engine.specs.{IsSaid, IsFirstIf, decks_text, second_text, ServesAlone, folder_use};
 
 use crate::ending::end_reading;
 use crate::two_decks::read_decks;
 use deck_problems::Decks;
+use listing_run::{Task, zone_slice};
 use model_types::{FlowModel, Limits};
 use model_writer::{push_deck, write_deck};
 use outside::{Folder, Sink};
@@ -19,7 +22,7 @@ use std::alloc::{AllocError, Global};
 /// Puts the deck of a model as one piece.
 pub(crate) fn put_deck<K: Sink>(alloc: Global, model: &FlowModel, out: &mut K) -> Status
     requires { HasSize model.now.grid }
-    ensures { PutsMore K.leads out.old out.new (IsRun (IsDeck model.now) NeverCut result) }
+    ensures { PutsMore K.leads out.old out.new (IsRun (IsSaid (deck_text model.now)) NeverCut result) }
 {
     let text = write_deck(alloc, model);
     put_line(out, text, Status::Ok)
@@ -35,8 +38,7 @@ pub(crate) fn write<F: Folder, K: Sink>(
 ) -> Status
     requires name { F.may folder.old (folder_name name.now) }
     ensures since { (files : FileSet) → F.agrees folder.new files → F.agrees folder.old files }
-    ensures answers { PutsMore K.leads out.old out.new (λ more. (files : FileSet) → F.agrees folder.new files →
-        Answers (case_of (Some (Write limits name.now)) files) (F.faults folder.old) (F.faults folder.new) result more) }
+    ensures serves { PutsMore K.leads out.old out.new (ServesAlone (Write limits name.now) (folder_use F.Folder folder.old folder.new) result) }
 {
     match read_decks(alloc, limits, folder, name, None) {
         Ok(decks) => {
@@ -76,17 +78,21 @@ fn text_of(alloc: Global, decks: &Decks, zones: Option<&[u32]>) -> Result<Vec<u8
     Ok(text)
 }
 
-/// Puts the text of decks as one piece, each with these zones of its cells. If the result is a status, it ends the run.
-pub(crate) fn put_decks_text<K: Sink>(
+/// Puts the text of a task's decks as one piece, each with the zones of its cells, if that is asked for. If the result is a
+/// status, it ends the run.
+pub(crate) fn put_text_if<K: Sink>(
     alloc: Global,
-    decks: &Decks,
-    zones: Option<&[u32]>,
+    asked: bool,
+    task: &Task,
     out: &mut K,
 ) -> Option<Status>
-    requires { AreDecks decks.now }
-    ensures { PutsMore K.leads out.old out.new (IsFirstPut (decks_text decks.now (option_map (λ z. z.now) zones.entry)) result) }
+    requires { IsTask task.now }
+    ensures { PutsMore K.leads out.old out.new (IsFirstIf asked (decks_text task.now.decks task.now.zones) result) }
 {
-    match text_of(alloc, decks, zones) {
+    if !asked {
+        return None;
+    }
+    match text_of(alloc, &task.decks, zone_slice(&task.zones)) {
         Ok(text) => put_piece(out, text.as_slice()),
         Err(_) => Some(put_memory(out)),
     }

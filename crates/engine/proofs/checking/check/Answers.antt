@@ -4,15 +4,15 @@ use Rattle.engine.proofs.BatchEnds.{file_still}
 use Rattle.engine.proofs.Ends.{puts_more, read_reads}
 use Rattle.engine.proofs.checking.check.Goals as goal
 
-pub returns-in-Ok-clause-answers : goal.returns-in-Ok-clause-answers
-returns-in-Ok-clause-answers g c =
+pub returns-in-Ok-clause-serves : goal.returns-in-Ok-clause-serves
+returns-in-Ok-clause-serves g c =
     puts_more g.K.Sink.leads c.check_decks-status.ensures.answers (λ more m files agree.
     let A : ℕ → Type 0 = λ n. Answers (case_of (Some (Check (check_of c.args.asked) (text_if c.args.asked.to))) files) n
     (g.F.Folder.faults c.check_decks-status.new.folder) c.check_decks-status.result more in
     subst A c.in-Ok.ensures.folder.counts (m files agree (c.in-Ok.ensures.reads files (c.check_decks-status.ensures.since files agree))))
 
-pub returns-in-Err-clause-answers : goal.returns-in-Err-clause-answers
-returns-in-Err-clause-answers g c =
+pub returns-in-Err-clause-serves : goal.returns-in-Err-clause-serves
+returns-in-Err-clause-serves g c =
     let asked = check_of c.args.asked in
     let to = text_if c.args.asked.to in
     puts_more g.K.Sink.leads c.end_reading.ensures (λ more m files agree. ends_undecked asked.limits asked.name to files (to_check files asked to)

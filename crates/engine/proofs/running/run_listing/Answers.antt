@@ -1,29 +1,40 @@
-use Rattle.engine.proofs.Common.{List, ℕ, subst, Rose, Put, asked_of, AnswersBeside, text_if, Listing, Run, Some, case_listed, case_of, decks_task, decks_text}
-use Rattle.engine.proofs.Common.{zones_read}
-use Rattle.engine.proofs.Afters.{after_reads}
-use Rattle.engine.proofs.Beside.{not_ok, reading_not_ok}
-use Rattle.engine.proofs.DeckEnds.{ends_undecked, to_list}
-use Rattle.engine.proofs.BatchEnds.{file_still}
-use Rattle.engine.proofs.Ends.{puts_more, read_reads}
+use Rattle.engine.proofs.Common.{Rose, ◌≡◌, ◌∙◌, List, Option, Ok, Put, Refusal, Result, Run, Some, Status, Task, Text, ap, sym, subst, ℕ, AnswersBeside}
+use Rattle.engine.proofs.Common.{AreDecks, Case, FileSet, IsRunOf, Listing, ListingOrder, after_text, asked_of, case_listed, case_of, case_read, decks_text}
+use Rattle.engine.proofs.Common.{text_if, FolderUse, IsAsked, IsTaskRead, SinkUse, ViewsPut, failed_write, folder_use, sink_use}
+use Rattle.engine.proofs.Afters.{after_lists, after_valid, never_unread}
+use Rattle.engine.proofs.Beside.{not_ok, of_listing, reading_not_ok}
+use Rattle.engine.proofs.DeckEnds.{case_within, run_within, to_list, within, within_lists, within_valid}
+use Rattle.engine.proofs.Ends.{fault_ends, puts_more}
 use Rattle.engine.proofs.running.run_listing.Goals as goal
 
-pub returns-in-Ok-clause-answers : goal.returns-in-Ok-clause-answers
-returns-in-Ok-clause-answers g c =
-    let failed : Type 0 = Rose (g.W.Sink.seen c.args.side.now).faults (g.W.Sink.seen c.list_decks.new.side).faults in
-    let leads : List Put → Type 0 = λ puts. g.W.Sink.leads c.args.side.now puts c.list_decks.new.side in
-    puts_more g.K.Sink.leads c.list_decks.ensures.answers (λ more m files agree.
-    let A : ℕ → Type 0 = λ n. AnswersBeside (case_of (Some (Run (asked_of c.args.asked) (text_if c.args.asked.to))) files) c.args.asked.watch n
-    (g.F.Folder.faults c.list_decks.new.folder) failed leads c.list_decks.result more in
-    subst A c.in-Ok.ensures.folder.counts (m files agree (c.in-Ok.ensures.reads files (c.list_decks.ensures.since files agree))))
+-- the listing of a task that was read, as the run of its order
+listed : (asked : ListingOrder) (to : Option Text) (files : FileSet) (k : Task) → IsTaskRead asked to files (Ok k) → IsAsked asked k → AreDecks k.decks →
+    (folder : FolderUse) (beside : SinkUse) (end : Status) (puts : List Put) →
+    IsRunOf ⊥ (failed_write beside) (after_text asked.deck (decks_text k.decks k.zones) (Listing k)) end puts → ViewsPut k asked.watch beside end →
+    AnswersBeside (case_of (Some (Run asked to)) files) asked.watch folder beside end puts
+listed asked to files k (p, zones) is valid folder beside end puts run views =
+    let d = k.decks in
+    let text = decks_text d k.zones in
+    let here : Case = after_text asked.deck text (Listing k) in
+    let same : within d.first p.last here ≡ case_of (Some (Run asked to)) files =
+    ap (λ (j : Task). within d.first p.last (after_text asked.deck text (Listing j))) is
+    ∙ ap (λ (z : Result (Option (List ℕ)) Refusal). within d.first p.last (case_read z (case_listed asked d))) (sym zones)
+    ∙ case_within asked.limits asked.name to files (to_list files asked) d p in
+    let B : Case → Type 0 = λ c. AnswersBeside c asked.watch folder beside end puts in
+    subst B same (of_listing k (within d.first p.last here) (within_lists d.first p.last k here p.alike (after_lists asked.deck text k))
+    (within_valid d.first p.last here (after_valid asked.deck text (Listing k) valid)) asked.watch
+    (run_within (Rose folder.before folder.after) (failed_write beside) d.first p.last here p.alike end puts
+    (never_unread (Rose folder.before folder.after) (failed_write beside) here end puts run)) views)
 
-pub returns-in-Err-clause-answers : goal.returns-in-Err-clause-answers
-returns-in-Err-clause-answers g c =
-    let asked = asked_of c.args.asked in
+pub returns-in-Ok-clause-serves : goal.returns-in-Ok-clause-serves
+returns-in-Ok-clause-serves g c =
+    puts_more g.K.Sink.leads c.put_listing-status.ensures.puts (λ more m files agree.
+    listed (asked_of c.args.asked) (text_if c.args.asked.to) files c.in-Ok.task (c.in-Ok.ensures.reads files agree) c.in-Ok.ensures.asked c.in-Ok.ensures.task.decks
+    (folder_use g.F.Folder c.args.folder.now c.read_task.new.folder) (sink_use g.W.Sink c.args.side.now c.put_listing-status.new.side)
+    c.put_listing-status.result more m c.put_listing-status.ensures.side)
+
+pub returns-in-Err-clause-serves : goal.returns-in-Err-clause-serves
+returns-in-Err-clause-serves g c =
     puts_more g.K.Sink.leads c.end_reading.ensures (λ more m files agree. not_ok _ _ (((g.met.W.Sink g.world.𝓛 g.world.𝓜 g.world.𝓡 ((λ s x. x), (λ x. x), (λ x. x), λ x. x))).rests c.args.side.now)
-    (ends_undecked asked.limits asked.name (text_if c.args.asked.to) files (to_list files asked) (λ d.
-    read_reads (case_listed asked d) (λ z. after_reads asked.deck (decks_text d z) (Listing (decks_task asked d z)) tt)
-    (zones_read files asked.zones d.first)) c.in-Err.fault (c.in-Err.ensures.reads files agree) c.in-Err.ensures.folder.counts m)
+    (fault_ends Task _ c.in-Err.fault (c.in-Err.ensures.reads files agree) c.in-Err.ensures.folder.counts m)
     (reading_not_ok c.in-Err.fault c.end_reading.result more m))
-
-pub list_decks-requires-clause-zones : goal.list_decks-requires-clause-zones
-list_decks-requires-clause-zones g c = λ κs outlives. file_still _ _ (asked_of c.args.asked).zones c.in-Ok.ensures.folder.still c.requires.may.2

@@ -4,41 +4,41 @@ use Rattle.engine.proofs.Beside.{not_ok, of_order, without_views}
 use Rattle.engine.proofs.BatchEnds.{may_do, order_read}
 use Rattle.engine.proofs.running.run_order.Goals as goal
 
-pub returns-in-Err-Usage-clause-answers : goal.returns-in-Err-Usage-clause-answers
-returns-in-Err-Usage-clause-answers g c = λ one is.
+pub returns-in-Err-Usage-clause-serves : goal.returns-in-Err-Usage-clause-serves
+returns-in-Err-Usage-clause-serves g c = λ one is.
     puts_more g.K.Sink.leads c.put_last-in-Err-Usage.ensures (λ more m files agree. without_views files one None
     (((g.met.W.Sink g.world.𝓛 g.world.𝓜 g.world.𝓡 ((λ s x. x), (λ x. x), (λ x. x), λ x. x))).rests c.args.side.now)
     (is.1 (rw c.in-Err-Usage.is (ap Err (rw c.in-Err-Usage.is at c.in-Err-Usage.field-0-is)))) refl (ends_usage m))
 
-pub returns-in-Batch-clause-answers : goal.returns-in-Batch-clause-answers
-returns-in-Batch-clause-answers g c = λ one is.
+pub returns-in-Batch-clause-serves : goal.returns-in-Batch-clause-serves
+returns-in-Batch-clause-serves g c = λ one is.
     puts_more g.K.Sink.leads c.put_last.ensures (λ more m files agree. without_views files one None
     (((g.met.W.Sink g.world.𝓛 g.world.𝓜 g.world.𝓡 ((λ s x. x), (λ x. x), (λ x. x), λ x. x))).rests c.args.side.now) (order_read one c.args.read _ _ is.0 c.in-Ok.is c.in-Batch.is) refl (ends_usage m))
 
-pub returns-in-Err-Memory-clause-answers : goal.returns-in-Err-Memory-clause-answers
-returns-in-Err-Memory-clause-answers g c = λ one is.
+pub returns-in-Err-Memory-clause-serves : goal.returns-in-Err-Memory-clause-serves
+returns-in-Err-Memory-clause-serves g c = λ one is.
     puts_more g.K.Sink.leads c.put_memory.ensures (λ more m files agree.
     not_ok _ _ (((g.met.W.Sink g.world.𝓛 g.world.𝓜 g.world.𝓡 ((λ s x. x), (λ x. x), (λ x. x), λ x. x))).rests c.args.side.now) (ends_without_words m)
     (wanting_not_ok _ more m))
 
-pub returns-in-Run-clause-answers : goal.returns-in-Run-clause-answers
-returns-in-Run-clause-answers g c = λ one is.
-    puts_more g.K.Sink.leads c.run_listing.ensures.answers (λ more m files agree. of_order files one _ (order_read one c.args.read _ _ is.0 c.in-Ok.is c.in-Run.is) (m files agree))
+pub returns-in-Run-clause-serves : goal.returns-in-Run-clause-serves
+returns-in-Run-clause-serves g c = λ one is.
+    puts_more g.K.Sink.leads c.run_listing.ensures.serves (λ more m files agree. of_order files one _ (order_read one c.args.read _ _ is.0 c.in-Ok.is c.in-Run.is) (m files agree))
 
-pub returns-in-Make-clause-answers : goal.returns-in-Make-clause-answers
-returns-in-Make-clause-answers g c = λ one is.
+pub returns-in-Make-clause-serves : goal.returns-in-Make-clause-serves
+returns-in-Make-clause-serves g c = λ one is.
     puts_more g.K.Sink.leads c.put_made.ensures (λ more m files agree. without_views files one _
     (((g.met.W.Sink g.world.𝓛 g.world.𝓜 g.world.𝓡 ((λ s x. x), (λ x. x), (λ x. x), λ x. x))).rests c.args.side.now)
     (order_read one c.args.read _ _ is.0 c.in-Ok.is c.in-Make.is) refl (m (g.F.Folder.faults c.args.folder.now)))
 
-pub returns-in-Check-clause-answers : goal.returns-in-Check-clause-answers
-returns-in-Check-clause-answers g c = λ one is.
-    puts_more g.K.Sink.leads c.check.ensures.answers (λ more m files agree. without_views files one _
+pub returns-in-Check-clause-serves : goal.returns-in-Check-clause-serves
+returns-in-Check-clause-serves g c = λ one is.
+    puts_more g.K.Sink.leads c.check.ensures.serves (λ more m files agree. without_views files one _
     (((g.met.W.Sink g.world.𝓛 g.world.𝓜 g.world.𝓡 ((λ s x. x), (λ x. x), (λ x. x), λ x. x))).rests c.args.side.now) (order_read one c.args.read _ _ is.0 c.in-Ok.is c.in-Check.is) refl (m files agree))
 
-pub returns-in-Write-clause-answers : goal.returns-in-Write-clause-answers
-returns-in-Write-clause-answers g c = λ one is.
-    puts_more g.K.Sink.leads c.write.ensures.answers (λ more m files agree. without_views files one _
+pub returns-in-Write-clause-serves : goal.returns-in-Write-clause-serves
+returns-in-Write-clause-serves g c = λ one is.
+    puts_more g.K.Sink.leads c.write.ensures.serves (λ more m files agree. without_views files one _
     (((g.met.W.Sink g.world.𝓛 g.world.𝓜 g.world.𝓡 ((λ s x. x), (λ x. x), (λ x. x), λ x. x))).rests c.args.side.now) (order_read one c.args.read _ _ is.0 c.in-Ok.is c.in-Write.is) refl (m files agree))
 
 pub returns-in-Run-clause-unasked : goal.returns-in-Run-clause-unasked
@@ -62,15 +62,15 @@ check-requires-clause-listing g c = (may_do (g.F.Folder.may c.args.folder.now) c
 pub write-requires : goal.write-requires
 write-requires g c = record { name = may_do (g.F.Folder.may c.args.folder.now) c.args.read _ _ c.requires.may c.in-Ok.is c.in-Write.is }
 
-pub returns-in-Words-clause-answers : goal.returns-in-Words-clause-answers
-returns-in-Words-clause-answers g c = λ one is.
+pub returns-in-Words-clause-serves : goal.returns-in-Words-clause-serves
+returns-in-Words-clause-serves g c = λ one is.
     puts_more g.K.Sink.leads c.put_words.ensures (λ more m files agree. without_views files one _
     (((g.met.W.Sink g.world.𝓛 g.world.𝓜 g.world.𝓡 ((λ s x. x), (λ x. x), (λ x. x), λ x. x))).rests c.args.side.now)
     (order_read one c.args.read _ _ is.0 c.in-Ok.is c.in-Words.is) refl (ends_defined m tt))
 
-pub returns-in-CheckText-clause-answers : goal.returns-in-CheckText-clause-answers
-returns-in-CheckText-clause-answers g c = λ one is.
-    puts_more g.K.Sink.leads c.check_text.ensures.answers (λ more m files agree. without_views files one _
+pub returns-in-CheckText-clause-serves : goal.returns-in-CheckText-clause-serves
+returns-in-CheckText-clause-serves g c = λ one is.
+    puts_more g.K.Sink.leads c.check_text.ensures.serves (λ more m files agree. without_views files one _
     (((g.met.W.Sink g.world.𝓛 g.world.𝓜 g.world.𝓡 ((λ s x. x), (λ x. x), (λ x. x), λ x. x))).rests c.args.side.now)
     (order_read one c.args.read _ _ is.0 c.in-Ok.is c.in-CheckText.is) refl (m files agree))
 

@@ -13,6 +13,6 @@ returns-in-Ok g c =
 pub returns-in-Err : goal.returns-in-Err
 returns-in-Err g c =
     let asked = asked_text c.args.asked in
-    puts_more g.K.Sink.leads c.end_reading.ensures (λ more m n.
+    puts_more g.K.Sink.leads c.end_text.ensures (λ more m n.
     ends_stopped (parts_in asked.limits asked.text c.args.bytes.now) (λ (p : Parts). case_parts asked p.first p.second) (λ p.
-    parts_read asked p.first p.second) c.in-Err.fault c.in-Err.ensures.reads c.from.result c.from.ensures m)
+    parts_read asked p.first p.second) c.in-Err.fault c.in-Err.ensures.reads m)

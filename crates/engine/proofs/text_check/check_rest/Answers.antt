@@ -24,9 +24,9 @@ returns-in-Err g c =
     let zones = c.args.zones in
     let come : List ListedStep → Case = λ steps. Checking asked.limits d asked.digits (record { zones = zones; steps = steps }) in
     let S : Option (List ℕ) → Type 0 = λ z. StopsText c.in-Err.fault (steps_after (is_some d.second) d.first asked.digits (pairs_in d.first z) asked.text c.args.line c.args.rest.now) in
-    puts_more g.K.Sink.leads c.end_reading.ensures (λ more m n.
+    puts_more g.K.Sink.leads c.end_text.ensures (λ more m n.
     ends_stopped (steps_after (is_some d.second) d.first asked.digits (pairs_in d.first zones) asked.text c.args.line c.args.rest.now) come (λ l. tt) c.in-Err.fault
-    (subst S c.zone_slice.ensures (rw c.is_some-between.ensures at c.in-Err.ensures.reads)) c.from.result c.from.ensures m)
+    (subst S c.zone_slice.ensures (rw c.is_some-between.ensures at c.in-Err.ensures.reads)) m)
 
 pub put_check-requires-clause-listing : goal.put_check-requires-clause-listing
 put_check-requires-clause-listing g c =

@@ -4,8 +4,8 @@ use Rattle.engine.proofs.TextEnds.{parts_read}
 unfoldable use Rattle.stated_text.specs.{parts_in}
 use Rattle.engine.proofs.text_check.check_text.Goals as goal
 
-pub returns-in-Ok-clause-answers : goal.returns-in-Ok-clause-answers
-returns-in-Ok-clause-answers g c =
+pub returns-in-Ok-clause-serves : goal.returns-in-Ok-clause-serves
+returns-in-Ok-clause-serves g c =
     let asked = asked_text c.args.asked in
     let come : List ℕ → Case = λ bytes. case_read (parts_in asked.limits asked.text bytes) (λ (p : Parts). case_parts asked p.first p.second) in
     puts_more g.K.Sink.leads c.check_bytes.ensures (λ more m files agree.
@@ -14,8 +14,8 @@ returns-in-Ok-clause-answers g c =
     subst A (sym c.in-Ok.ensures.folder.counts) (ends_read (read_by_name asked.text (file_at files)) come c.in-Ok.bytes.items (c.in-Ok.ensures.reads files agree)
     (subst B c.as_slice.ensures.value (m (g.F.Folder.faults c.args.folder.now)))))
 
-pub returns-in-Err-clause-answers : goal.returns-in-Err-clause-answers
-returns-in-Err-clause-answers g c =
+pub returns-in-Err-clause-serves : goal.returns-in-Err-clause-serves
+returns-in-Err-clause-serves g c =
     let asked = asked_text c.args.asked in
     let come : List ℕ → Case = λ bytes. case_read (parts_in asked.limits asked.text bytes) (λ (p : Parts). case_parts asked p.first p.second) in
     puts_more g.K.Sink.leads c.end_reading.ensures (λ more m files agree. ends_unread (read_by_name asked.text (file_at files)) come (λ (v : Vec ℕ Global). v.items)
