@@ -114,9 +114,12 @@ class OfZones(unittest.TestCase):
     def zones(self, zone_file, more=b""):
         """The zones that the map has of the cells of layer, row and column of three_aquifers, by a zone file."""
         about = "{ time: 4, zones: read(2), open: (name) => (name === 'sub/z.txt' ? read(3) : undefined) }"
-        again = f"((read) => scene_of_listing(listing, deck, {about}))((n) => new Uint8Array(readFileSync(process.argv[1 + n])))"
-        text = f"((it) => it.zones && [0, 1, 2].map((k) => [[0, 0], [7, 7], [14, 14]].map(([i, j]) => it.zones[it.place(k, i, j)])))({again})"
-        return told(text, made("three_aquifers", "run", "m.nam"), made("three_aquifers", "write", "m.nam"), zone_file, more)
+        read = "(n) => new Uint8Array(readFileSync(process.argv[1 + n]))"
+        again = f"((read) => scene_of_listing(listing, deck, {about}))({read})"
+        at = "[[0, 0], [7, 7], [14, 14]].map(([i, j]) => it.zones[it.place(k, i, j)])"
+        text = f"((it) => it.zones && [0, 1, 2].map((k) => {at}))({again})"
+        files = made("three_aquifers", "run", "m.nam"), made("three_aquifers", "write", "m.nam"), zone_file, more
+        return told(text, *files)
 
     def test_each_record_is_read(self):
         rows = b"\n".join(b"%d 6*%d,\t%d %d 6*%d" % (n, n + 1, n + 2, n + 3, n + 4) for n in range(0, 150, 10))

@@ -62,21 +62,25 @@ def binary_list(*entries):
     return b"".join(struct.pack(f"<{len(entry)}f", *entry) for entry in entries)
 
 
+def binary_wells(option, factor, *entries):
+    text = f"1 53{option}\n1 0\n{factor}OPEN/CLOSE w.bin (BINARY)\n-1 0\n"
+    return lambda _: {"m.wel": text, "w.bin": binary_list(*entries)}
+
+
+def segments(text):
+    """The evapotranspiration by a file of ETS."""
+    return lambda f: {"m.nam": f["m.nam"].replace("EVT 26 m.evt", "ETS 26 m.ets"), "m.ets": text}
+
+
 SAMPLES = {
     # FloPy
-    "flopy's binary list": (
-        lambda f: {"m.wel": "1 53 AUX IFACE\n1 0\nOPEN/CLOSE w.bin (BINARY)\n-1 0\n", "w.bin": binary_list((2, 2, 3, -50, 0))},
-        "plain",
-    ),
+    "flopy's binary list": (binary_wells(" AUX IFACE", "", (2, 2, 3, -50, 0)), "plain"),
     "binary lists of a unit": (
         lambda f: named("DATA(BINARY) 60 chd.bin")(f)
         | {"m.chd": "1 53\n0 0\n1 0\nEXTERNAL 60 (BINARY)\n", "chd.bin": binary_list((2, 1, 5, 20, 21))},
         "plain",
     ),
-    "factor of a binary list": (
-        lambda f: {"m.wel": "1 53\n1 0\nSFAC 0.5\nOPEN/CLOSE w.bin (BINARY)\n-1 0\n", "w.bin": binary_list((2, 2, 3, -100))},
-        "plain",
-    ),
+    "factor of a binary list": (binary_wells("", "SFAC 0.5\n", (2, 2, 3, -100)), "plain"),
     "flopy's lists": (
         both(
             swap("m.wel", WEL, "# WEL package\n         1        53\n         1         0 # stress period 1\n"
@@ -88,7 +92,8 @@ SAMPLES = {
     "flopy's arrays": (hk("INTERNAL     1.0     (FREE)   -1  #hk layer 1\n" + rows(".6E", 15)), "as it is"),
     "flopy's arrays in columns": (hk(f"{15:>10}{'1.0':>10}{'(5E15.6)':<20}{-1:>10} #hk\n" + rows(".6E", 15)), "plain"),
     "flopy's arrays in files": (
-        lambda f: hk("OPEN/CLOSE ref/hk.ref 1.0 (FREE) -1 hk layer 1\n")(f) | {"ref/hk.ref": rows(".6E", 15)}, "as it is"
+        lambda f: hk("OPEN/CLOSE ref/hk.ref 1.0 (FREE) -1 hk layer 1\n")(f) | {"ref/hk.ref": rows(".6E", 15)},
+        "as it is",
     ),
     "outputs and solvers": (
         swap("m.nam", "PCG 27 m.pcg\n", "GMG 27 m.gmg\nHYD 70 m.hyd\nGAGE 71 m.gage\nLMT6 72 m.lmt\nMNWI 73 m.mnwi\n"),
@@ -96,7 +101,7 @@ SAMPLES = {
     ),
     "other solvers": (swap("m.nam", "PCG 27 m.pcg\n", "SIP 27 m.sip\nDE4 28 m.de4\nPCGN 29 m.pcgn\n"), "as it is"),
     "recharge by layers": (
-        swap("m.rch", RCH, "2 53\n0 0\nCONSTANT 0.001\n" + FREE + "1 1 1 1 1\n1 1 1 1 1\n1 1 1 2 1\n1 1 1 1 1\n-1 -1\n"),
+        swap("m.rch", RCH, f"2 53\n0 0\nCONSTANT 0.001\n{FREE}1 1 1 1 1\n1 1 1 1 1\n1 1 1 2 1\n1 1 1 1 1\n-1 -1\n"),
         "as it is",
     ),
     "evapotranspiration by layers": (
@@ -152,8 +157,10 @@ SAMPLES = {
         lpf("a HANI 1 2\n1 NONE ALL\n2 NONE ALL\n", chani="-1 -1", HANI=("0\n", "0\n")), "plain"
     ),
     "wells by instances": (
-        lambda _: {"m.wel": "PARAMETER 1 2\n1 53\nq Q -25 1 INSTANCES 2\nfirst\n2 2 3 2\nlater\n2 2 3 2\n0 1\nq first\n0 1\n"
-                   "q later\n"},
+        more(
+            m_wel="PARAMETER 1 2\n1 53\nq Q -25 1 INSTANCES 2\nfirst\n2 2 3 2\nlater\n2 2 3 2\n"
+            "0 1\nq first\n0 1\nq later\n"
+        ),
         "plain",
     ),
     "river by a parameter": (list_of_parameter("riv", "RIV", 10, "1 2 4 19.5 2 18\n", "0 1\np\n0 1\np\n"), "plain"),
@@ -167,26 +174,22 @@ SAMPLES = {
         lambda _: {"m.rch": "PARAMETER 1\n3 53\nr RCH 0.001 1\nNONE ALL\n1\nr\n1\nr\n"}, "plain"
     ),
     "evapotranspiration by a parameter": (
-        lambda _: {"m.evt": "PARAMETER 1\n3 53\ne EVT 0.0005 1\nNONE ALL\n0 1 0\nCONSTANT 25\ne\nCONSTANT 10\n-1 1 -1\ne\n"},
+        more(
+            m_evt="PARAMETER 1\n3 53\ne EVT 0.0005 1\nNONE ALL\n"
+            "0 1 0\nCONSTANT 25\ne\nCONSTANT 10\n-1 1 -1\ne\n"
+        ),
         "plain",
     ),
     "wells and a parameter": (
         lambda _: {"m.wel": "PARAMETER 1 1\n2 53\np Q -20 1\n2 2 3 1\n1 1\n2 2 3 -30\np\n-1 1\np\n"}, "plain"
     ),
     # packages that say nothing more than those that are read
-    "evapotranspiration of one segment": (
-        lambda f: {"m.nam": f["m.nam"].replace("EVT 26 m.evt", "ETS 26 m.ets"), "m.ets": EVT.replace("3 53", "3 53 0 1")},
-        "plain",
-    ),
+    "evapotranspiration of one segment": (segments(EVT.replace("3 53", "3 53 0 1")), "plain"),
     "one segment by a parameter": (
-        lambda f: {"m.nam": f["m.nam"].replace("EVT 26 m.evt", "ETS 26 m.ets"),
-                   "m.ets": "3 53 1 1\ne ETS 0.0005 1\nNONE ALL\n0 1 0\nCONSTANT 25\ne\nCONSTANT 10\n-1 1 -1\ne\n"},
+        segments("3 53 1 1\ne ETS 0.0005 1\nNONE ALL\n0 1 0\nCONSTANT 25\ne\nCONSTANT 10\n-1 1 -1\ne\n"),
         "plain",
     ),
-    "two segments": (
-        lambda f: {"m.nam": f["m.nam"].replace("EVT 26 m.evt", "ETS 26 m.ets"), "m.ets": EVT.replace("3 53", "3 53 0 2")},
-        "one straight piece",
-    ),
+    "two segments": (segments(EVT.replace("3 53", "3 53 0 2")), "one straight piece"),
     "no barrier": (lambda f: named("HFB6 40 m.hfb")(f) | {"m.hfb": "# none\n0 0 0\n0\n0\n"}, "plain"),
     "a barrier": (lambda f: named("HFB6 40 m.hfb")(f) | {"m.hfb": "0 0 1\n1 1 1 1 2 0.1\n"}, "barriers change"),
     # formats
@@ -209,19 +212,24 @@ SAMPLES = {
         "plain",
     ),
     "widths in columns": (
-        both(swap("m.dis", "CONSTANT 100\n", f"{11:>10}{'1.':>10}{'(5F10.0)':<20}{-1:>10}\n" + fixed(["100."] * 5, 10) + "\n"),
-             swap("m.dis", "CONSTANT 50\n", f"{0:>10}{'50.':>10}\n")),
+        both(
+            swap("m.dis", "CONSTANT 100\n", f"{11:>10}{'1.':>10}{'(5F10.0)':<20}\n" + fixed(["100."] * 5, 10) + "\n"),
+            swap("m.dis", "CONSTANT 50\n", f"{0:>10}{'50.':>10}\n"),
+        ),
         "plain",
     ),
     "columns without blanks": (glued_list, "plain"),
     # name files and lists
     "name file by hand": (
-        lambda f: {"m.nam": "# a comment\n\n" + f["m.nam"].lower().replace("wel 20 m.wel", "\twel 20 .\\m.wel OLD # wells")
-                   .replace("bas6", "  bas6") + "# the end\n"},
+        both(
+            lambda f: {"m.nam": f"# a comment\n\n{f['m.nam'].lower()}# the end\n"},
+            swap("m.nam", "wel 20 m.wel", "\twel 20 .\\m.wel OLD # wells"),
+            swap("m.nam", "bas6", "  bas6"),
+        ),
         "as it is",
     ),
     "modflow-2000's output": (
-        swap("m.nam", "LIST 2 m.list\n", "GLOBAL 3 m.glo\nLIST 2 m.list\nDATAGLO(BINARY) 4 m.b\nOBS 5 m.obs\nLMG 6 m.lmg\n"),
+        swap("m.nam", "LIST 2 m.list\n", "GLOBAL 3 m.glo\nLIST 2 m.list\nDATAGLO(BINARY) 4 m.b\nOBS 5 m.o\nLMG 6 m\n"),
         "plain",
     ),
     "list of two places": (
@@ -230,12 +238,18 @@ SAMPLES = {
         "plain",
     ),
     "lists of a unit in turn": (
-        both(swap("m.chd", CHD, "1 53\n0 0\n1 0\nEXTERNAL 60\n"), more(chd_txt="2 1 5 20 21\n"), named("DATA 60 chd.txt")),
+        both(
+            swap("m.chd", CHD, "1 53\n0 0\n1 0\nEXTERNAL 60\n"),
+            more(chd_txt="2 1 5 20 21\n"),
+            named("DATA 60 chd.txt"),
+        ),
         "plain",
     ),
     "commas and tabs": (swap("m.ghb", "2 4 1 18 5", "2,4,\t1,18.D0\t+.5E1"), "as it is"),
     "exponents of three digits": (swap("m.lpf", "CONSTANT 0.00001", "CONSTANT 1.0e-005"), "as it is"),
-    "auxiliary columns without values": (swap("m.riv", "1 53\n", "1 53 AUX IFACE AUX CELLGRP CBCALLOCATE\n"), "as it is"),
+    "auxiliary columns without values": (
+        swap("m.riv", "1 53\n", "1 53 AUX IFACE AUX CELLGRP CBCALLOCATE\n"), "as it is"
+    ),
     "surplus words": (swap("m.lpf", "6 7 8 9 10\n", "6 7 8 9 10 77 surplus\n"), "as it is"),
     "entry without its last number": (swap("m.wel", WEL, "2 53\n2 0\n2 2 3 -50\n1 2 2\n-1 0\n"), "plain"),
 }

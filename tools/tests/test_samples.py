@@ -50,7 +50,9 @@ def test_a_sample_that_says_more_is_refused_with_its_reason(name, tmp_path, tool
 
 SECTION = {
     "a.nam": "DIS 11 a.dis\nBAS6 12 a.bas\nLPF 13 a.lpf\nWEL 14 a.wel\n",
-    "a.dis": "2 1 3 1 4 2\n0 0\nCONSTANT 100\nINTERNAL 10 (FREE) -1\n5\nCONSTANT 20\nCONSTANT 10\nCONSTANT 0\n1 1 1 SS\n",
+    "a.dis": (
+        "2 1 3 1 4 2\n0 0\nCONSTANT 100\nINTERNAL 10 (FREE) -1\n5\nCONSTANT 20\nCONSTANT 10\nCONSTANT 0\n1 1 1 SS\n"
+    ),
     "a.lpf": "0 -1E+30 0\n0 0\n0 0\n1 1\n0 0\n0 0\n" + "CONSTANT 2\nCONSTANT 0.5\n" * 2,
     "a.wel": "1 0\n1 0\n2 1 2 -7\n",
 }

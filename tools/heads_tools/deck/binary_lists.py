@@ -24,8 +24,8 @@ def binary_entries(reading: Reading, kind: str, name: str, count: int, is_whole_
     raw = path.read_bytes()[at:]
     if len(raw) < size or (is_whole_file and len(raw) != size):
         raise Problem(
-            f"{path.name} has {len(raw)} bytes for a binary list of {count} entries, and {size} are due: {width} numbers"
-            " of 4 bytes for each"
+            f"{path.name} has {len(raw)} bytes for a binary list of {count} entries, and {size} are due: {width}"
+            " numbers of 4 bytes for each"
         )
     reading.binary_at[name] = at + size
     values = np.frombuffer(raw, SINGLE, width * count).reshape(count, width)[:, :own]

@@ -13,8 +13,8 @@ OTHER_PACKAGES = {
     "LMG": "a solver of MODFLOW-2000: take the line out (`heads-tools plain` does)",
     "SMS": "the solver of MODFLOW-USG: take the line out (`heads-tools plain` does)",
     "HFB6": (
-        "barriers change conductances, so the equations; there is no way round in this version (a file without a barrier"
-        " is dropped by `heads-tools plain`)"
+        "barriers change conductances, so the equations; there is no way round in this version (a file without a"
+        " barrier is dropped by `heads-tools plain`)"
     ),
     "SFR": (
         "streams that route water aren't inside. A river (RIV) with the stages that SFR found is another model: say so"

@@ -86,8 +86,8 @@ def safe(values: Values, at: int) -> str:
 
 
 def ratios(grid: Grid, k22: Values | None, hk: list[str], is_ratio: bool) -> list[str]:
-    """Conductivity along columns over that along rows. Where no decimal says it, and the cell has no neighbour with flow
-    along one of the two, that one counts nowhere: then both are the other, and `hk` is changed."""
+    """Conductivity along columns over that along rows. Where no decimal says it, and the cell has no neighbour with
+    flow along one of the two, that one counts nowhere: then both are the other, and `hk` is changed."""
     if k22 is None:
         return ["1"] * grid.cells
     given = k22.text
@@ -109,9 +109,9 @@ def ratios(grid: Grid, k22: Values | None, hk: list[str], is_ratio: bool) -> lis
 
     out = grid.each(k22, "1", ratio)
     if alone:
-        where = f"{counted(len(alone), 'cell')}, the first one {grid.cell(alone[0])}"
-        text = f"K22/K is no decimal in {where}, and flow goes along rows or along columns alone there: written with HANI 1"
-        grid.folder.report.add("needed", k22.line(alone[0]).file, k22.line(alone[0]).number, text)
+        where, line = f"{counted(len(alone), 'cell')}, the first one {grid.cell(alone[0])}", k22.line(alone[0])
+        why = "and flow goes along rows or along columns alone there: written with HANI 1"
+        grid.folder.report.add("needed", line.file, line.number, f"K22/K is no decimal in {where}, {why}")
     return out
 
 

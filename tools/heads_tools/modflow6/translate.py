@@ -57,7 +57,8 @@ def fill(deck: Deck, simulation: Simulation, grid: Grid) -> None:
         if columns is not None:
             fill_areal(deck, grid, kind, columns)
     place = "; ".join(f"{name}:{text}" for name, text in folder.place.items())
-    deck.name_lines = [f"# {TRANSLATED}.", *([f"#{place}"] if place else [])] + [f"{kind} {UNITS[kind]} {name}" for kind, name in deck.files.items()]
+    files = [f"{kind} {UNITS[kind]} {name}" for kind, name in deck.files.items()]
+    deck.name_lines = [f"# {TRANSLATED}.", *([f"#{place}"] if place else []), *files]
     deck.units = {UNITS[kind]: name for kind, name in deck.files.items()}
 
 
