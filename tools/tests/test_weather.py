@@ -84,7 +84,9 @@ def test_a_river_that_falls_dry_in_some_weathers_widens_the_drawdown(
     for word, shift, rain, other in (("low", "-0.2", "0.00048", -1500), ("high", "0.2", "0.00072", 0)):
         text = nam.read_text().replace("both.riv", f"{word}.riv").replace("from.", f"{word}.")
         nam.with_name(f"{word}.nam").write_text(text)
-        moved = [[*r[:3], str(Decimal(r[3]) + Decimal(shift)), r[4], str(Decimal(r[5]) + Decimal(higher))] for r in rows]
+        moved = [
+            [*r[:3], str(Decimal(r[3]) + Decimal(shift)), r[4], str(Decimal(r[5]) + Decimal(higher))] for r in rows
+        ]
         nam.with_name(f"{word}.riv").write_text("20\n20 0\n" + "".join(" ".join(row) + "\n" for row in moved))
         nam.with_name(f"{word}.rch").write_text(f"3\n0\nCONSTANT {rain}\n")
         nam.with_name(f"{word}.wel").write_text(f"2\n1 0\n1 14 17 {other}\n")

@@ -41,8 +41,8 @@ class Difference:
 @dataclass
 class Scene:
     """What a map shows. `verdict`, `source`: what a figure of it says below its title and at its end; `cells`: layer,
-    row and column of each cell with flow; `steps`: period, step and the time at the end of each; `time`: the unit of times,
-    empty where they aren't known; `zones`: of each cell with flow."""
+    row and column of each cell with flow; `steps`: period, step and the time at the end of each; `time`: the unit of
+    times, empty where they aren't known; `zones`: of each cell with flow."""
 
     title: str
     verdict: str
