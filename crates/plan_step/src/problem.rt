@@ -30,13 +30,16 @@ fn turned(flow: Flow) -> Flow
 }
 
 // The flows of the other plan's cell after the first `count`, turned round.
+#[tactic(auto, using(std::proofs::lemmas::List::drop_all))]
 fn turned_flows(alloc: Global, count: usize, flows: &[Flow]) -> Result<Vec<Flow>, AllocError>
-    requires few { count ≤ length flows.now }
     requires fits { All (λ q. magnitude q.lo q.hi < 2 ^ 109) flows.now }
     ensures { IfOk result (λ v. v.items ≡ map turned (drop count flows.now)) }
 {
-    let added = &flows[count..];
     let mut turned_round = Vec::new(alloc);
+    if flows.len() <= count {
+        return Ok(turned_round);
+    }
+    let added = &flows[count..];
     for i in 0..added.len() {
         turned_round.push(turned(added[i]))?;
     }
@@ -94,7 +97,6 @@ fn difference_cell(
     base: &Cell,
     planned: &Cell,
 ) -> Result<Cell, AllocError>
-    requires added { length base.now.flows ≤ length planned.now.flows }
     requires fits { All (λ q. magnitude q.lo q.hi < 2 ^ 109) planned.now.flows }
     ensures { IfOk result (λ r. r ≡ difference_cell base_head planned_head old base.now planned.now) }
 {
@@ -131,7 +133,6 @@ fn cell_by(
 ) -> Result<Cell, AllocError>
     requires as_many { length planned.now ≡ length base.now }
     requires within { c < length base.now }
-    requires added { length (entries_at base.now c).flows ≤ length (entries_at planned.now c).flows }
     ensures { IfOk result (λ r. r ≡ difference_cell (bound_at base_heads.now c) (bound_at planned_heads.now c)
         (bound_at old.now (entries_at base.now c).id) (entries_at base.now c) (entries_at planned.now c)) }
 {
@@ -158,7 +159,6 @@ fn difference_cells(
     old: &[Bound],
 ) -> Result<Vec<Cell>, AllocError>
     requires as_many { length planned.now ≡ length base.now }
-    requires added { (c : ℕ) → c < length base.now → length (entries_at base.now c).flows ≤ length (entries_at planned.now c).flows }
     ensures { IfOk result (λ r. IsDifferenceProblem base.now planned.now base_heads.now planned_heads.now old.now r.items) }
 {
     let mut cells = Vec::new(alloc);
@@ -183,7 +183,6 @@ pub fn difference_problem(
     old: &[Bound],
 ) -> Result<Problem, AllocError>
     requires as_many { length planned.now ≡ length base.now }
-    requires added { (c : ℕ) → c < length base.now → length (entries_at base.now c).flows ≤ length (entries_at planned.now c).flows }
     requires old { All (λ b. IsHead b.low × IsHead b.high) old.now }
     ensures problem { IfOk result (IsDifferenceProblem base.now planned.now base_heads.now planned_heads.now old.now) }
 {
