@@ -5,13 +5,13 @@ use crate::case::Case;
 use crate::given::Given;
 use crate::networks::push_network;
 use crate::solvers::{push_products, push_system};
-use barrier_vector::{BarrierFault, barrier};
+use barrier_vector::barrier;
 use budget_bounds::budget;
 use cell_relax::{are_words, raise_to, sink_to};
 use certificate_check::check_step;
 use std::sync::Wait;
 use std::thread::Threads;
-use step_problem::{Problem, are_heads, is_head};
+use step_problem::{BoundFault, Problem, are_heads, is_head};
 use test_lines::{Answered, Page, first_word, head_at, number_at, numbers_of};
 
 // The raise or the sink value of a cell, at its own head and those of its links.
@@ -87,8 +87,8 @@ fn push_of_problem<R: Threads + Sync>(
     }
     let b = match barrier(page.alloc(), p) {
         Ok(b) => b,
-        Err(BarrierFault::NoBound(fault)) => return Ok(push_fault(page, fault)),
-        Err(BarrierFault::Memory) => return Ok(page.line("memory")),
+        Err(BoundFault::NoBound(fault)) => return Ok(push_fault(page, fault)),
+        Err(BoundFault::Memory) => return Ok(page.line("memory")),
     };
     let case = Case {
         rt,

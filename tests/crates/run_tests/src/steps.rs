@@ -1,10 +1,10 @@
 // The steps of a model.
 use deck_problems::{Decks, start_heads_for};
 use model_types::{FlowModel, Limits, Listed, TimeStep, times};
-use problem_builder::{BuildFault, build};
+use problem_builder::build;
 use settle_driver::PlainSettler;
 use step_chain::{StepFault, next_step};
-use step_problem::{Bound, NoBound, Place, Side};
+use step_problem::{Bound, BoundFault, NoBound, Place, Side};
 use test_lines::{Answered, Page};
 
 const ROUNDS: u32 = 1_000_000;
@@ -22,8 +22,8 @@ fn push_refusal(page: &mut Page, refusal: NoBound) {
 fn push_problem(page: &mut Page, model: &FlowModel, at: TimeStep, old: &[Bound], s: u32) {
     match build(page.alloc(), model, at, old, s) {
         Ok(problem) => page.problem(&problem),
-        Err(BuildFault::NoBound(refusal)) => push_refusal(page, refusal),
-        Err(BuildFault::Memory) => page.line("memory"),
+        Err(BoundFault::NoBound(refusal)) => push_refusal(page, refusal),
+        Err(BoundFault::Memory) => page.line("memory"),
     }
 }
 
