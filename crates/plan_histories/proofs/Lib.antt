@@ -1,4 +1,5 @@
 mod Common
+pub mod Apart
 pub mod Pairs
 pub mod Picked
 pub mod PlannedSteps

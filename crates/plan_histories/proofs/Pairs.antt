@@ -1,18 +1,18 @@
 -- Two plans' histories are histories between two decks, and each choice of weathers has one of each.
 use Rattle.plan_histories.proofs.Common.{◌≡◌, ℕ, subst, sym, List, [], ◌∷◌, length, map, ℤ, flat_map, range_with_len, Fraction, Entry, FlowModel, start_head}
 use Rattle.plan_histories.proofs.Common.{times, heads_of, as_many, period_is, with_plan, PairsAreHistories, PairsHaveOne, SolvesPairsFrom, AllZip, Contains}
-use Rattle.plan_histories.proofs.Common.{IsModel, SolvesAt}
+use Rattle.plan_histories.proofs.Common.{IsModel, SolvesAt, Choice, IsBetween, IsChoiceBetween, SolvesChoicesFrom, own_choice}
 use Rattle.model_types.specs.declared.time_steps.TimeStep.{TimeStep}
-use Rattle.deck_span.specs.{Choice, IsBetween, IsChoiceBetween, SolvesChoicesFrom, own_choice}
 use Rattle.deck_span.proofs.OwnChoices.{models_give, models_solve}
 use Rattle.deck_span.proofs.SameFrames.{starts_between}
 use Rattle.problem_builder.proofs.TimesOf.{time_of}
 use Rattle.step_chain.proofs.Histories.{first_in, next_in}
+use Rattle.step_chain.specs.{two}
 use Rattle.exact_histories.proofs.ChosenHistories.{choices_one}
 use Rattle.plan_wells.proofs.Between.{planned_lie_between}
 
 -- wells change no time step
-times_same : (m : FlowModel) (plan : List (List Entry)) → length plan ≡ length m.periods → times (with_plan plan m) ≡ times m
+pub times_same : (m : FlowModel) (plan : List (List Entry)) → length plan ≡ length m.periods → times (with_plan plan m) ≡ times m
 unfolding times
 times_same m plan long =
     λ i. flat_map (λ p. map (λ n. record { period = p; step = n }) (range_with_len 1 ((period_is m plan p long) i).nstp)) (range_with_len 1 ((as_many m.periods plan long) i))
@@ -33,19 +33,19 @@ module _ (a b : FlowModel) (valid : IsModel a) (d : ℕ) where
 
 module _ (a b : FlowModel) (plan : List (List Entry)) (d : ℕ) where
   base_from : IsModel a → (old older : ℕ → Fraction) (ats : List TimeStep) → ((at : TimeStep) → Contains ats at → Contains (times a) at) → (Xs Ys : List (ℕ → ℤ)) →
-      SolvesPairsFrom a b plan d old older ats Xs Ys → HaveChoices a b d old ats Xs
+      SolvesPairsFrom (two a b) plan d old older ats Xs Ys → HaveChoices a b d old ats Xs
   base_from valid old older [] these [] [] h = ([], tt, tt)
   base_from valid old older (at ∷ ats) these (X ∷ Xs) (Y ∷ Ys) h =
-      one_more a b valid d at ats (these at (first_in at ats)) old X Xs h.0.model h.0.between h.0.base
+      one_more a b valid d at ats (these at (first_in at ats)) old X Xs h.0.model h.0.member h.0.base
       (base_from valid (heads_of d X) (heads_of d Y) ats (λ u k. these u (next_in at ats u k)) Xs Ys h.1)
   base_from valid old older _ these _ _ h = absurd h
 
   planned_from : IsModel (with_plan plan a) → (old older : ℕ → Fraction) (ats : List TimeStep) →
       ((at : TimeStep) → Contains ats at → Contains (times (with_plan plan a)) at) → (Xs Ys : List (ℕ → ℤ)) →
-      SolvesPairsFrom a b plan d old older ats Xs Ys → HaveChoices (with_plan plan a) (with_plan plan b) d older ats Ys
+      SolvesPairsFrom (two a b) plan d old older ats Xs Ys → HaveChoices (with_plan plan a) (with_plan plan b) d older ats Ys
   planned_from valid old older [] these [] [] h = ([], tt, tt)
   planned_from valid old older (at ∷ ats) these (X ∷ Xs) (Y ∷ Ys) h =
-      one_more (with_plan plan a) (with_plan plan b) valid d at ats (these at (first_in at ats)) older Y Ys (with_plan plan h.0.model) (planned_lie_between plan a h.0.model b h.0.between) h.0.planned
+      one_more (with_plan plan a) (with_plan plan b) valid d at ats (these at (first_in at ats)) older Y Ys (with_plan plan h.0.model) (planned_lie_between plan a h.0.model b h.0.member) h.0.planned
       (planned_from valid (heads_of d X) (heads_of d Y) ats (λ u k. these u (next_in at ats u k)) Xs Ys h.1)
   planned_from valid old older _ these _ _ h = absurd h
 
@@ -56,11 +56,11 @@ pairs_are_histories a b plan d Xs Ys valid planned_valid long pairs =
     let (xs, chosen, solved) = base_from a b plan d valid first first (times a) (λ at k. k) Xs Ys pairs.steps in
     let within = λ (at : TimeStep) (k : Contains (times a) at). subst (λ (ats : List TimeStep). Contains ats at) (sym times_are) k in
     let (ys, planned_chosen, planned_solved) = planned_from a b plan d planned_valid first first (times a) within Xs Ys pairs.steps in
-    let with_wells = planned_lie_between plan a pairs.first b pairs.between in (
+    let with_wells = planned_lie_between plan a pairs.first b pairs.member in (
       record {
         start = first;
         choices = xs;
-        between = record { starts = starts_between a pairs.first b pairs.between; steps = chosen };
+        between = record { starts = starts_between a pairs.first b pairs.member; steps = chosen };
         solves = record { some = pairs.some; steps = solved };
       },
       record {

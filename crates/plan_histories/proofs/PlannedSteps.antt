@@ -9,10 +9,9 @@ use Rattle.plan_histories.proofs.Common.{between_heads, cell_count, conductance,
 use Rattle.plan_histories.proofs.Common.{head_or_kept, int_at, is_active, is_chosen, is_variable, kept_head, last_given, period_at, place_in_layer, recharge_at}
 use Rattle.plan_histories.proofs.Common.{through, variable_cells, variable_faces, constant_head, given_in, variable_below, area, column_conductance}
 use Rattle.plan_histories.proofs.Common.{row_conductance, vertical_conductance, vertical_half, storage, part_passed, lists_kept, period_is, IsWell, with_plan}
-use Rattle.plan_histories.proofs.Common.{with_wells, KeepsWellsApart, PlannedSteps, plan_flows}
+use Rattle.plan_histories.proofs.Common.{with_wells, KeepsWellsApart, PlannedSteps, plan_flows, cases_lt, Period}
 use Rattle.std.specs.Option.{option_to_list}
 use Rattle.std.proofs.Math.IntN.{zero-*ℤ}
-use Rattle.std.proofs.lemmas.Bool.{cases_lt}
 use Rattle.std.proofs.lemmas.Int.{ints}
 use Rattle.decimal_input.specs.Fractions.{den, times as product}
 use Rattle.decimal_input.specs.Ratios.{times}
@@ -25,13 +24,12 @@ use Rattle.model_types.specs.declared.entry.Given.{Given}
 use Rattle.model_types.specs.declared.face.Axis.{Axis}
 use Rattle.model_types.specs.declared.face.Axis.TheVariants.{Column, Row, Vertical}
 use Rattle.model_types.specs.declared.face.Face.{Face}
-use Rattle.model_types.specs.declared.period.Period.{Period}
 use Rattle.step_problem.specs.declared.heads.Bound.{Bound}
 use Rattle.plan_step.specs.{IsApartBy, IsPlannedCell, bound_at}
 use Rattle.plan_histories.proofs.Picked.{added, kept, picked}
 
 -- a number less itself
-nothing_apart : (f : Fraction) → EnclosesSigned (pos 0) (pos 0) 9 (minus f f)
+pub nothing_apart : (f : Fraction) → EnclosesSigned (pos 0) (pos 0) 9 (minus f f)
 nothing_apart f =
     let (z, over_z) = fraction_over (den f) (10 ^ 9) f (1, omega arith) in
     enclosed_over (pos 0) (pos 0) 9 (den f) (minus f f) (z -ℤ z) (omega arith) (IsOver-minus (den f * 10 ^ 9) f f z z over_z over_z) (low (den f) z) (high (den f) z)
@@ -88,10 +86,10 @@ module _ (m : FlowModel) (plan : List (List Entry)) (long : length plan ≡ leng
   given_same : (k c : ℕ) → last_given (take k M.periods) c ≡ last_given (take k m.periods) c
   given_same k c = ap (λ (xs : List Given). given_in xs c) (lists_kept (λ q. q.stresses.given) (λ q v. refl) k m.periods plan long)
 
-  variable_same : (c : ℕ) → is_variable M p c ≡ is_variable m p c
+  pub variable_same : (c : ℕ) → is_variable M p c ≡ is_variable m p c
   variable_same c = ap (λ (o : Option Given). int_lt (pos 0) (int_at m.ibound c) && not (is_some o)) (given_same p c)
 
-  cells_same : (k : ℕ) → variable_below M p k ≡ variable_below m p k
+  pub cells_same : (k : ℕ) → variable_below M p k ≡ variable_below m p k
   unfolding variable_below
   cells_same k = λ i. filter (λ c. (variable_same c) i) (range_with_len 0 k)
 
@@ -126,7 +124,7 @@ module _ (m : FlowModel) (plan : List (List Entry)) (long : length plan ≡ leng
   by_given (Some x) c = ap (λ (r : Ratio). between_heads x r) passed
   by_given None c = ap (λ (o : Option Given). kept_head M o c) (given_same (p - 1) c) ∙ kept_same (last_given (take (p - 1) m.periods) c) c
 
-  head_same : (c : ℕ) → constant_head M p n c ≡ constant_head m p n c
+  pub head_same : (c : ℕ) → constant_head M p n c ≡ constant_head m p n c
   unfolding constant_head
   head_same c = ap (λ (q : Period). head_or_kept M p n (given_in q.stresses.given c) c) here ∙ by_given (given_in P.stresses.given c) c
 

@@ -1,4 +1,4 @@
 pub mod Pairs
 pub mod Steps
-pub use Rattle.plan_histories.specs.Pairs.{PairsAreHistories, PairsHaveOne, SolvesPairsFrom}
-pub use Rattle.plan_histories.specs.Steps.{KeepsWellsApart, PlannedSteps, plan_flows}
+pub use Rattle.plan_histories.specs.Pairs.{DifferLess, PairsAreHistories, PairsHaveOne, SolvesPairs, SolvesPairsFrom}
+pub use Rattle.plan_histories.specs.Steps.{KeepsWellsApart, MembersKeepWellsApart, PlannedSteps, ReadersKeepWellsApart, plan_flows}

@@ -10,35 +10,37 @@ use Rattle.model_types.specs.declared.model.FlowModel.{FlowModel}
 use Rattle.model_types.specs.declared.time_steps.TimeStep.{TimeStep}
 use Rattle.model_types.specs.{start_head, times, IsModel}
 use Rattle.flow_equations.specs.{SolvesAt, heads_of}
-use Rattle.deck_span.specs.{AreChoices, Choice, IsBetween, SolvesChoices}
+use Rattle.deck_span.specs.{AreChoices, Choice, SolvesChoices}
+use Rattle.deck_problems.specs.declared.decks.Decks.{Decks}
+use Rattle.deck_problems.specs.Kept.{IsMember}
 use Rattle.step_chain.specs.declared.solved.Solved.{Solved}
-use Rattle.step_chain.specs.{AreAllSteps, LiesWithin}
+use Rattle.step_chain.specs.{AreAllSteps, LiesWithin, two}
 use Rattle.exact_histories.specs.{ChoicesHaveOne}
 use Rattle.plan_wells.specs.{with_plan}
 
--- One step of two plans in one weather: X over d solves some model between a and b, from the heads `old`, and Y that model with the
--- plan's wells, from the heads `older`.
-pub record SolvesPairAt (a b : FlowModel) (plan : List (List Entry)) (at : TimeStep) (old older : ℕ → Fraction) (d : ℕ) (X Y : ℕ → ℤ) : Type 0 where
+-- One step of two plans in one weather: X over d solves a member of the decks, that of one deck or one between two, from the heads `old`,
+-- and Y that model with the plan's wells, from the heads `older`.
+pub record SolvesPairAt (ds : Decks) (plan : List (List Entry)) (at : TimeStep) (old older : ℕ → Fraction) (d : ℕ) (X Y : ℕ → ℤ) : Type 0 where
   pub model : FlowModel
-  pub between : IsBetween a model b
+  pub member : IsMember ds model
   pub base : SolvesAt model at old d X
   pub planned : SolvesAt (with_plan plan model) at older d Y
 
 -- two vectors for each of these time steps, each from the heads of the vectors before
-abbrev pub SolvesPairsFrom : FlowModel → FlowModel → List (List Entry) → ℕ → (ℕ → Fraction) → (ℕ → Fraction) → List TimeStep →
+abbrev pub SolvesPairsFrom : Decks → List (List Entry) → ℕ → (ℕ → Fraction) → (ℕ → Fraction) → List TimeStep →
     List (ℕ → ℤ) → List (ℕ → ℤ) → Type 0
-SolvesPairsFrom a b plan d old older [] [] [] = Unit {0}
-SolvesPairsFrom a b plan d old older (at ∷ ats) (X ∷ Xs) (Y ∷ Ys) =
-    SolvesPairAt a b plan at old older d X Y × SolvesPairsFrom a b plan d (heads_of d X) (heads_of d Y) ats Xs Ys
-SolvesPairsFrom a b plan d old older ats Xs Ys = ⊥
+SolvesPairsFrom ds plan d old older [] [] [] = Unit {0}
+SolvesPairsFrom ds plan d old older (at ∷ ats) (X ∷ Xs) (Y ∷ Ys) =
+    SolvesPairAt ds plan at old older d X Y × SolvesPairsFrom ds plan d (heads_of d X) (heads_of d Y) ats Xs Ys
+SolvesPairsFrom ds plan d old older ats Xs Ys = ⊥
 
 -- The histories Xs and Ys over d, without the plan's wells and with them: d is above 0, and they solve all time steps in turn, from
--- STRT of one model between.
-pub record SolvesPairs (a b : FlowModel) (plan : List (List Entry)) (d : ℕ) (Xs Ys : List (ℕ → ℤ)) : Type 0 where
+-- STRT of one member.
+pub record SolvesPairs (ds : Decks) (plan : List (List Entry)) (d : ℕ) (Xs Ys : List (ℕ → ℤ)) : Type 0 where
   pub some : 0 < d
   pub first : FlowModel
-  pub between : IsBetween a first b
-  pub steps : SolvesPairsFrom a b plan d (start_head first) (start_head first) (times a) Xs Ys
+  pub member : IsMember ds first
+  pub steps : SolvesPairsFrom ds plan d (start_head first) (start_head first) (times ds.first) Xs Ys
 
 -- The drawdown, the head without the plan less the head with it, lies between these bounds at each active cell.
 abbrev pub DifferLess : FlowModel → List Bound → ℕ → (ℕ → ℤ) → (ℕ → ℤ) → Type 0
@@ -61,7 +63,8 @@ pub record IsHistoryBetween (a b : FlowModel) (d : ℕ) (Xs : List (ℕ → ℤ)
 abbrev pub PairsAreHistories : Type 0
 PairsAreHistories =
     (a b : FlowModel) (plan : List (List Entry)) (d : ℕ) (Xs Ys : List (ℕ → ℤ)) → IsModel a → IsModel (with_plan plan a) →
-    length plan ≡ length a.periods → SolvesPairs a b plan d Xs Ys → IsHistoryBetween a b d Xs × IsHistoryBetween (with_plan plan a) (with_plan plan b) d Ys
+    length plan ≡ length a.periods → SolvesPairs (two a b) plan d Xs Ys → IsHistoryBetween a b d Xs ×
+    IsHistoryBetween (with_plan plan a) (with_plan plan b) d Ys
 
 -- Where both pairs of decks have all their steps, each choice between has one history of each plan.
 abbrev pub PairsHaveOne : Type 0

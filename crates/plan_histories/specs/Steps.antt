@@ -1,14 +1,19 @@
 -- The exact steps of two plans in one weather: that of a model, and that of the model with the plan's wells.
-use Rattle.std.specs.Prelude.{◌≡◌, ℕ, ◌-◌, List, [], All, Contains, None, length, map, slice_index_or}
+use Rattle.std.specs.Prelude.{◌≡◌, ℕ, ◌-◌, List, [], All, Contains, None, Ok, length, map, slice_index_or}
 use Rattle.std.specs.List.{filter_map}
 use Rattle.decimal_input.specs.{EnclosesSigned, Fraction}
+use Rattle.outside.specs.{FileSet}
 use Rattle.step_problem.specs.declared.heads.Bound.{Bound}
 use Rattle.model_types.specs.declared.entry.Entry.{Entry}
+use Rattle.model_types.specs.declared.limits.Limits.{Limits}
 use Rattle.model_types.specs.declared.model.FlowModel.{FlowModel}
 use Rattle.model_types.specs.declared.period.Period.{Period}
 use Rattle.model_types.specs.{as_well, cell_count, entries_of, period_at, variable_cells}
 use Rattle.flow_equations.specs.{exact_flow, exact_step}
 use Rattle.cell_balance.specs.{ExactFlow, minus}
+use Rattle.model_reader.specs.{reads}
+use Rattle.deck_problems.specs.declared.decks.Decks.{Decks}
+use Rattle.deck_problems.specs.Kept.{IsMember}
 use Rattle.plan_wells.specs.{IsWell, with_plan}
 use Rattle.plan_step.specs.{IsPlannedStep, bound_at}
 
@@ -17,6 +22,15 @@ pub record KeepsWellsApart (p : Period) : Type 0 where
   pub rivers : All (λ x. as_well x ≡ None) p.stresses.rivers
   pub drains : All (λ x. as_well x ≡ None) p.stresses.drains
   pub generals : All (λ x. as_well x ≡ None) p.stresses.generals
+
+-- A model that files are read as has such lists in each stress period.
+abbrev pub ReadersKeepWellsApart : Type 0
+ReadersKeepWellsApart =
+    (limits : Limits) (files : FileSet) (name : List ℕ) (m : FlowModel) → reads limits files name ≡ Ok m → All KeepsWellsApart m.periods
+
+-- So has the model of one deck that does, and each model between two decks of which the first one does.
+abbrev pub MembersKeepWellsApart : Type 0
+MembersKeepWellsApart = (d : Decks) (m : FlowModel) (p : ℕ) → All KeepsWellsApart d.first.periods → IsMember d m → KeepsWellsApart (period_at m p)
 
 -- the plan's wells at the variable cell of index c, as flows (TM 6-A16, chapter 6, WEL)
 abbrev pub plan_flows : FlowModel → List (List Entry) → ℕ → ℕ → (ℕ → Fraction) → ℕ → List ExactFlow

@@ -19,12 +19,16 @@
 //!
 //! `@plan NAME WELLS` prints the file of wells of a model with those of a plan's file, or the refusal of that file.
 //!
+//! `@drawdown NAME WELLS DIGITS HIGH` prints, step by step, the heads of all cells without a plan's wells, with them, and the drawdown, of the model, or
+//! with the name file HIGH of all models between both.
+//!
 //! `@write NAME` writes the model of a name file, and prints its files, which are the deck's from now on. `@steps NAME
 //! DIGITS` prints the steps of a model one after the other, each from the heads of the one before it: the problem, entry
 //! for entry, and the heads that settle it.
 mod bench;
 mod gates;
 mod models;
+mod plans;
 mod runs;
 mod steps;
 mod views;
@@ -49,7 +53,7 @@ fn answer<R: Threads + Wait + Sync>(
     bench.deck.end_file(page.alloc())?;
     let (question, rest) = first_word(line);
     let (first, more) = first_word(rest);
-    if question == "@write" || question == "@steps" || question == "@plan" {
+    if matches!(question, "@write" | "@steps" | "@plan" | "@drawdown") {
         return push_model_answer(page, &mut bench.deck.folder, question, first, more);
     }
     let is_plain = question == "@run" || question == "@meet";
@@ -88,6 +92,7 @@ fn step<R: Threads + Wait + Sync>(
         | "@passes"
         | "@write"
         | "@plan"
+        | "@drawdown"
         | "@steps" => answer(rt, page, bench, line),
         _ => take_line(page, &mut bench.deck, line),
     }

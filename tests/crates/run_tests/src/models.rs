@@ -1,4 +1,5 @@
 // The model of a name file, and what is asked of it.
+use crate::plans::push_drawdowns;
 use crate::steps::push_steps;
 use deck_problems::Decks;
 use model_reader::read_named_model;
@@ -49,7 +50,8 @@ fn push_written(page: &mut Page, folder: &mut MemFolder, model: &FlowModel) -> A
     Ok(())
 }
 
-fn read_model(alloc: Global, folder: &mut MemFolder, name: &str) -> Result<FlowModel, InputFault> {
+/// The model of a name file.
+pub fn read_model(alloc: Global, folder: &mut MemFolder, name: &str) -> Result<FlowModel, InputFault> {
     match good_name(name.as_bytes()) {
         Some(name) => read_named_model(alloc, Limits::Plain, name, folder),
         None => Err(InputFault::Memory),
@@ -114,6 +116,9 @@ pub fn push_model_answer(
     }
     if question == "@plan" {
         return push_planned(page, folder, first, digits);
+    }
+    if question == "@drawdown" {
+        return push_drawdowns(page, folder, first, name, digits);
     }
     let second = None;
     let decks = Decks { first, second };

@@ -9,7 +9,8 @@ use test_lines::{Answered, Page};
 
 const ROUNDS: u32 = 1_000_000;
 
-fn push_refusal(page: &mut Page, refusal: NoBound) {
+/// The refusal of a step.
+pub fn push_refusal(page: &mut Page, refusal: NoBound) {
     let code = refusal.code;
     match refusal.place {
         Place::Cell(id, Side::Low) => page.line(format_args!("refused {code} {id} LOW")),
