@@ -232,16 +232,26 @@ module _ (p : List Entries) (ok : IsProblem p) (q : ℕ) (own : List (Option ℕ
     searched_at_end (inl none_left) = searched (λ c h e j l. all_marked levels c none_left (subst (λ (n : ℕ). c < n) (sym u.levels_whole) h) e)
     searched_at_end (inr empty) = searched (λ c h e j l. let (m, is) = all_found empty j c l in no_both _ m e is)
 
--- the next step leads to the next level
-pub up_to_next : (p : List Entries) → IsProblem p →
-    (q : ℕ) (own : List (Option ℕ)) (k k' : ℕ) (levels levels' : List (Option ℕ)) (paths paths' front next : List ℕ) → k' ≡ suc k →
-    IsUpTo p q own k levels paths front → Spreads (FrontLeads p front (length front)) k' levels levels' [] next → length paths' ≡ length paths →
-    ((c : ℕ) → (Contains next c → ⊥) → slice_index paths' c ≡ slice_index paths c) →
-    ((c : ℕ) → Contains next c → ContinuesTo p q levels' k paths c (slice_index paths' c)) → IsUpTo p q own k' levels' paths' next
-up_to_next p ok q own k k' levels levels' paths paths' front next e u s same others goes =
-    subst (λ (n : ℕ). Spreads (FrontLeads p front (length front)) n levels levels' [] next → IsUpTo p q own n levels' paths' next) (sym e)
-    (λ (t : Spreads (FrontLeads p front (length front)) (suc k) levels levels' [] next).
-    up_to_more p ok q own k levels levels' paths paths' front next u t same others goes) s
+-- what a search holds after some steps: the level of each cell that was reached, its path, and the cells of the last level
+pub record Search : Type 0 where
+  pub levels : List (Option ℕ)
+  pub paths : List ℕ
+  pub front : List ℕ
+
+-- a step marks the cells next to the frontier, which are the next one, and gives each its path
+pub record IsStep (p : List Entries) (q k : ℕ) (old new : Search) : Type 0 where
+  pub spreads : Spreads (FrontLeads p old.front (length old.front)) (k + 1) old.levels new.levels [] new.front
+  pub same : length new.paths ≡ length old.paths
+  pub others : (c : ℕ) → (Contains new.front c → ⊥) → slice_index new.paths c ≡ slice_index old.paths c
+  pub continues : (c : ℕ) → Contains new.front c → ContinuesTo p q new.levels k old.paths c (slice_index new.paths c)
+
+pub step_reaches_next_level : (p : List Entries) → IsProblem p → (q : ℕ) (own : List (Option ℕ)) (k : ℕ) (old new : Search) →
+    IsUpTo p q own k old.levels old.paths old.front → IsStep p q k old new → IsUpTo p q own (k + 1) new.levels new.paths new.front
+step_reaches_next_level p ok q own k old new u s =
+    let next : suc k ≡ k + 1 = omega arith in
+    let spreads = subst (λ (n : ℕ). Spreads (FrontLeads p old.front (length old.front)) n old.levels new.levels [] new.front) (sym next) s.spreads in
+    subst (λ (n : ℕ). IsUpTo p q own n new.levels new.paths new.front) next
+    (up_to_more p ok q own k old.levels new.levels old.paths new.paths old.front new.front u spreads s.same s.others s.continues)
 
 pub front_within : (p : List Entries) (q : ℕ) (own : List (Option ℕ)) (k : ℕ) (levels : List (Option ℕ)) (paths front : List ℕ) → IsUpTo p q own k levels paths front → All (λ c. c < length p) front
 front_within p q own k levels paths front u = λ j d h.
@@ -260,19 +270,6 @@ next_past T v k old new next apart s = λ j d h e.
       | inl wrong ↦ absurd (no_member _ wrong)
       | inr (_, some) ↦ apart (same_some (mark_at new (get_or next j d)) v k some e)
     ]
-
--- the same over what the code holds before and after
-pub up_to_step : (p : List Entries) → IsProblem p →
-    (q : ℕ) (own : List (Option ℕ)) (k : ℕ) (levels l0 l1 l2 lf : List (Option ℕ)) (paths p0 p1 pf front f0 next n0 : List ℕ) → l0 ≡ levels → l2 ≡ lf → lf ≡
-    l1 → p0 ≡ paths → pf ≡ p1 → f0 ≡ front → n0 ≡ next → IsUpTo p q own k levels paths front → Spreads (FrontLeads p f0 (length f0)) (k + 1) l0 l1 [] next →
-    length p1 ≡ length p0 → ((c : ℕ) → (Contains n0 c → ⊥) → slice_index p1 c ≡ slice_index p0 c) →
-    ((c : ℕ) → Contains n0 c → ContinuesTo p q l2 k p0 c (slice_index p1 c)) → IsUpTo p q own (k + 1) lf pf next
-up_to_step p ok q own k levels l0 l1 l2 lf paths p0 p1 pf front f0 next n0 e0 e2 ef g0 gf h0 h1 u s same others goes =
-    let s' = rw (e0, h0) at s in
-    let others' = rw (h1, g0) at others in
-    let at = e2 ∙ ef in
-    let goes' = rw (h1, g0, at) at goes in
-    rw (ef, gf) (up_to_next p ok q own k (k + 1) levels l1 paths p1 front next (omega arith) u s' (rw g0 at same) others' goes')
 
 pub take_of_append : {X : Type 0} (xs ys : List X) (n : ℕ) → n ≡ length xs → take n (xs ++ ys) ≡ xs
 take_of_append xs ys n e = take_at xs ys n (sym e)

@@ -3,7 +3,7 @@ use Rattle.barrier_vector.proofs.Common.{count_unmarked, replicate}
 use Rattle.std.specs.Prelude.{None}
 use Rattle.barrier_vector.proofs.Starting.{all_none}
 use Rattle.std.proofs.lemmas.Grind.{common_steps}
-use Rattle.barrier_vector.proofs.Levels.{up_to_start, up_to_step, front_within, next_within, next_past, searched_at_end, take_of_append}
+use Rattle.barrier_vector.proofs.Levels.{Search, up_to_start, step_reaches_next_level, front_within, next_within, next_past, searched_at_end, take_of_append}
 use Rattle.barrier_vector.proofs.search.search.Goals.{then-loop-left-test+else-not-is_empty, else-loop-left-test}
 use Rattle.barrier_vector.proofs.search.search.Goals as goal
 
@@ -56,19 +56,23 @@ pub loop-left-preserved : goal.loop-left-preserved
 loop-left-preserved c =
     let n : c.loop-left.levels.len ≡ length c.spread.new.marks = omega (arith, c.deref_mut-in-loop-left.ensures.len, c.spread.auto.marks) in
     let m : c.loop-left.paths.len ≡ length c.extend_paths.new.paths = omega (arith, c.deref_mut-in-loop-left-2.ensures.len, c.extend_paths.auto.paths) in
+    let levels = take_of_append c.spread.new.marks (drop (length c.spread.new.marks) c.loop-left.levels.items) c.loop-left.levels.len n in
+    let paths = take_of_append c.extend_paths.new.paths (drop (length c.extend_paths.new.paths) c.loop-left.paths.items) c.loop-left.paths.len m in
+    let marked = c.deref-in-loop-left.ensures.value ∙ levels in
+    let old : Search = record { levels = c.loop-left.levels.items; paths = c.loop-left.paths.items; front = c.loop-left.frontier.items } in
+    let new : Search = record { levels = c.spread.new.marks; paths = c.extend_paths.new.paths; front = c.in_ok-frontier-2.frontier.items } in
     record {
-      up_to = up_to_step c.args.p.now c.len-count.ensures.fits c.args.q c.args.own.now c.loop-left.level
-          c.loop-left.levels.items c.deref_mut-in-loop-left.result.now c.spread.new.marks c.deref-in-loop-left.result.now _
-          c.loop-left.paths.items c.deref_mut-in-loop-left-2.result.now c.extend_paths.new.paths _
-          c.loop-left.frontier.items c.deref.result.now c.in_ok-frontier-2.frontier.items c.deref-in-loop-left-2.result.now
-          c.deref_mut-in-loop-left.ensures.value c.deref-in-loop-left.ensures.value
-          (take_of_append c.spread.new.marks (drop (length c.spread.new.marks) c.loop-left.levels.items) c.loop-left.levels.len n)
-          c.deref_mut-in-loop-left-2.ensures.value (take_of_append c.extend_paths.new.paths (drop (length c.extend_paths.new.paths) c.loop-left.paths.items) c.loop-left.paths.len m)
-          c.deref.ensures.value c.deref-in-loop-left-2.ensures.value c.loop-left.invariant.up_to c.in_ok-frontier-2.ensures c.extend_paths.auto.paths
-          c.extend_paths.ensures.others c.extend_paths.ensures.paths;
+      up_to = rw (levels, paths)
+          (step_reaches_next_level c.args.p.now c.len-count.ensures.fits c.args.q c.args.own.now c.loop-left.level old new c.loop-left.invariant.up_to
+          (record {
+            spreads = rw (c.deref_mut-in-loop-left.ensures.value, c.deref.ensures.value) at c.in_ok-frontier-2.ensures;
+            same = rw c.deref_mut-in-loop-left-2.ensures.value at c.extend_paths.auto.paths;
+            others = rw (c.deref-in-loop-left-2.ensures.value, c.deref_mut-in-loop-left-2.ensures.value) at c.extend_paths.ensures.others;
+            continues = rw (c.deref-in-loop-left-2.ensures.value, c.deref_mut-in-loop-left-2.ensures.value, marked) at c.extend_paths.ensures.paths;
+          }));
       left =
           let count = c.in_ok-frontier-2.ensures.count in
-          let now = ap count_unmarked (take_of_append c.spread.new.marks (drop (length c.spread.new.marks) c.loop-left.levels.items) c.loop-left.levels.len n) in
+          let now = ap count_unmarked levels in
           let was = ap count_unmarked c.deref_mut-in-loop-left.ensures.value in omega (arith, count, now, was, c.loop-left.invariant.left, c.len-left.ensures);
     }
 
