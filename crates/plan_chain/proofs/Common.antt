@@ -9,8 +9,7 @@ pub use Rattle.std.specs.Prelude.{IfErr, IfOk, not, option_map, ◌&&◌, ◌⊎
 pub use Rattle.cell_balance.specs.{CellEncloses, EnclosesSolutions, EnclosesStep, ExactCell, LiesBetween, cell_at, minus, no_cell, share}
 pub use Rattle.decimal_input.specs.{EnclosesSigned, Fraction, IsOver}
 pub use Rattle.deck_problems.proofs.OneProblem.{HasCellsOf, between_cells, cell_of_first, cell_of_member, encloses_member, own_choice_is, own_solves}
-pub use Rattle.deck_problems.specs.Kept.{IsMember, IsOf}
-pub use Rattle.deck_problems.specs.{AreDeckTables, IsBefore, IsChoiceOf, IsOwnChoice, IsStartOf, ProblemFits, StartHeadsEnclose, StartHeadsFit}
+pub use Rattle.deck_problems.specs.{AreDeckTables, IsBefore, IsChoiceOf, IsMember, IsOf, IsOwnChoice, IsStartOf, ProblemFits, StartHeadsEnclose, StartHeadsFit}
 pub use Rattle.deck_problems.specs.declared.decks.Decks.{Decks}
 pub use Rattle.deck_span.specs.{IsPeriodBetween, SolvesChoiceAt, own_choice, step_from}
 pub use Rattle.flow_equations.specs.{SolvesAt, exact_step, heads_of, variable_heads}

@@ -7,7 +7,7 @@ use Rattle.model_types.specs.declared.time_steps.TimeStep.{TimeStep}
 use Rattle.model_types.specs.{times}
 use Rattle.flow_equations.specs.{SolvesAt}
 use Rattle.problem_builder.specs.{HeadsEnclose}
-use Rattle.deck_problems.specs.Kept.{IsMember}
+use Rattle.deck_problems.specs.{IsMember}
 use Rattle.step_chain.specs.{LiesWithin}
 use Rattle.exact_histories.specs.{HaveOneHistory}
 use Rattle.plan_wells.specs.{with_plan}

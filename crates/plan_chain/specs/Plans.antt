@@ -12,8 +12,7 @@ use Rattle.zone_pairs.specs.{AreZones}
 use Rattle.step_chain.specs.declared.solved.Solved.{Solved}
 use Rattle.step_chain.specs.declared.solved.StepFault.{StepFault}
 use Rattle.step_chain.specs.declared.solved.StepFault.TheVariants as fault
-use Rattle.step_chain.specs.{HasNoHeads, IsStepBy}
-use Rattle.step_chain.specs.Faults.{IsOpenStep}
+use Rattle.step_chain.specs.{HasNoHeads, IsStepBy, IsOpenStep}
 use Rattle.plan_wells.specs.{IsWell, with_plan}
 use Rattle.plan_histories.specs.{KeepsWellsApart}
 use Rattle.plan_chain.specs.Differences.{AreDifferencesBy, AreOpen, HaveNoBound}

@@ -5,12 +5,11 @@ ghost use Rattle.cell_relax.specs.{AreWords};
 ghost use Rattle.problem_builder.specs.{bound_at};
 ghost use Rattle.plan_chain.specs.{AreByCell, AreDifferencesBy, FailBy};
 
-use crate::by_limits::settle_by;
 use model_types::{Limits, Listed};
 use plan_step::difference_problem;
 use problem_builder::start::NO_HEADS;
 use std::alloc::{AllocError, Global};
-use step_chain::{Solved, StepFault, barrier_by};
+use step_chain::{Solved, StepFault, barrier_by, settle_by};
 use step_problem::{Bound, Problem, Settler};
 
 // The bound of an index, zeros past the end.

@@ -2,7 +2,6 @@
 //! between which every pair of histories of the two plans lies.
 #![tactic(auto)]
 
-mod by_limits;
 mod differences;
 pub mod laws;
 pub mod step;

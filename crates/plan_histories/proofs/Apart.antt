@@ -11,7 +11,7 @@ use Rattle.list_package.specs.declared.entries.ListKind.{ListKind}
 use Rattle.list_package.specs.declared.entries.ListKind.TheVariants.{Rivers, Drains, Generals}
 use Rattle.model_reader.proofs.PeriodForms.{IsKnown}
 use Rattle.model_reader.proofs.ReadForms.{read_is}
-use Rattle.deck_problems.specs.Kept.{IsOf}
+use Rattle.deck_problems.specs.{IsOf}
 
 abbrev IsNoWell : Entry → Type 0
 IsNoWell x = as_well x ≡ None

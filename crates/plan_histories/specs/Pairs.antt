@@ -12,7 +12,7 @@ use Rattle.model_types.specs.{start_head, times, IsModel}
 use Rattle.flow_equations.specs.{SolvesAt, heads_of}
 use Rattle.deck_span.specs.{AreChoices, Choice, SolvesChoices}
 use Rattle.deck_problems.specs.declared.decks.Decks.{Decks}
-use Rattle.deck_problems.specs.Kept.{IsMember}
+use Rattle.deck_problems.specs.{IsMember}
 use Rattle.step_chain.specs.declared.solved.Solved.{Solved}
 use Rattle.step_chain.specs.{AreAllSteps, LiesWithin, two}
 use Rattle.exact_histories.specs.{ChoicesHaveOne}

@@ -13,7 +13,7 @@ use Rattle.flow_equations.specs.{exact_flow, exact_step}
 use Rattle.cell_balance.specs.{ExactFlow, minus}
 use Rattle.model_reader.specs.{reads}
 use Rattle.deck_problems.specs.declared.decks.Decks.{Decks}
-use Rattle.deck_problems.specs.Kept.{IsMember}
+use Rattle.deck_problems.specs.{IsMember}
 use Rattle.plan_wells.specs.{IsWell, with_plan}
 use Rattle.plan_step.specs.{IsPlannedStep, bound_at}
 

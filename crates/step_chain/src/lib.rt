@@ -6,5 +6,5 @@ pub mod laws;
 pub mod solved;
 mod step;
 
-pub use solved::{Solved, StepFault, barrier_by};
+pub use solved::{Solved, StepFault, barrier_by, settle_by};
 pub use step::{next_step, next_step_with};

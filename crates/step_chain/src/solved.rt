@@ -109,9 +109,9 @@ fn settle_cut<S: Settler>(
 }
 
 /// The settler's pair over a barrier by limits. With wide limits a settled pair that is no certificate over the cut barrier is
-/// refused.
+/// refused. Heads in units of 10^-9; errors: the settler's, and the refusal of 24 to 27 of a pair that is out of the range.
 #[tactic(auto, using(step_problem::proofs::Pairs::either_certifies, step_problem::proofs::Pairs::given_is, crate::proofs::Limits::edges_fit))]
-pub(crate) fn settle_by<S: Settler>(
+pub fn settle_by<S: Settler>(
     alloc: Global,
     limits: Limits,
     p: &Problem,
