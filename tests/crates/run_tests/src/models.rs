@@ -51,7 +51,11 @@ fn push_written(page: &mut Page, folder: &mut MemFolder, model: &FlowModel) -> A
 }
 
 /// The model of a name file.
-pub fn read_model(alloc: Global, folder: &mut MemFolder, name: &str) -> Result<FlowModel, InputFault> {
+pub fn read_model(
+    alloc: Global,
+    folder: &mut MemFolder,
+    name: &str,
+) -> Result<FlowModel, InputFault> {
     match good_name(name.as_bytes()) {
         Some(name) => read_named_model(alloc, Limits::Plain, name, folder),
         None => Err(InputFault::Memory),
