@@ -6,3 +6,7 @@ pub mod Stands
 pub mod FolderTexts
 pub mod Readings
 pub mod ListedTexts
+pub mod DeckCuts
+pub mod Joining
+pub mod OneModel
+pub mod ReadBack

@@ -1,5 +1,5 @@
 -- What calls return.
-use Rattle.std.specs.Prelude.{◌≡◌, ℕ, List, ◌∷◌, ◌++◌, Result, Ok, Err}
+use Rattle.std.specs.Prelude.{◌≡◌, ℕ, List, ◌∷◌, ◌++◌, Result, Ok}
 use Rattle.outside.specs.declared.inputs.Refusal.{Refusal}
 use Rattle.outside.specs.declared.inputs.InputFault.{InputFault}
 use Rattle.outside.specs.declared.inputs.InputFault.TheVariants as input
@@ -9,17 +9,6 @@ use Rattle.record_lines.specs.{◌>>=◌}
 use Rattle.listing_io.specs.{Line}
 use Rattle.stated_text.specs.Cut.{TextFile, later, pieces}
 use Rattle.stated_text.specs.Parts.{in_text}
-use Rattle.stated_text.specs.declared.fault.CutFault.{CutFault}
-use Rattle.stated_text.specs.declared.fault.CutFault.TheVariants.{BadLine, Memory}
-
--- what cutting a text gives, unless memory ran out
-abbrev pub Stops : {Y : Type 0} → CutFault → Result Y ℕ → Type 0
-Stops (BadLine n) defined = defined ≡ Err n
-Stops Memory defined = Unit {0}
-
-abbrev pub Gives : {X Y : Type 0} → (X → Y) → Result X CutFault → Result Y ℕ → Type 0
-Gives view (Ok x) defined = defined ≡ Ok (view x)
-Gives view (Err fault) defined = Stops fault defined
 
 -- a file that is begun, with the bytes that follow and the files after them
 abbrev pub after : TextFile → List ℕ × List TextFile → Result (List TextFile) ℕ
@@ -38,7 +27,7 @@ abbrev pub IsMovedFault : List ℕ → List TextFile → InputFault → TextFaul
 IsMovedFault text files (input.Refused r) fault = IsRefused (in_text text files r) fault
 IsMovedFault text files other fault = fault ≡ texts.Memory
 
--- a refusal so many lines later
+-- a refusal n lines later
 abbrev pub IsLaterFault : ℕ → TextFault → TextFault → Type 0
 IsLaterFault n (texts.Refused r) fault = fault ≡ texts.Refused (record r { line = later n r.line })
 IsLaterFault n texts.Memory fault = fault ≡ texts.Memory

@@ -1,12 +1,11 @@
 // A text of decks, cut into files.
 ghost use Rattle.std.specs.Prelude.{◌≡◌, drop, false, true, MatchOption};
 ghost use Rattle.outside.specs.{lines};
-ghost use Rattle.record_lines.specs.{next_number};
-ghost use Rattle.stated_text.specs.{cut_at, is_file_line, Gives, cut_after, begins_part};
+ghost use Rattle.record_lines.specs.{HasText, next_number};
+ghost use Rattle.stated_text.specs.{cut_at, is_file_line, cut_after, begins_part, or_bad};
 
-use crate::fault::CutFault;
 use crate::text_file::TextFile;
-use outside::good_name;
+use outside::{Code, TextFault, good_name, text_fault};
 use record_lines::cut_line;
 use std::alloc::Global;
 
@@ -48,15 +47,16 @@ pub(crate) fn begins_part(text: &[u8]) -> bool
 // The files of the lines from this one on, up to the first line END, the first of which is begun.
 fn cut_rest<'a>(
     alloc: Global,
+    text: &str,
     begun: TextFile<'a>,
-    text: &'a [u8],
+    bytes: &'a [u8],
     line: u32,
-) -> Result<Vec<TextFile<'a>>, CutFault>
-    ensures { Gives (λ files. files.items) result (cut_after begun.entry line (lines text.entry.now)) }
+) -> Result<Vec<TextFile<'a>>, TextFault>
+    ensures { HasText (λ files. files.items) result (or_bad text.now (cut_after begun.entry line (lines bytes.entry.now))) }
 {
     let mut files = Vec::new(alloc);
     let mut last = begun;
-    let mut left = text;
+    let mut left = bytes;
     let mut number = line;
     while !left.is_empty() {
         let (row, others) = cut_line(left);
@@ -73,30 +73,32 @@ fn cut_rest<'a>(
         left = others;
         number = next_number(number);
     }
-    Err(CutFault::BadLine(number))
+    Err(text_fault(alloc, Code::BadListing, text, number))
 }
 
-/// The files of a text, from this line on, up to its first line END. Otherwise the number of the first line that can't be where
-/// it is: the first one, if it is no line FILE; or the one after the last, where the line END lacks.
+/// The files of a text, from this line on, up to its first line END. Otherwise the first line that is another one than the line
+/// that is due is refused as BadListing of the text: the first one, if it is no line FILE; or the one after the last, where the line END lacks.
 #[tactic(auto, unfolding(outside::specs::Names::lines))]
 pub(crate) fn cut<'a>(
     alloc: Global,
-    text: &'a [u8],
+    text: &str,
+    bytes: &'a [u8],
     line: u32,
-) -> Result<Vec<TextFile<'a>>, CutFault>
-    ensures { Gives (λ files. files.items) result (cut_at line (lines text.entry.now)) }
+) -> Result<Vec<TextFile<'a>>, TextFault>
+    ensures { HasText (λ files. files.items) result (or_bad text.now (cut_at line (lines bytes.entry.now))) }
 {
-    if text.is_empty() {
-        return Err(CutFault::BadLine(line));
+    if bytes.is_empty() {
+        return Err(text_fault(alloc, Code::BadListing, text, line));
     }
-    let (row, others) = cut_line(text);
+    let (row, others) = cut_line(bytes);
     match name_in(row) {
         Some(name) => cut_rest(
             alloc,
+            text,
             TextFile::new(alloc, name, line),
             others,
             next_number(line),
         ),
-        None => Err(CutFault::BadLine(line)),
+        None => Err(text_fault(alloc, Code::BadListing, text, line)),
     }
 }

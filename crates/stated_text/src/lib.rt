@@ -4,8 +4,8 @@
 
 mod cutting;
 mod due;
-mod fault;
 mod folder;
+pub mod laws;
 mod listed;
 mod part;
 mod parts;

@@ -33,7 +33,7 @@ fn is_current(
     Ok(due.as_slice() == row.as_slice())
 }
 
-// A fault so many lines later.
+// A fault, with its line that many lines later.
 fn later_fault(lines: u32, fault: TextFault) -> TextFault
     ensures { IsLaterFault lines fault result }
 {

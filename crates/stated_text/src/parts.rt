@@ -1,15 +1,13 @@
 // The decks of a text.
 ghost use Rattle.std.specs.Prelude.{◌≡◌, IfOk, IfSome, option_map};
-ghost use Rattle.outside.specs.{lines};
 ghost use Rattle.record_lines.specs.{HasText};
 ghost use Rattle.model_types.specs.{HasSize, IsModel};
 ghost use Rattle.zone_pairs.specs.{AreZones};
 ghost use Rattle.model_text.specs.{zoned_text};
-ghost use Rattle.stated_text.specs.{StandsIn, after_due, cut_at, last_of, or_bad, part_at, part_of, parts_in, zoned_model};
+ghost use Rattle.stated_text.specs.{StandsIn, after_due, last_of, or_bad, part_at, part_of, parts_in, zoned_model};
 
 use crate::cutting::{begins_part, cut};
 use crate::due::after_due;
-use crate::fault::CutFault;
 use crate::folder::{folder_of, has_zones, read_deck, read_zones_if};
 use crate::part::{Part, Parts};
 use crate::places::fault_in_text;
@@ -20,22 +18,6 @@ use model_types::{FlowModel, Limits, Listed};
 use model_writer::push_deck;
 use outside::{Code, TextFault, text_fault};
 use std::alloc::Global;
-
-// The files of a part.
-fn read_files<'a>(
-    alloc: Global,
-    text: &str,
-    bytes: &'a [u8],
-    line: u32,
-) -> Result<Vec<TextFile<'a>>, TextFault>
-    ensures { HasText (λ v. v.items) result (or_bad text.now (cut_at line (lines bytes.entry.now))) }
-{
-    match cut(alloc, bytes, line) {
-        Ok(files) => Ok(files),
-        Err(CutFault::BadLine(number)) => Err(text_fault(alloc, Code::BadListing, text, number)),
-        Err(CutFault::Memory) => Err(TextFault::Memory),
-    }
-}
 
 // The model and the zones that the files of a part are read as.
 fn read_zoned(
@@ -133,7 +115,7 @@ fn read_part<'a>(
     ensures model { IfOk result (λ p. IsModel p.model) }
     ensures fit { IfOk result (λ p. AreZones p.model p.zones) }
 {
-    let files = read_files(alloc, text, bytes, line)?;
+    let files = cut(alloc, text, bytes, line)?;
     match read_zoned(alloc, limits, text, files.as_slice()) {
         Ok(read) => part_of(alloc, text, line, given, bytes, files, read),
         Err(fault) => {

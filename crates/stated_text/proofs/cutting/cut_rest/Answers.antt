@@ -1,12 +1,15 @@
-use Rattle.stated_text.proofs.Common.{rules, ◌≡◌, ◌∙◌, bytes_eq, codes, false, length, lines, refl, sym}
+use Rattle.stated_text.proofs.Common.{ap, cut_after, or_bad, rules, Ok, ◌≡◌, ◌∙◌, bytes_eq, codes, false, length, lines, refl, sym}
 use Rattle.stated_text.proofs.CutTexts.{at_end, at_nothing, no_lines, then_file, then_line}
+use Rattle.stated_text.proofs.Faults.{bad_stops}
 use Rattle.stated_text.proofs.cutting.cut_rest.Goals.{in-Some+in_ok-push-2, in_default+in_ok-add}
 use Rattle.stated_text.proofs.cutting.cut_rest.Goals as goal
 
 pub returns-then-eq : goal.returns-then-eq
 returns-then-eq c =
+    let is : cut_after c.args.begun c.args.line (lines c.args.bytes.now) ≡ Ok c.push.new.self.items =
     sym c.loop-left.invariant ∙ rw (c.cut_line.ensures.line, c.in_ok-push.ensures.items)
-    (at_end c.loop-left.files.items c.loop-left.last c.loop-left.number c.cut_line.result.0.now (lines c.cut_line.result.1.now) (search rules))
+    (at_end c.loop-left.files.items c.loop-left.last c.loop-left.number c.cut_line.result.0.now (lines c.cut_line.result.1.now) (search rules)) in
+    ap (or_bad c.args.text.now) is
 
 pub loop-left-preserved : goal.loop-left-preserved
 loop-left-preserved c =
@@ -27,4 +30,5 @@ loop-left-preserved c =
 pub returns : goal.returns
 returns c =
     let none : length c.loop-left.left.now ≡ 0 = search rules in
-    sym c.loop-left.invariant ∙ rw (no_lines c.loop-left.left.now none) (at_nothing c.loop-left.files.items c.loop-left.last c.loop-left.number)
+    bad_stops c.args.text.now _ c.loop-left.number c.text_fault.result
+    (sym c.loop-left.invariant ∙ rw (no_lines c.loop-left.left.now none) (at_nothing c.loop-left.files.items c.loop-left.last c.loop-left.number)) c.text_fault.ensures

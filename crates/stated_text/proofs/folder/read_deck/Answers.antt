@@ -1,5 +1,4 @@
-use Rattle.stated_text.proofs.Common.{FileSet, FlowModel, refl, subst, Has, deck_name}
-use Rattle.model_reader.specs.{reads}
+use Rattle.stated_text.proofs.Common.{FileSet, FlowModel, refl, subst, Has, deck_name, reads}
 use Rattle.stated_text.proofs.folder.read_deck.Goals as goal
 
 pub returns-clause-reads : goal.returns-clause-reads
