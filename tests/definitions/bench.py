@@ -8,6 +8,7 @@ from collections import Counter
 from fractions import Fraction
 from typing import Any, Callable
 
+from .kept import KeptReadings, KeptSolutions, kept_by_words
 from .running import Definitions
 from .values import Made, record, some, text
 
@@ -60,6 +61,11 @@ class Bench:
         self.counts: Counter[str] = Counter()
         self.different: list[str] = []
         self.numbers_of_zones: set[int] = set()
+        self.readings, self.solutions = KeptReadings(), KeptSolutions()
+        definitions.replace("command_line", "Wants", "order_of_words", kept_by_words)
+        definitions.replace("outside", "Inputs", "file_at", self.readings.file_at)
+        definitions.replace("model_reader", "Model", "reads", self.readings.reads)
+        definitions.replace("flow_equations", "Histories", "Solves", self.solutions.solves)
         self.called = {name: definitions.get(*place, name) for name, place in CALLED.items()}
         definitions.replace("outside", "Names", "lines", self.lines)
         definitions.replace("zone_pairs", "Pairs", "pairs_below", self.pairs_below)
@@ -88,6 +94,8 @@ class Bench:
 
     def forget(self) -> None:
         self.definitions.forget()
+        self.readings.forget()
+        self.solutions.forget()
         self.definitions.samples.clear()
         self.definitions.samples.update(WITNESSES)
 

@@ -8,6 +8,7 @@ from __future__ import annotations
 
 import re
 from fractions import Fraction
+from functools import lru_cache
 from typing import Any, Callable, Iterable
 
 
@@ -40,37 +41,45 @@ class Record:
         return "{" + ", ".join(f"{slot[2:]} = {getattr(self, slot)!r}" for slot in self.__slots__) + "}"
 
 
-CLASSES: dict[tuple[str, ...], Any] = {}
-
-
+@lru_cache(maxsize=None)
 def python_name(name: str) -> str:
     """The name in Python of a field, a definition or a variable."""
     return "v_" + re.sub(r"[^A-Za-z0-9_]", lambda found: f"_u{ord(found[0]):x}", name)
 
 
+@lru_cache(maxsize=None)
+def class_of(fields: tuple[str, ...]) -> Any:
+    """The class of records with these fields, which are sorted."""
+    slots = tuple(map(python_name, fields))
+    sets = "".join(f"    self.{slot} = {slot}\n" for slot in slots)
+    given = ", ".join(f"new[{slot!r}] if {slot!r} in new else self.{slot}" for slot in slots)
+    space: dict[str, Any] = {}
+    exec(f"def __init__(self, {', '.join(slots)}):\n{sets or '    pass'}", space)
+    exec(f"def with_fields(self, new):\n    return type(self)({given})\n", space)
+    return type("Fields", (Record,), {"__slots__": slots} | {name: space[name] for name in ("__init__", "with_fields")})
+
+
 def record_class(fields: Iterable[str]) -> Any:
-    key = tuple(sorted(fields))
-    if key not in CLASSES:
-        slots = tuple(map(python_name, key))
-        space: dict[str, Any] = {}
-        sets = "".join(f"    self.{slot} = {slot}\n" for slot in slots)
-        exec(f"def __init__(self, *, {', '.join(slots)}):\n{sets}", space)
-        CLASSES[key] = type("Fields", (Record,), {"__slots__": slots, "__init__": space["__init__"]})
-    return CLASSES[key]
+    return class_of(tuple(sorted(fields)))
 
 
 def record(**fields: Any) -> Any:
     return record_class(fields)(**{python_name(name): value for name, value in fields.items()})
 
 
+@lru_cache(maxsize=None)
+def pair_class(count: int) -> Any:
+    return record_class(map(str, range(count)))
+
+
 def pair(*items: Any) -> Any:
-    """A tuple of two items or more."""
-    return record(**{str(place): item for place, item in enumerate(items)})
+    """A tuple of two items or more, and fewer than ten: so its fields are in their order."""
+    return pair_class(len(items))(*items)
 
 
 def with_fields(old: Any, new: dict[str, Any]) -> Any:
     """The record with other values in these slots."""
-    return type(old)(**{slot: new[slot] if slot in new else getattr(old, slot) for slot in old.__slots__})
+    return old.with_fields(new)
 
 
 def changed(old: Any, **fields: Any) -> Any:
