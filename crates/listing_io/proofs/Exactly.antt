@@ -3,7 +3,7 @@ use Rattle.listing_io.proofs.Common.{◌≡◌, ℕ, ◌<◌, ◌≤◌, ◌^◌
 use Rattle.listing_io.proofs.Common.{arith, Some, zero, suc, ◌+◌, ◌-◌, ◌/◌, ◌%◌, ◌==◌, ◌∷◌, take, replicate, decimal, add-one, ℤ, pos, negsuc, not, drop_at}
 use Rattle.listing_io.proofs.Common.{append-nil, take_at, bytes_eq, bytes_eq-Decides, fixed_text, padded_digits, sign, TermPair, digits_behind, value_of, Form}
 use Rattle.listing_io.proofs.Common.{pair_line, is_within, first_word, after_word, candidate, pair_in, IsPairLine, IsForm, LinesReadExactly, nat_tests, ◌⊎◌}
-use Rattle.listing_io.proofs.Common.{inl, inr, IsWritable, FlowModel, model_line, numbers_text, AllByRecursion, decimal_is_IsNumeral_wide, position_or_len}
+use Rattle.listing_io.proofs.Common.{inl, inr, IsWritable, FlowModel, digits_line, numbers_text, AllByRecursion, decimal_is_IsNumeral_wide, position_or_len}
 use Rattle.listing_io.proofs.Common.{list_all, AllDigits, ten_pos}
 use Rattle.std.specs.Fmt.{signed_decimal}
 use Rattle.std.proofs.lemmas.Bool.{and_parts, leb-true, le-leb, and_from}
@@ -78,12 +78,13 @@ module _ (b : ℕ) (apart : IsApart b) where
     numbers_without [] h = tt
     numbers_without (n ∷ ns) h = (blank, Without-append b (decimal n) (numbers_text ns) (decimal_without n h.0) (numbers_without ns h.1))
 
-    pub model_without : (m : FlowModel) (s : ℕ) → IsWritable m s → Without b (codes "HEADS 2 DIGITS") → Without b (codes " UNIT ") → Without b (model_line m s)
-    model_without m s good first second =
+    pub title_without : (title : List ℕ) → Without b title → (m : FlowModel) (s : ℕ) → IsWritable m s → Without b (codes " DIGITS") → Without b (codes " UNIT ") →
+        Without b (digits_line title m s)
+    title_without title named m s good first second =
         let few = good.digits in
-        Without-append b (codes "HEADS 2 DIGITS" ++ numbers_text (s ∷ []) ++ codes " UNIT ") (signed_decimal m.lenuni)
-        (Without-append b (codes "HEADS 2 DIGITS" ++ numbers_text (s ∷ [])) (codes " UNIT ")
-        (Without-append b (codes "HEADS 2 DIGITS") (numbers_text (s ∷ [])) first (numbers_without (s ∷ []) (omega (arith, few), tt)))
+        Without-append b (title ++ codes " DIGITS" ++ numbers_text (s ∷ []) ++ codes " UNIT ") (signed_decimal m.lenuni)
+        (Without-append b (title ++ codes " DIGITS" ++ numbers_text (s ∷ [])) (codes " UNIT ")
+        (Without-append b (title ++ codes " DIGITS") (numbers_text (s ∷ [])) (Without-append b title (codes " DIGITS") named first) (numbers_without (s ∷ []) (omega (arith, few), tt)))
         second)
         (signed_without m.lenuni good.unit)
 

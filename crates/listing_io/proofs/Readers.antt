@@ -2,14 +2,14 @@
 use Rattle.listing_io.proofs.Common.{◌≡◌, ℕ, ◌≤◌, Bool, true, false, cond, List, [], ◌∷◌, ◌++◌, codes, nat_abs, refl, sym, ap, ◌∙◌, subst, arith, ℤ, pos}
 use Rattle.listing_io.proofs.Common.{negsuc, Option, Some, None, Ok, Err, AllZip, bytes_eq, bytes_eq-Decides, next_number, for_each, Bound, Dir, Term, Storage}
 use Rattle.listing_io.proofs.Common.{ZoneFlow, no_bound, term_name, TermPair, no_pair, FlowModel, cell_count, is_active, ZonePair, zones_of_flow, digits_behind}
-use Rattle.listing_io.proofs.Common.{Form, IsForm, pair_in, pair_line, Line, head_form, head_front, head_line, head_lines, head_pair, dir_front, term_form}
-use Rattle.listing_io.proofs.Common.{flow_form, zone_front, zone_line, zone_pair, Left, line_at, first_of, or_refused, pair_at, text_at, bound_of, head_if}
-use Rattle.listing_io.proofs.Common.{heads_at, term_if, terms_at, flow_of, flow_at, IsCellBound, IsFlowPair, all_terms, is_printed, each_lines, range_with_len}
-use Rattle.listing_io.proofs.Common.{IsHead, head_limit, HasDigits, form_of, IsPairIf}
+use Rattle.listing_io.proofs.Common.{Form, IsForm, pair_if, pair_in, pair_line, Line, cell_front, cell_line, head_form, head_front, head_lines, head_pair}
+use Rattle.listing_io.proofs.Common.{dir_front, term_form, flow_form, zone_front, zone_line, zone_pair, Left, line_at, first_of, or_refused, pair_at, text_at}
+use Rattle.listing_io.proofs.Common.{bound_of, head_if, heads_at, term_if, terms_at, flow_of, flow_at, IsCellBound, IsFlowPair, all_terms, is_printed}
+use Rattle.listing_io.proofs.Common.{each_lines, range_with_len, IsHead, head_limit, HasDigits, form_of, IsPairIf, CellWord, Head}
 use Rattle.std.proofs.lemmas.Int.{ints}
 use Rattle.listing_io.specs.declared.pair_lines.Row.{Row}
 use Rattle.listing_io.proofs.Exactly.{line_sound, line_whole}
-use Rattle.listing_io.proofs.Terms.{IsReader, all_read, ok_is_not_err, bind_goes_through, same_ok, left_of, line_if, term_rows, IsTermPair, cell_lines}
+use Rattle.listing_io.proofs.Terms.{IsReader, all_read, ok_is_not_err, bind_goes_through, same_ok, left_of, term_rows, IsTermPair, cell_lines}
 use Rattle.listing_io.specs.declared.pair_lines.Row.TheVariants as row
 
 -- The next line.
@@ -45,12 +45,12 @@ text_row text left after h =
 abbrev pub IsInLimit : Form → TermPair → Type 0
 IsInLimit f p = (nat_abs p.lo ≤ f.limit) × (nat_abs p.hi ≤ f.limit)
 
-pair_again : (front : List ℕ) (f : Form) (p : TermPair) (rest : List Line) (n : ℕ) → IsForm f → IsInLimit f p →
+pub pair_again : (front : List ℕ) (f : Form) (p : TermPair) (rest : List Line) (n : ℕ) → IsForm f → IsInLimit f p →
     pair_at front f (left_of (pair_line front f p ∷ rest) n) ≡ Ok (p, left_of rest (next_number n))
 unfolding pair_at
 pair_again front f p rest n form h = rw (line_whole front f p form h.0 h.1) refl
 
-pair_was : (front : List ℕ) (f : Form) (left : Left) (got : TermPair × Left) → pair_at front f left ≡ Ok got → IsInLimit f got.0 × (left.lines ≡ pair_line front f got.0 ∷ got.1.lines)
+pub pair_was : (front : List ℕ) (f : Form) (left : Left) (got : TermPair × Left) → pair_at front f left ≡ Ok got → IsInLimit f got.0 × (left.lines ≡ pair_line front f got.0 ∷ got.1.lines)
 unfolding pair_at
 pair_was front f left got h =
     let line = bind_goes_through (line_at left) _ got h in
@@ -77,13 +77,14 @@ is_head (pos n) h = record { above = omega (arith, ints, h); below = omega (arit
 is_head (negsuc n) h = record { above = omega (arith, ints, h); below = omega (arith, ints, h) }
 
 module _ (m : FlowModel) (s : ℕ) where
-  cell_read : (c : ℕ) (flag : Bool) → is_active m c ≡ flag → IsReader s (head_if flag (head_front m.grid c)) (λ b. cond flag (head_line m.grid c b ∷ []) []) (IsCellBound m c)
-  cell_read c true is = record {
-    again = λ few b rest n h. (next_number n, rw (pair_again (head_front m.grid c) head_form (head_pair b) rest n head_is_form (head_small b.low h.low, head_small b.high h.high)) refl);
+  -- a line of a cell, whatever its word
+  pub cell_read : (w : CellWord) (c : ℕ) (flag : Bool) → is_active m c ≡ flag → IsReader s (head_if flag (cell_front w m.grid c)) (λ b. cond flag (cell_line w m.grid c b ∷ []) []) (IsCellBound m c)
+  cell_read w c true is = record {
+    again = λ few b rest n h. (next_number n, rw (pair_again (cell_front w m.grid c) head_form (head_pair b) rest n head_is_form (head_small b.low h.low, head_small b.high h.high)) refl);
     was = λ left got h.
-        let p = bind_goes_through (pair_at (head_front m.grid c) head_form left) _ got h in
-        let (small, row) = pair_was (head_front m.grid c) head_form left p.item p.first in
-        let P : Bound × Left → Type 0 = λ x. IsCellBound m c x.0 × (left.lines ≡ head_line m.grid c x.0 ∷ x.1.lines) in
+        let p = bind_goes_through (pair_at (cell_front w m.grid c) head_form left) _ got h in
+        let (small, row) = pair_was (cell_front w m.grid c) head_form left p.item p.first in
+        let P : Bound × Left → Type 0 = λ x. IsCellBound m c x.0 × (left.lines ≡ cell_line w m.grid c x.0 ∷ x.1.lines) in
         subst P (same_ok (bound_of p.item.0, p.item.1) got _ refl p.then_) (
           record {
             low = is_head p.item.0.lo small.0;
@@ -96,17 +97,17 @@ module _ (m : FlowModel) (s : ℕ) where
     where
       differ : (b : Bool) → b ≡ true → b ≡ false → ⊥
       differ b h k = cc
-  cell_read c false is = record {
+  cell_read w c false is = record {
     again = λ few b rest n h. (n, rw (h.none is) refl);
     was = λ left got h.
         let zero_head : IsHead (pos 0) = is_head (pos 0) (omega arith) in
         let P : Bound × Left → Type 0 = λ x. IsCellBound m c x.0 × (left.lines ≡ x.1.lines) in
-        subst P (same_ok (no_bound, left) got (head_if false (head_front m.grid c) left) refl h) (record { low = zero_head; high = zero_head; none = λ off. refl }, refl);
+        subst P (same_ok (no_bound, left) got (head_if false (cell_front w m.grid c) left) refl h) (record { low = zero_head; high = zero_head; none = λ off. refl }, refl);
   }
 
   pub heads_read : IsReader s (heads_at m) (head_lines m) (AllZip (IsCellBound m) (range_with_len 0 (cell_count m.grid)))
   unfolding heads_at head_lines
-  heads_read = all_read s (λ c. head_if (is_active m c) (head_front m.grid c)) (cell_lines m) (IsCellBound m) (λ c. cell_read c (is_active m c) refl) (range_with_len 0 (cell_count m.grid))
+  heads_read = all_read s (λ c. head_if (is_active m c) (head_front m.grid c)) (cell_lines m) (IsCellBound m) (λ c. cell_read Head c (is_active m c) refl) (range_with_len 0 (cell_count m.grid))
 
 -- The terms.
 
@@ -123,8 +124,9 @@ pub flow_is_form : (s : ℕ) → s ≤ 18 → IsForm (flow_form s [])
 flow_is_form s h = record { some = omega arith; few = omega arith; small = omega arith; behind = none_behind }
 
 pub row_is_form : (r : Row) → HasDigits r → IsForm (form_of r)
-row_is_form (row.Head c) h = head_is_form
+row_is_form (row.Cell w c) h = head_is_form
 row_is_form (row.Term s dir t) h = term_is_form s t h
+row_is_form (row.Source s t) h = term_is_form s t h
 row_is_form (row.Zone s a b) h = flow_is_form s h
 
 pub in_limit : (s : ℕ) (back : List ℕ) (p : TermPair) → IsFlowPair p → IsInLimit (flow_form s back) p
@@ -133,22 +135,23 @@ in_limit s back p h = let lo = h.lo in let hi = h.hi in (omega (arith, lo), omeg
 is_flow_pair : (s : ℕ) (back : List ℕ) (p : TermPair) → IsInLimit (flow_form s back) p → IsFlowPair p
 is_flow_pair s back p h = let lo = h.0 in let hi = h.1 in record { lo = omega (arith, lo); hi = omega (arith, hi) }
 
-module _ (s : ℕ) (dir : Dir) where
-  term_read : (flag : Bool) (t : Term) → IsReader s (term_if flag s dir t) (line_if flag s dir t) (IsPairIf flag)
-  term_read true t = record {
-    again = λ few p rest n h. (next_number n, pair_again (dir_front dir) (term_form s t) p rest n (term_is_form s t few) (in_limit s (codes " " ++ term_name t) p h.small));
-    was = λ left got h. let (small, row) = pair_was (dir_front dir) (term_form s t) left got h in (record { small = is_flow_pair s (codes " " ++ term_name t) got.0 small; none = λ e. cc }, row);
+module _ (s : ℕ) where
+  -- a line of a term, however it begins
+  pub term_read : (front : List ℕ) (flag : Bool) (t : Term) → IsReader s (pair_if flag front (term_form s t)) (λ p. cond flag (pair_line front (term_form s t) p ∷ []) []) (IsPairIf flag)
+  term_read front true t = record {
+    again = λ few p rest n h. (next_number n, pair_again front (term_form s t) p rest n (term_is_form s t few) (in_limit s (codes " " ++ term_name t) p h.small));
+    was = λ left got h. let (small, row) = pair_was front (term_form s t) left got h in (record { small = is_flow_pair s (codes " " ++ term_name t) got.0 small; none = λ e. cc }, row);
   }
-  term_read false t = record {
+  term_read front false t = record {
     again = λ few p rest n h. (n, rw (h.none refl) refl);
     was = λ left got h.
         let P : TermPair × Left → Type 0 = λ x. IsPairIf false x.0 × (left.lines ≡ x.1.lines) in
-        subst P (same_ok (no_pair, left) got (term_if false s dir t left) refl h) (record { small = record { lo = omega arith; hi = omega arith }; none = λ e. refl }, refl);
+        subst P (same_ok (no_pair, left) got (pair_if false front (term_form s t) left) refl h) (record { small = record { lo = omega arith; hi = omega arith }; none = λ e. refl }, refl);
   }
 
-  pub terms_read : (evt : Bool) → IsReader s (terms_at evt s dir) (each_lines (term_rows evt s dir) all_terms) (AllZip (IsTermPair evt) all_terms)
+  pub terms_read : (dir : Dir) (evt : Bool) → IsReader s (terms_at evt s dir) (each_lines (term_rows evt s dir) all_terms) (AllZip (IsTermPair evt) all_terms)
   unfolding terms_at
-  terms_read evt = all_read s (λ t. term_if (is_printed evt t) s dir t) (term_rows evt s dir) (IsTermPair evt) (λ t. term_read (is_printed evt t) t) all_terms
+  terms_read dir evt = all_read s (λ t. term_if (is_printed evt t) s dir t) (term_rows evt s dir) (IsTermPair evt) (λ t. term_read (dir_front dir) (is_printed evt t) t) all_terms
 
 -- The flows between zones.
 

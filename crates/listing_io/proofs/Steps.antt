@@ -8,6 +8,7 @@ use Rattle.listing_io.proofs.Common.{listing_at, IsListing, ListingsWereWritten,
 use Rattle.listing_io.proofs.Common.{IsListedStep, AreListed, range_with_len, AllZip-length, AllZip-right}
 use Rattle.std.proofs.lemmas.List.FromFn.{length-range_with_len}
 use Rattle.listing_io.proofs.Terms.{IsReader, all_read, ok_is_not_err, bind_goes_through, same_ok, left_of, lines_in, lines_out}
+use Rattle.listing_io.proofs.Rows.{whole_was}
 use Rattle.listing_io.proofs.Readers.{IsFlowOf, choice_is_ok, flow_rows, flows_read, heads_read, line_row, terms_read, text_again, text_row}
 
 -- flows between pairs of zones
@@ -20,7 +21,7 @@ flows_are [] (v ∷ vs) h = absurd h
 flows_are (z ∷ zs) [] h = absurd h
 flows_are (z ∷ zs) (v ∷ vs) h = λ i. h.0.pair i ∷ flows_are zs vs h.1 i
 
-are_flows : (zs : List ZonePair) (vs : List ZoneFlow) → AllZip IsFlowOf zs vs → AreFlows zs vs
+pub are_flows : (zs : List ZonePair) (vs : List ZoneFlow) → AllZip IsFlowOf zs vs → AreFlows zs vs
 are_flows zs vs h = record { pairs = flows_are zs vs h; small = AllZip-right IsFlowOf IsSmall (λ z v k. k.small) zs vs h }
 
 small_flows : (vs : List ZoneFlow) → AllByRecursion IsSmall vs → AllZip IsFlowOf (map zones_of_flow vs) vs
@@ -148,10 +149,6 @@ first_was between m s left after h =
     let (test, same) = choice_is_ok (is_first between m s line.item.0) left.number line.item.1 after line.then_ in
     (line.item.0, first_known between m s line.item.0 test, line_row left line.item line.first ∙ ap (λ (x : Left). line.item.0 ∷ x.lines) same)
 
-none_over : (n : ℕ) (rows : List Line) (u : Unit {0}) → none_of n rows ≡ Ok u → rows ≡ []
-none_over n [] u h = refl
-none_over n (row ∷ rows) u h = absurd (ok_is_not_err n u (none_of n (row ∷ rows)) refl h)
-
 -- a first line and the further lines of a listing are the listing's lines
 whole_listing : (between : Bool) (m : FlowModel) (s : ℕ) (steps : List ListedStep) (row : Line) (rows : List Line) → IsKnown between m s row → rows ≡
     row ∷ (all_step_lines m s (times m) steps ++ (end_line ∷ [])) → IsListing between m s steps rows
@@ -163,17 +160,11 @@ listing_was : (between : Bool) (m : FlowModel) (s : ℕ) (pairs : ℕ → List Z
     Ok steps → AreListed m pairs steps × IsListing between m s steps left.lines
 unfolding listing_at
 listing_was between m s pairs left steps h =
-    let first = bind_goes_through (first_at between m s left) _ steps h in
-    let all = bind_goes_through (for_each (step_at m s pairs) (times m) first.item) _ steps first.then_ in
-    let end = bind_goes_through (text_at end_line all.item.1) _ steps all.then_ in
-    let over = bind_goes_through (over_at end.item) _ steps end.then_ in
-    let (row, known, title) = first_was between m s left first.item first.first in
-    let (are, rows) = (steps_read m s pairs).was first.item all.item all.first in
-    let end_rows = text_row end_line all.item.1 end.item end.first ∙ ap (λ (t : List Line). end_line ∷ t) (none_over end.item.number end.item.lines over.item over.first) in
-    let P : List ListedStep → Type 0 = λ xs. AreListed m pairs xs × IsListing between m s xs left.lines in
-    subst P (same_ok all.item.0 steps _ refl over.then_) (
+    let was = whole_was (first_at between m s left) (for_each (step_at m s pairs) (times m)) steps h in
+    let (row, known, title) = first_was between m s left was.after was.started in
+    let (are, rows) = (steps_read m s pairs).was was.after (steps, was.last) was.read_is in (
       record { steps = are },
-      whole_listing between m s all.item.0 row left.lines known (title ∙ ap (λ (t : List Line). row ∷ t) (rows ∙ ap (λ (t : List Line). all_step_lines m s (times m) all.item.0 ++ t) end_rows)),
+      whole_listing between m s steps row left.lines known (title ∙ ap (λ (t : List Line). row ∷ t) (rows ∙ ap (λ (t : List Line). all_step_lines m s (times m) steps ++ t) was.end)),
     )
 
 pub listed_is : (between : Bool) (m : FlowModel) (s : ℕ) (pairs : ℕ → List ZonePair) (left : Left) (steps : List ListedStep) → listing_at between m s pairs left ≡ Ok steps → AreListed m pairs steps

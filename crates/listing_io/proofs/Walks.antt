@@ -1,10 +1,10 @@
 -- Loops that read or write one thing after another.
 use Rattle.listing_io.proofs.Common.{Bool, cond, true, false, ◌≡◌, ℕ, suc, ◌+◌, ◌-◌, ◌<◌, ◌≤◌, List, [], ◌∷◌, ◌++◌, length, drop, get_or, drop-cons, add-one}
 use Rattle.listing_io.proofs.Common.{map, refl, sym, ap, ◌∙◌, arith, Result, Err, codes, inl, inr, append-nil, flat_map-cons, flat_map-append, for_each}
-use Rattle.listing_io.proofs.Common.{with_front, Fault, BadLine, Memory, Line, ended_line, text_of, Stops, first_line, first_line_before, listing, model_line}
+use Rattle.listing_io.proofs.Common.{with_front, Fault, BadLine, Memory, Line, ended_line, text_of, Stops, first_line_before, listing, digits_line, titled_line}
 use Rattle.listing_io.proofs.Common.{IsListing, IsWritable, ListingsAreApart, range_with_len, FlowModel, ListedStep}
 use Rattle.std.proofs.Common.{append_assoc}
-use Rattle.listing_io.proofs.Exactly.{Without, by_test, model_without}
+use Rattle.listing_io.proofs.Exactly.{Without, by_test, title_without}
 use Rattle.listing_io.proofs.Steps.{listings_were_written}
 
 -- the cells that are left, of n
@@ -63,24 +63,24 @@ line_if line true t = refl
 line_if line false t = refl
 
 -- A listing for all models between two decks is no model's listing: its first line has the letter O, of TO.
-model_apart : (n : FlowModel) (t : ℕ) → IsWritable n t → Without 79 (model_line n t)
-model_apart n t good = model_without 79 (inr (omega arith)) refl n t good (by_test 79 (codes "HEADS 2 DIGITS") refl) (by_test 79 (codes " UNIT ") refl)
+pub one_deck_apart : (title : List ℕ) → Without 79 title → (n : FlowModel) (t : ℕ) → IsWritable n t → Without 79 (digits_line title n t)
+one_deck_apart title apart n t good = title_without 79 (inr (omega arith)) refl title apart n t good (by_test 79 (codes " DIGITS") refl) (by_test 79 (codes " UNIT ") refl)
 
 rest_without : (b : ℕ) (xs ys : List ℕ) → Without b (xs ++ ys) → Without b ys
 rest_without b [] ys h = h
 rest_without b (x ∷ xs) ys h = rest_without b xs ys h.1
 
 -- the word TO has the letter
-not_without : (m : FlowModel) (s : ℕ) (row : Line) → first_line true m s ≡ row → Without 79 row → ⊥
-not_without m s row e h = grind (arith, rest_without, codes)
+pub not_without : (title : List ℕ) (m : FlowModel) (s : ℕ) (row : Line) → titled_line title true m s ≡ row → Without 79 row → ⊥
+not_without title m s row e h = grind (arith, rest_without, codes)
 
-same_first : (a b : Line) (more others rows : List Line) → rows ≡ a ∷ more → rows ≡ b ∷ others → a ≡ b
+pub same_first : (a b : Line) (more others rows : List Line) → rows ≡ a ∷ more → rows ≡ b ∷ others → a ≡ b
 same_first a b more others rows e f = cc
 
 apart : (m n : FlowModel) (s t : ℕ) (steps more : List ListedStep) (rows : List Line) → IsWritable n t → IsListing true m s steps rows → IsListing false n t more rows → ⊥
 unfolding listing
-apart m n s t steps more rows good (inl e) (inl f) = not_without m s _ (same_first _ _ _ _ rows e f) (model_apart n t good)
-apart m n s t steps more rows good (inl e) (inr (is, f)) = not_without m s _ (same_first _ _ _ _ rows e f) (by_test 79 first_line_before refl)
+apart m n s t steps more rows good (inl e) (inl f) = not_without (codes "HEADS 2") m s _ (same_first _ _ _ _ rows e f) (one_deck_apart (codes "HEADS 2") (by_test 79 (codes "HEADS 2") refl) n t good)
+apart m n s t steps more rows good (inl e) (inr (is, f)) = not_without (codes "HEADS 2") m s _ (same_first _ _ _ _ rows e f) (by_test 79 first_line_before refl)
 apart m n s t steps more rows good (inr (bad, e)) other = absurd (cc)
 
 pub listings_are_apart : ListingsAreApart

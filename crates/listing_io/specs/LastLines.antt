@@ -42,8 +42,11 @@ fault_place g (places.Cell c side) = numbers_text (place g c)
 fault_place g (places.Term dir t) = codes " " ++ dir_name dir ++ codes " " ++ term_name t
 fault_place g (places.Zone a b) = codes " ZONE" ++ numbers_text (a ∷ b ∷ [])
 
+unfoldable pub no_bound_text : Grid → TimeStep → NoBound → List ℕ
+no_bound_text g at n = codes "NOBOUND" ++ code_text (record { number = n.code; word = step_word n.code }) ++ time_text at ++ fault_place g n.place
+
 unfoldable pub no_bound_line : Grid → TimeStep → NoBound → List ℕ
-no_bound_line g at n = ended_line (codes "NOBOUND" ++ code_text (record { number = n.code; word = step_word n.code }) ++ time_text at ++ fault_place g n.place)
+no_bound_line g at n = ended_line (no_bound_text g at n)
 
 -- the rounds didn't settle a step
 unfoldable pub unfinished_line : TimeStep → List ℕ

@@ -8,12 +8,12 @@ pub use Rattle.listing_io.specs.Forms.{Form, IsForm, IsPairLine, LinesReadExactl
 pub use Rattle.listing_io.specs.Forms.{value_of, with_byte}
 unfoldable pub use Rattle.listing_io.specs.Forms.{candidate, digits_behind, pair_in}
 pub use Rattle.listing_io.specs.LastLines.{cell_text, code_text, fault_place, open_place, step_word, time_text}
-unfoldable pub use Rattle.listing_io.specs.LastLines.{no_bound_line, not_certified_line, refused_line, unfinished_line}
+unfoldable pub use Rattle.listing_io.specs.LastLines.{no_bound_line, no_bound_text, not_certified_line, refused_line, unfinished_line}
 pub use Rattle.listing_io.specs.Laws.{AreCellBounds, AreFlows, AreListed, AreTerms, AreZonePairs, IsCellBound, IsFlowPair, IsListedAt, IsListedStep, IsListing}
 pub use Rattle.listing_io.specs.Laws.{IsPairIf, IsTime, IsWritable, ListingsAreApart, ListingsAreReadAgain, ListingsWereWritten, step_in}
-pub use Rattle.listing_io.specs.Listing.{Line, dir_front, each_lines, end_line, ended_line, first_line, flow_form, has_evt, head_form, head_front, head_line}
-pub use Rattle.listing_io.specs.Listing.{head_pair, model_line, numbers_text, printed_terms, step_line, term_form, term_line, text_of, zone_front, zone_line}
-pub use Rattle.listing_io.specs.Listing.{zone_pair}
+pub use Rattle.listing_io.specs.Listing.{Line, cell_front, cell_line, cell_word, digits_line, dir_front, each_lines, end_line, ended_line, first_line}
+pub use Rattle.listing_io.specs.Listing.{flow_form, has_evt, head_form, head_front, head_line, head_pair, numbers_text, printed_terms, source_front}
+pub use Rattle.listing_io.specs.Listing.{source_line, step_line, term_form, term_line, text_of, titled_line, zone_front, zone_line, zone_pair}
 unfoldable pub use Rattle.listing_io.specs.Listing.{all_step_lines, first_text, head_lines, listing, step_lines, step_text, term_lines, variable_lines}
 unfoldable pub use Rattle.listing_io.specs.Listing.{view_text}
 pub use Rattle.listing_io.specs.Reading.{Gives, Has, Left, ReadsOrStops, Stops, all_lines, bound_of, first_line_before, first_of, flow_of, head_if, is_first}

@@ -19,6 +19,8 @@ use Rattle.model_types.specs.declared.model.FlowModel.{FlowModel}
 use Rattle.model_types.specs.declared.time_steps.TimeStep.{TimeStep}
 use Rattle.model_types.specs.{cell_count, place, is_active, is_nonzero, times}
 use Rattle.listing_io.specs.declared.listing.ListedStep.{ListedStep}
+use Rattle.listing_io.specs.declared.pair_lines.CellWord.{CellWord}
+use Rattle.listing_io.specs.declared.pair_lines.CellWord.TheVariants.{Head, Base, Plan, Drawdown}
 use Rattle.listing_io.specs.Forms.{Form, pair_line}
 use Rattle.step_problem.specs.Entries.{Entries}
 
@@ -38,14 +40,18 @@ abbrev pub numbers_text : List ℕ → List ℕ
 numbers_text [] = []
 numbers_text (n ∷ ns) = codes " " ++ decimal n ++ numbers_text ns
 
--- the first line of a model's listing: the listing's version, the digits of conductances, and LENUNI as it was read
-abbrev pub model_line : FlowModel → ℕ → Line
-model_line m s = codes "HEADS 2 DIGITS" ++ numbers_text (s ∷ []) ++ codes " UNIT " ++ signed_decimal m.lenuni
+-- a first line: its title, the digits of conductances, and LENUNI as it was read
+abbrev pub digits_line : List ℕ → FlowModel → ℕ → Line
+digits_line title m s = title ++ codes " DIGITS" ++ numbers_text (s ∷ []) ++ codes " UNIT " ++ signed_decimal m.lenuni
 
--- the first line; that of a listing for all models between two decks has one more word
+-- that of a listing for all models between two decks has one more word
+abbrev pub titled_line : List ℕ → Bool → FlowModel → ℕ → Line
+titled_line title false m s = digits_line title m s
+titled_line title true m s = digits_line title m s ++ codes " TO"
+
+-- the title of a listing is its name and its version
 abbrev pub first_line : Bool → FlowModel → ℕ → Line
-first_line false m s = model_line m s
-first_line true m s = model_line m s ++ codes " TO"
+first_line between m s = titled_line (codes "HEADS 2") between m s
 
 -- a time step, by its stress period and its number
 abbrev pub step_line : TimeStep → Line
@@ -59,15 +65,28 @@ head_form = record { places = 9; limit = head_limit; back = [] }
 abbrev pub flow_form : ℕ → List ℕ → Form
 flow_form s back = record { places = s + 9; limit = 2 ^ 126 - 1; back = back }
 
+-- the word of a cell's line: its heads; its heads without a plan, those with it, and their difference
+abbrev pub cell_word : CellWord → List ℕ
+cell_word Head = codes "HEAD"
+cell_word Base = codes "BASE"
+cell_word Plan = codes "PLAN"
+cell_word Drawdown = codes "DRAWDOWN"
+
 -- a cell: its layer, row and column, its lower and its upper head
+abbrev pub cell_front : CellWord → Grid → ℕ → List ℕ
+cell_front w g c = cell_word w ++ numbers_text (place g c) ++ codes " "
+
 abbrev pub head_front : Grid → ℕ → List ℕ
-head_front g c = codes "HEAD" ++ numbers_text (place g c) ++ codes " "
+head_front g c = cell_front Head g c
 
 abbrev pub head_pair : Bound → TermPair
 head_pair b = record { lo = b.low; hi = b.high }
 
+abbrev pub cell_line : CellWord → Grid → ℕ → Bound → Line
+cell_line w g c b = pair_line (cell_front w g c) head_form (head_pair b)
+
 abbrev pub head_line : Grid → ℕ → Bound → Line
-head_line g c b = pair_line (head_front g c) head_form (head_pair b)
+head_line g c b = cell_line Head g c b
 
 -- the lines of a grid's cells, with these heads; a cell with IBOUND 0 has no line
 unfoldable pub head_lines : FlowModel → List Bound → List Line
@@ -82,6 +101,13 @@ term_form s t = flow_form s (codes " " ++ term_name t)
 
 abbrev pub term_line : ℕ → Dir → Term → TermPair → Line
 term_line s dir t p = pair_line (dir_front dir) (term_form s t) p
+
+-- what a term gives more under a plan
+abbrev pub source_front : List ℕ
+source_front = codes "SOURCE "
+
+abbrev pub source_line : ℕ → Term → TermPair → Line
+source_line s t p = pair_line source_front (term_form s t) p
 
 -- whether the model has EVT: NEVTOP isn't 0
 abbrev pub has_evt : FlowModel → Bool

@@ -5,18 +5,20 @@ use Rattle.model_types.specs.declared.grid.Grid.{Grid}
 use Rattle.listing_io.specs.declared.pair_lines.Row.{Row}
 use Rattle.listing_io.specs.declared.pair_lines.Row.TheVariants as row
 use Rattle.listing_io.specs.Forms.{Form, pair_line}
-use Rattle.listing_io.specs.Listing.{Line, dir_front, flow_form, head_form, head_front, term_form, zone_front}
+use Rattle.listing_io.specs.Listing.{Line, cell_front, dir_front, flow_form, head_form, source_front, term_form, zone_front}
 
 -- how the line begins
 abbrev pub front_of : Grid → Row → List ℕ
-front_of g (row.Head c) = head_front g c
+front_of g (row.Cell w c) = cell_front w g c
 front_of g (row.Term s dir t) = dir_front dir
+front_of g (row.Source s t) = source_front
 front_of g (row.Zone s a b) = zone_front a b
 
 -- how its two numbers are written
 abbrev pub form_of : Row → Form
-form_of (row.Head c) = head_form
+form_of (row.Cell w c) = head_form
 form_of (row.Term s dir t) = term_form s t
+form_of (row.Source s t) = term_form s t
 form_of (row.Zone s a b) = flow_form s []
 
 -- the line
@@ -25,6 +27,7 @@ row_line g r p = pair_line (front_of g r) (form_of r) p
 
 -- flows have at most 18 digits of conductances
 abbrev pub HasDigits : Row → Type 0
-HasDigits (row.Head c) = Unit {0}
+HasDigits (row.Cell w c) = Unit {0}
 HasDigits (row.Term s dir t) = s ≤ 18
+HasDigits (row.Source s t) = s ≤ 18
 HasDigits (row.Zone s a b) = s ≤ 18

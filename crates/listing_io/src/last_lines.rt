@@ -1,7 +1,8 @@
 // The last lines of a run that name a refusal, a time step, or a place in it.
 ghost use Rattle.std.specs.Prelude.{◌≡◌, ◌++◌, IfOk};
 ghost use Rattle.model_types.specs.{HasSize};
-ghost use Rattle.listing_io.specs.{cell_text, code_text, fault_place, no_bound_line, not_certified_line, open_place, refused_line, step_word, unfinished_line};
+ghost use Rattle.listing_io.specs.{cell_text, code_text, fault_place, no_bound_line, no_bound_text, not_certified_line, open_place, refused_line, step_word};
+ghost use Rattle.listing_io.specs.{unfinished_line};
 
 use crate::places::{
     dir_name, push_place, push_three, push_time_line, push_two, push_word, side_word, term_word,
@@ -87,6 +88,23 @@ fn push_open_place(text: &mut Vec<u8>, grid: &Grid, place: Place) -> Result<(), 
     Ok(())
 }
 
+/// Writes the line of a step without bounds, without its line feed.
+#[tactic(auto, unfolding(crate::specs::LastLines::no_bound_text))]
+pub fn push_no_bound(
+    text: &mut Vec<u8>,
+    grid: &Grid,
+    at: TimeStep,
+    fault: NoBound,
+) -> Result<(), AllocError>
+    requires { HasSize grid.now }
+    ensures { IfOk result (λ _. text.new.items ≡ text.old.items ++ no_bound_text grid.now at fault) }
+{
+    text.extend_from_slice(b"NOBOUND")?;
+    push_code(text, fault.code, step_word(fault.code))?;
+    push_two(text, at.period, at.step)?;
+    push_fault_place(text, grid, fault.place)
+}
+
 /// The line of a step without bounds.
 #[tactic(auto, unfolding(crate::specs::LastLines::no_bound_line))]
 pub fn write_no_bound(
@@ -98,10 +116,8 @@ pub fn write_no_bound(
     requires { HasSize grid.now }
     ensures { IfOk result (λ text. text.items ≡ no_bound_line grid.now at fault) }
 {
-    let mut text = Vec::from_slice(alloc, b"NOBOUND")?;
-    push_code(&mut text, fault.code, step_word(fault.code))?;
-    push_two(&mut text, at.period, at.step)?;
-    push_fault_place(&mut text, grid, fault.place)?;
+    let mut text = Vec::new(alloc);
+    push_no_bound(&mut text, grid, at, fault)?;
     text.push(b'\n')?;
     Ok(text)
 }

@@ -10,7 +10,7 @@ use std::marker::Model;
 
 /// The lines of a text that are still to be read, including blank ones.
 #[derive(Drop)]
-pub(crate) struct AllLines<'a> {
+pub struct AllLines<'a> {
     rest: &'a [u8],
     number: u32,
 }
@@ -32,7 +32,7 @@ fn next_number(number: u32) -> u32
 }
 
 impl<'a> AllLines<'a> {
-    pub(crate) fn new(text: &'a [u8]) -> AllLines<'a>
+    pub fn new(text: &'a [u8]) -> AllLines<'a>
         ensures { result ≡ all_lines text.now }
     {
         AllLines {
@@ -42,7 +42,7 @@ impl<'a> AllLines<'a> {
     }
 
     /// The number of the next line.
-    pub(crate) fn number(&self) -> u32
+    pub fn number(&self) -> u32
         ensures { result ≡ self.now.number }
     {
         self.number
@@ -50,7 +50,7 @@ impl<'a> AllLines<'a> {
 
     /// The next line.
     #[tactic(auto, unfolding(outside::specs::Names::lines))]
-    pub(crate) fn take(&mut self) -> Result<&'a [u8], Fault>
+    pub fn take(&mut self) -> Result<&'a [u8], Fault>
         ensures { Gives (λ line. line.now) result self.new (line_at self.old) }
     {
         if self.rest.is_empty() {
@@ -64,7 +64,7 @@ impl<'a> AllLines<'a> {
 
     /// Skips the next line, which must be this one.
     #[tactic(auto, unfolding(crate::specs::Reading::text_at))]
-    pub(crate) fn expect(&mut self, text: &[u8]) -> Result<(), Fault>
+    pub fn expect(&mut self, text: &[u8]) -> Result<(), Fault>
         ensures { ReadsOrStops result self.new (text_at text.now self.old) }
     {
         let number = self.number();
@@ -78,7 +78,7 @@ impl<'a> AllLines<'a> {
 
     /// Tests that no line is left.
     #[tactic(auto, using(crate::proofs::Ends::has_a_line), unfolding(outside::specs::Names::lines))]
-    pub(crate) fn end(&self) -> Result<(), Fault>
+    pub fn end(&self) -> Result<(), Fault>
         ensures { Has (λ done. done) result (over_at self.now) }
     {
         if self.rest.is_empty() {

@@ -28,7 +28,7 @@ fn read_first(
     let number = lines.number();
     let line = lines.take()?;
     text.clear();
-    push_first_line(text, between, model, s)?;
+    push_first_line(text, b"HEADS 2", between, model, s)?;
     if text.as_slice() == line || (!between && b"HEADS 1".as_slice() == line) {
         Ok(())
     } else {

@@ -3,10 +3,10 @@ ghost use Rattle.std.specs.Prelude.{◌≡◌, ◌≤◌, ◌++◌, [], ◌∷�
 ghost use Rattle.std.specs.Fmt.{signed_decimal};
 ghost use Rattle.model_types.specs.{cell_count, HasSize};
 ghost use Rattle.budget_bounds.specs.{place_of, no_pair};
-ghost use Rattle.listing_io.specs.{first_line, first_text, head_lines, head_pair, numbers_text, printed_terms, step_text, term_line, text_of, zone_line};
+ghost use Rattle.listing_io.specs.{first_text, head_lines, head_pair, numbers_text, printed_terms, step_text, term_line, text_of, titled_line, zone_line};
 ghost use Rattle.listing_io.specs.{zone_pair};
 
-use crate::pair_lines::{Row, push_row, push_row_if};
+use crate::pair_lines::{CellWord, Row, push_row, push_row_if};
 use crate::places::{has_evt, push_time_line, push_word};
 use budget_bounds::{Budget, TermPair};
 use itoa::Buffer;
@@ -28,25 +28,28 @@ fn push_number_word(text: &mut Vec<u8>, n: u32) -> Result<(), AllocError>
 }
 
 // The first line up to its unit.
-fn push_digits(text: &mut Vec<u8>, s: u32) -> Result<(), AllocError>
-    ensures { IfOk result (λ _. text.new.items ≡ text.old.items ++ (codes "HEADS 2 DIGITS" ++ numbers_text (s ∷ []) ++ codes " UNIT ")) }
+fn push_digits(text: &mut Vec<u8>, title: &[u8], s: u32) -> Result<(), AllocError>
+    ensures { IfOk result (λ _. text.new.items ≡ text.old.items ++ (title.now ++ codes " DIGITS" ++ numbers_text (s ∷ []) ++ codes " UNIT ")) }
 {
-    text.extend_from_slice(b"HEADS 2 DIGITS")?;
+    text.extend_from_slice(title)?;
+    text.extend_from_slice(b" DIGITS")?;
     push_number_word(text, s)?;
     text.extend_from_slice(b" UNIT ")?;
     Ok(())
 }
 
-/// Writes the first line, without its line feed: with `between` that of a listing for all models between two decks.
-pub(crate) fn push_first_line(
+/// Writes the first line with this title, without its line feed: with `between` that of a listing for all models between
+/// two decks.
+pub fn push_first_line(
     text: &mut Vec<u8>,
+    title: &[u8],
     between: bool,
     model: &FlowModel,
     s: u32,
 ) -> Result<(), AllocError>
-    ensures { IfOk result (λ _. text.new.items ≡ text.old.items ++ first_line between model.now s) }
+    ensures { IfOk result (λ _. text.new.items ≡ text.old.items ++ titled_line title.now between model.now s) }
 {
-    push_digits(text, s)?;
+    push_digits(text, title, s)?;
     push_signed(text, model.lenuni)?;
     if between {
         text.extend_from_slice(b" TO")?;
@@ -66,12 +69,13 @@ pub fn write_first(
     ensures { IfOk result (λ text. text.items ≡ first_text between model.now s) }
 {
     let mut text = Vec::new(alloc);
-    push_first_line(&mut text, between, model, s)?;
+    push_first_line(&mut text, b"HEADS 2", between, model, s)?;
     text.push(b'\n')?;
     Ok(text)
 }
 
-pub(crate) fn head_pair(bound: Bound) -> TermPair
+/// The two numbers of a bound.
+pub fn head_pair(bound: Bound) -> TermPair
     ensures { result ≡ head_pair bound }
 {
     TermPair {
@@ -88,7 +92,13 @@ fn push_heads(text: &mut Vec<u8>, model: &FlowModel, heads: &[Bound]) -> Result<
     for cell in 0..heads.len() {
         let id = cell as u32;
         let pair = head_pair(heads[cell]);
-        push_row_if(text, &model.grid, model.is_active(id), Row::Head(id), pair)?;
+        push_row_if(
+            text,
+            &model.grid,
+            model.is_active(id),
+            Row::Cell(CellWord::Head, id),
+            pair,
+        )?;
     }
     Ok(())
 }
@@ -128,7 +138,13 @@ fn zone_pair(zone: ZoneFlow) -> TermPair
     }
 }
 
-fn push_zones(text: &mut Vec<u8>, grid: &Grid, s: u32, zones: &[ZoneFlow]) -> Result<(), AllocError>
+/// Writes the lines of zone flows.
+pub fn push_zones(
+    text: &mut Vec<u8>,
+    grid: &Grid,
+    s: u32,
+    zones: &[ZoneFlow],
+) -> Result<(), AllocError>
     requires size { HasSize grid.now }
     requires digits { s ≤ 18 }
     ensures { IfOk result (λ _. text.new.items ≡ text.old.items ++ text_of (map (zone_line s) zones.now)) }

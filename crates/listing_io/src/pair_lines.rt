@@ -6,7 +6,7 @@ ghost use Rattle.listing_io.specs.{ended_line, flow_form, text_of, IsForm, Gives
 use crate::fault::Fault;
 use crate::lines::AllLines;
 use crate::pairs::{PairForm, pair_in, push_pair};
-use crate::places::{dir_name, push_place, push_two, term_word};
+use crate::places::{cell_word, dir_name, push_place, push_two, term_word};
 use budget_bounds::TermPair;
 use model_types::Grid;
 use std::alloc::AllocError;
@@ -16,12 +16,23 @@ use step_problem::{Dir, Term};
 /// The greatest magnitude of a flow.
 const FLOW_LIMIT: u128 = (1 << 126) - 1;
 
-/// What a line with two numbers is about: the heads of a cell, by its number; a term of the budget; or the flow from one
-/// zone to another. The flows have this number s of digits of conductances.
+/// What the two numbers of a cell's line are: its heads; or in the listing of a plan its heads without the plan, its heads
+/// with it, and their difference.
 #[derive(Clone, Copy)]
-pub(crate) enum Row {
-    Head(u32),
+pub enum CellWord {
+    Head,
+    Base,
+    Plan,
+    Drawdown,
+}
+
+/// What a line with two numbers is about: a cell, by its number; a term of the budget; what a term gives more under a plan;
+/// or the flow from one zone to another. The flows have this number s of digits of conductances.
+#[derive(Clone, Copy)]
+pub enum Row {
+    Cell(CellWord, u32),
     Term(u32, Dir, Term),
+    Source(u32, Term),
     Zone(u32, u32, u32),
 }
 
@@ -44,12 +55,13 @@ fn form_of(row: Row) -> PairForm<'static>
     ensures form { IsForm (form_of row) }
 {
     match row {
-        Row::Head(_) => PairForm {
+        Row::Cell(_, _) => PairForm {
             places: 9,
             limit: HEAD_LIMIT as u128,
             back: b"",
         },
         Row::Term(s, _, term) => flow_form(s, term_word(term)),
+        Row::Source(s, term) => flow_form(s, term_word(term)),
         Row::Zone(s, _, _) => flow_form(s, b""),
     }
 }
@@ -60,8 +72,8 @@ fn push_front(text: &mut Vec<u8>, grid: &Grid, row: Row) -> Result<(), AllocErro
     ensures { IfOk result (λ _. text.new.items ≡ text.old.items ++ front_of grid.now row) }
 {
     match row {
-        Row::Head(cell) => {
-            text.extend_from_slice(b"HEAD")?;
+        Row::Cell(word, cell) => {
+            text.extend_from_slice(cell_word(word))?;
             push_place(text, grid, cell)?;
             text.push(b' ')?;
             Ok(())
@@ -71,6 +83,7 @@ fn push_front(text: &mut Vec<u8>, grid: &Grid, row: Row) -> Result<(), AllocErro
             text.push(b' ')?;
             Ok(())
         }
+        Row::Source(_, _) => text.extend_from_slice(b"SOURCE "),
         Row::Zone(_, from, to) => {
             text.extend_from_slice(b"ZONE")?;
             push_two(text, from, to)?;
@@ -81,12 +94,7 @@ fn push_front(text: &mut Vec<u8>, grid: &Grid, row: Row) -> Result<(), AllocErro
 }
 
 /// Writes a line.
-pub(crate) fn push_row(
-    text: &mut Vec<u8>,
-    grid: &Grid,
-    row: Row,
-    pair: TermPair,
-) -> Result<(), AllocError>
+pub fn push_row(text: &mut Vec<u8>, grid: &Grid, row: Row, pair: TermPair) -> Result<(), AllocError>
     requires size { HasSize grid.now }
     requires digits { HasDigits row }
     ensures { IfOk result (λ _. text.new.items ≡ text.old.items ++ ended_line (row_line grid.now row pair)) }
@@ -99,7 +107,7 @@ pub(crate) fn push_row(
 }
 
 /// Writes a line, if it is there.
-pub(crate) fn push_row_if(
+pub fn push_row_if(
     text: &mut Vec<u8>,
     grid: &Grid,
     there: bool,
@@ -134,7 +142,7 @@ fn read_pair(text: &mut Vec<u8>, form: &PairForm, lines: &mut AllLines) -> Resul
 }
 
 /// The two numbers of the next line, which must be of this row. The text is used up.
-pub(crate) fn read_row(
+pub fn read_row(
     text: &mut Vec<u8>,
     grid: &Grid,
     row: Row,
@@ -153,7 +161,7 @@ pub(crate) fn read_row(
 }
 
 /// The two numbers of a line, or zeros, if it isn't there.
-pub(crate) fn read_row_if(
+pub fn read_row_if(
     text: &mut Vec<u8>,
     grid: &Grid,
     there: bool,

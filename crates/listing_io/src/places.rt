@@ -2,8 +2,9 @@
 ghost use Rattle.std.specs.Prelude.{◌≡◌, ◌++◌, [], ◌∷◌, codes, decimal, IfOk};
 ghost use Rattle.step_problem.specs.{dir_name, side_name, term_name};
 ghost use Rattle.model_types.specs.{place, HasSize};
-ghost use Rattle.listing_io.specs.{ended_line, has_evt, numbers_text, time_text};
+ghost use Rattle.listing_io.specs.{cell_word, ended_line, has_evt, numbers_text, time_text};
 
+use crate::pair_lines::CellWord;
 use fixed_text::push_number;
 use model_types::{FlowModel, Grid, TimeStep};
 use std::alloc::AllocError;
@@ -18,7 +19,7 @@ pub(crate) fn push_word(text: &mut Vec<u8>, n: u64) -> Result<(), AllocError>
 }
 
 /// Writes two numbers, each after a blank.
-pub(crate) fn push_two(text: &mut Vec<u8>, a: u32, b: u32) -> Result<(), AllocError>
+pub fn push_two(text: &mut Vec<u8>, a: u32, b: u32) -> Result<(), AllocError>
     ensures { IfOk result (λ _. text.new.items ≡ text.old.items ++ numbers_text (a ∷ b ∷ [])) }
 {
     push_word(text, u64::from(a))?;
@@ -35,7 +36,7 @@ pub(crate) fn push_three(text: &mut Vec<u8>, a: u64, b: u64, c: u64) -> Result<(
 }
 
 /// Writes the layer, the row and the column of a cell.
-pub(crate) fn push_place(text: &mut Vec<u8>, grid: &Grid, cell: u32) -> Result<(), AllocError>
+pub fn push_place(text: &mut Vec<u8>, grid: &Grid, cell: u32) -> Result<(), AllocError>
     requires { HasSize grid.now }
     ensures { IfOk result (λ _. text.new.items ≡ text.old.items ++ numbers_text (place grid.now cell)) }
 {
@@ -51,7 +52,7 @@ pub(crate) fn push_place(text: &mut Vec<u8>, grid: &Grid, cell: u32) -> Result<(
 }
 
 /// Writes a word, and a time step by its stress period and its number.
-pub(crate) fn push_time(text: &mut Vec<u8>, word: &[u8], at: TimeStep) -> Result<(), AllocError>
+pub fn push_time(text: &mut Vec<u8>, word: &[u8], at: TimeStep) -> Result<(), AllocError>
     ensures { IfOk result (λ _. text.new.items ≡ text.old.items ++ (word.now ++ time_text at)) }
 {
     text.extend_from_slice(word)?;
@@ -59,16 +60,24 @@ pub(crate) fn push_time(text: &mut Vec<u8>, word: &[u8], at: TimeStep) -> Result
 }
 
 /// Writes the line of a word and a time step.
-pub(crate) fn push_time_line(
-    text: &mut Vec<u8>,
-    word: &[u8],
-    at: TimeStep,
-) -> Result<(), AllocError>
+pub fn push_time_line(text: &mut Vec<u8>, word: &[u8], at: TimeStep) -> Result<(), AllocError>
     ensures { IfOk result (λ _. text.new.items ≡ text.old.items ++ ended_line (word.now ++ time_text at)) }
 {
     push_time(text, word, at)?;
     text.push(b'\n')?;
     Ok(())
+}
+
+/// The word of a cell's line.
+pub fn cell_word(word: CellWord) -> &'static [u8]
+    ensures { result.now ≡ cell_word word }
+{
+    match word {
+        CellWord::Head => b"HEAD",
+        CellWord::Base => b"BASE",
+        CellWord::Plan => b"PLAN",
+        CellWord::Drawdown => b"DRAWDOWN",
+    }
 }
 
 /// The name of a direction.
@@ -82,7 +91,7 @@ pub(crate) fn dir_name(dir: Dir) -> &'static [u8]
 }
 
 /// The word of a side, after a blank.
-pub(crate) fn side_word(side: Side) -> &'static [u8]
+pub fn side_word(side: Side) -> &'static [u8]
     ensures { result.now ≡ codes " " ++ side_name side }
 {
     match side {
@@ -92,7 +101,7 @@ pub(crate) fn side_word(side: Side) -> &'static [u8]
 }
 
 /// The name of a term, after a blank.
-pub(crate) fn term_word(term: Term) -> &'static [u8]
+pub fn term_word(term: Term) -> &'static [u8]
     ensures { result.now ≡ codes " " ++ term_name term }
 {
     match term {
@@ -108,7 +117,7 @@ pub(crate) fn term_word(term: Term) -> &'static [u8]
 }
 
 /// Whether the model has EVT.
-pub(crate) fn has_evt(model: &FlowModel) -> bool
+pub fn has_evt(model: &FlowModel) -> bool
     ensures { result ≡ has_evt model.now }
 {
     model.nevtop != 0

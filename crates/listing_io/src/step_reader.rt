@@ -2,12 +2,12 @@
 ghost use Rattle.std.specs.Prelude.{◌≤◌, ◌<◌};
 ghost use Rattle.model_types.specs.{HasSize, is_active};
 ghost use Rattle.record_lines.specs.{for_each};
-ghost use Rattle.listing_io.specs.{has_evt, head_front, step_line, Gives, ReadsOrStops, flow_at, head_if, heads_at, step_with, terms_at, text_at};
+ghost use Rattle.listing_io.specs.{cell_front, has_evt, step_line, Gives, ReadsOrStops, flow_at, head_if, heads_at, step_with, terms_at, text_at};
 
 use crate::fault::Fault;
 use crate::lines::AllLines;
 use crate::listing::ListedStep;
-use crate::pair_lines::{Row, read_row, read_row_if};
+use crate::pair_lines::{CellWord, Row, read_row, read_row_if};
 use crate::places::{has_evt, push_time};
 use budget_bounds::{Budget, TermPair};
 use model_types::{FlowModel, Grid, Listed, TimeStep};
@@ -15,17 +15,19 @@ use std::alloc::Global;
 use step_problem::{Bound, Dir, Term, ZoneFlow};
 use zone_pairs::ZonePair;
 
-fn read_bound(
+/// The two numbers of a cell's line of this word, or zeros where the cell has no line. The text is used up.
+pub fn read_bound(
     text: &mut Vec<u8>,
     model: &FlowModel,
+    word: CellWord,
     cell: u32,
     lines: &mut AllLines,
 ) -> Result<Bound, Fault>
     requires { HasSize model.now.grid }
-    ensures { Gives (λ b. b) result lines.new (head_if (is_active model.now cell) (head_front model.now.grid cell) lines.old) }
+    ensures { Gives (λ b. b) result lines.new (head_if (is_active model.now cell) (cell_front word model.now.grid cell) lines.old) }
 {
     let there = model.is_active(cell);
-    let pair = read_row_if(text, &model.grid, there, Row::Head(cell), lines)?;
+    let pair = read_row_if(text, &model.grid, there, Row::Cell(word, cell), lines)?;
     Ok(Bound {
         low: pair.lo as i64,
         high: pair.hi as i64,
@@ -44,7 +46,7 @@ fn read_heads(
 {
     let mut heads = Vec::new(alloc);
     for cell in 0..model.grid.cell_count() {
-        let head = read_bound(text, model, cell, lines)?;
+        let head = read_bound(text, model, CellWord::Head, cell, lines)?;
         heads.push(head)?;
     }
     Ok(heads)
@@ -76,7 +78,8 @@ fn read_terms(
     ])
 }
 
-fn read_title(text: &mut Vec<u8>, at: TimeStep, lines: &mut AllLines) -> Result<(), Fault>
+/// Reads the line STEP of a time. The text is used up.
+pub fn read_title(text: &mut Vec<u8>, at: TimeStep, lines: &mut AllLines) -> Result<(), Fault>
     ensures { ReadsOrStops result lines.new (text_at (step_line at) lines.old) }
 {
     text.clear();
@@ -106,7 +109,8 @@ fn read_flow(
     })
 }
 
-fn read_flows(
+/// The flows between these pairs of zones, each in a line. The text is used up.
+pub fn read_flows(
     alloc: Global,
     text: &mut Vec<u8>,
     grid: &Grid,

@@ -5,7 +5,7 @@ ghost use Rattle.model_types.specs.{HasSize};
 ghost use Rattle.listing_io.specs.{text_of, variable_lines, view_text};
 
 use crate::listing_writer::head_pair;
-use crate::pair_lines::{Row, push_row};
+use crate::pair_lines::{CellWord, Row, push_row};
 use crate::places::push_time_line;
 use model_types::{Grid, TimeStep};
 use std::alloc::{AllocError, Global};
@@ -30,7 +30,7 @@ fn push_variable_cells(
     ensures { IfOk result (λ _. text.new.items ≡ text.old.items ++ text_of (variable_lines grid.now p.now heads.now)) }
 {
     for cell in 0..heads.len() {
-        let row = Row::Head(id_at(p, cell));
+        let row = Row::Cell(CellWord::Head, id_at(p, cell));
         push_row(text, grid, row, head_pair(heads[cell]))?;
     }
     Ok(())

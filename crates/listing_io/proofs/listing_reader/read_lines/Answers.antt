@@ -1,4 +1,5 @@
-use Rattle.listing_io.proofs.Common.{◌∙◌, ◌≤◌, List, length, sym, subst, err_from_is_err_and, TimeStep, pairs_in, zones_of}
+use Rattle.listing_io.proofs.Common.{◌∙◌, ◌≤◌, List, length, sym, subst, err_from_is_err_and, TimeStep, first_at, for_each, listing_at, pairs_in, step_at}
+use Rattle.listing_io.proofs.Common.{zones_of}
 use Rattle.std.specs.Prelude.{All}
 use Rattle.listing_io.proofs.Periods.{times_within}
 use Rattle.listing_io.proofs.Rows.{all_read, end_stops, over_stops, steps_stop}
@@ -10,31 +11,39 @@ read_steps-requires-clause-times c =
     subst T (sym (c.as_slice.ensures.value ∙ c.in_ok-times.ensures.times)) (times_within c.args.model.now)
 
 pub returns-in_err-steps : goal.returns-in_err-steps
+unfolding listing_at
 returns-in_err-steps c =
-    let pairs = pairs_in c.args.model.now (zones_of c.args.pairs.now) in
+    let first = first_at c.args.between c.args.model.now c.args.s c.args.lines.now in
+    let read = for_each (step_at c.args.model.now c.args.s (pairs_in c.args.model.now (zones_of c.args.pairs.now))) in
     let same = c.as_slice.ensures.value ∙ c.in_ok-times.ensures.times in
     let p = err_from_is_err_and c.from_residual-in_err-steps.result c.from_residual-in_err-steps.ensures.1 in
-    rw (p.1, p.2) (steps_stop c.args.between c.args.model.now c.args.s pairs c.args.lines.now _ c.as_slice.result.now same c.in_ok-read_first.ensures c.in_err-steps.field-0.0 c.in_err-steps.ensures)
+    rw (p.1, p.2) (steps_stop first read c.args.model.now _ c.as_slice.result.now same c.in_ok-read_first.ensures c.in_err-steps.field-0.0 c.in_err-steps.ensures)
 
 pub returns-in_err-expect : goal.returns-in_err-expect
+unfolding listing_at
 returns-in_err-expect c =
-    let pairs = pairs_in c.args.model.now (zones_of c.args.pairs.now) in
+    let first = first_at c.args.between c.args.model.now c.args.s c.args.lines.now in
+    let read = for_each (step_at c.args.model.now c.args.s (pairs_in c.args.model.now (zones_of c.args.pairs.now))) in
     let same = c.as_slice.ensures.value ∙ c.in_ok-times.ensures.times in
     let p = err_from_is_err_and c.from_residual-in_err-expect.result c.from_residual-in_err-expect.ensures.1 in
-    rw (p.1, p.2) (end_stops c.args.between c.args.model.now c.args.s pairs c.args.lines.now _ c.as_slice.result.now same c.in_ok-read_first.ensures
+    rw (p.1, p.2) (end_stops first read c.args.model.now _ c.as_slice.result.now same c.in_ok-read_first.ensures
     c.in_ok-steps.steps.items _ c.in_ok-steps.ensures c.in_err-expect.field-0.0 c.in_err-expect.ensures)
 
 pub returns-in_err-end : goal.returns-in_err-end
+unfolding listing_at
 returns-in_err-end c =
-    let pairs = pairs_in c.args.model.now (zones_of c.args.pairs.now) in
+    let first = first_at c.args.between c.args.model.now c.args.s c.args.lines.now in
+    let read = for_each (step_at c.args.model.now c.args.s (pairs_in c.args.model.now (zones_of c.args.pairs.now))) in
     let same = c.as_slice.ensures.value ∙ c.in_ok-times.ensures.times in
     let p = err_from_is_err_and c.from_residual-in_err-end.result c.from_residual-in_err-end.ensures.1 in
-    rw (p.1, p.2) (over_stops c.args.between c.args.model.now c.args.s pairs c.args.lines.now _ c.as_slice.result.now same c.in_ok-read_first.ensures
+    rw (p.1, p.2) (over_stops first read c.args.model.now _ c.as_slice.result.now same c.in_ok-read_first.ensures
     c.in_ok-steps.steps.items _ c.in_ok-steps.ensures _ c.in_ok-expect.ensures c.in_err-end.field-0.0 c.in_err-end.ensures)
 
 pub returns : goal.returns
+unfolding listing_at
 returns c =
-    let pairs = pairs_in c.args.model.now (zones_of c.args.pairs.now) in
+    let first = first_at c.args.between c.args.model.now c.args.s c.args.lines.now in
+    let read = for_each (step_at c.args.model.now c.args.s (pairs_in c.args.model.now (zones_of c.args.pairs.now))) in
     let same = c.as_slice.ensures.value ∙ c.in_ok-times.ensures.times in
-    all_read c.args.between c.args.model.now c.args.s pairs c.args.lines.now _ c.as_slice.result.now same c.in_ok-read_first.ensures c.in_ok-steps.steps.items _
+    all_read first read c.args.model.now _ c.as_slice.result.now same c.in_ok-read_first.ensures c.in_ok-steps.steps.items _
     c.in_ok-steps.ensures _ c.in_ok-expect.ensures _ c.in_ok-end.ensures
