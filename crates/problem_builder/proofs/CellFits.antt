@@ -1,69 +1,76 @@
 -- A cell without a refusal keeps what a problem asks of a cell alone.
 use Rattle.problem_builder.proofs.Common.{false, Bool, EnclosesSigned, cond, map, period_at, range_with_len, refl, start_head, storage_term}
-use Rattle.problem_builder.proofs.Common.{get_or-map-range_with_len, length-map-range_with_len, HeadsEnclose, In-map, face_pair, head_bound, start_bound}
-use Rattle.problem_builder.proofs.Common.{whole_cell, whole_fixed, whole_link, ◌≡◌, ℕ, ◌<◌, ◌≤◌, true, None, List, sym, subst, arith, All, ◌+◌, [], ◌∷◌, ◌++◌}
-use Rattle.problem_builder.proofs.Common.{length, get_or, ap, ◌∙◌, pos, ◌==◌, list_any, Bound, Link, no_bound, lower_at, upper_at, LinkFits, FixedFits}
-use Rattle.problem_builder.proofs.Common.{CellFits, IsHead, Face, FlowModel, TimeStep, cell_count, is_active, is_variable, is_constant, FixedSource}
-use Rattle.problem_builder.proofs.Common.{local_entries, variable_faces, fixed_sources, ToConstant, ToGeneral, FromStorage, IsModel, IsEntryValid, dec_at, In}
-use Rattle.problem_builder.proofs.Common.{IsFaceOf, passing_are, end_within, face_term, AreGridHeads, IsTimeOf, fault_of, AreStartHeads, or_parts, cases_order}
-use Rattle.problem_builder.proofs.Common.{get_or_append_left, get_or_push, length_push, Filled, ints, map-range_with_len_more, capped_ordered, formulas_hold}
-use Rattle.problem_builder.proofs.Common.{Wide, most_cells}
-use Rattle.problem_builder.proofs.Members.{variable_active, constant_active, fixed_source}
+use Rattle.problem_builder.proofs.Common.{get_or-map-range_with_len, length-map-range_with_len, HeadsEnclose, In-map, head_bound, start_bound, AreBranches}
+use Rattle.problem_builder.proofs.Common.{Branches, cell_over, fixed_over, link_over, model_branches, sources_over, ◌≡◌, ℕ, ◌<◌, ◌≤◌, true, None, List, sym}
+use Rattle.problem_builder.proofs.Common.{subst, arith, All, ◌+◌, [], ◌∷◌, ◌++◌, length, get_or, ap, ◌∙◌, pos, ◌==◌, list_any, Bound, Link, no_bound, lower_at}
+use Rattle.problem_builder.proofs.Common.{upper_at, LinkFits, FixedFits, CellFits, IsHead, Face, FlowModel, TimeStep, cell_count, is_active, is_variable}
+use Rattle.problem_builder.proofs.Common.{is_constant, FixedSource, local_entries, variable_faces, ToConstant, ToGeneral, FromStorage, IsModel, IsEntryValid}
+use Rattle.problem_builder.proofs.Common.{dec_at, In, IsFaceOf, passing_are, end_within, face_term, AreGridHeads, IsTimeOf, fault_of, AreStartHeads, or_parts}
+use Rattle.problem_builder.proofs.Common.{cases_order, get_or_append_left, get_or_push, length_push, Filled, ints, map-range_with_len_more, capped_ordered}
+use Rattle.problem_builder.proofs.Common.{formulas_hold, Wide, most_cells}
+use Rattle.problem_builder.proofs.Members.{IsFixedSource, variable_active, constant_active, source_among}
 use Rattle.problem_builder.proofs.BoundsOf.{head_range}
 use Rattle.problem_builder.proofs.HeadRange.{AreHeads, head_range_of, head_encloses}
-use Rattle.problem_builder.proofs.FacePairs.{face_range, face_active}
+use Rattle.problem_builder.proofs.CellFaces.{face_branch, first_after}
 use Rattle.problem_builder.proofs.Fits.{cond_ordered, rivers_fit, drains_fit, evaps_fit}
 use Rattle.problem_builder.proofs.Sound.{no_fault_is_sound, none_passes, positive_unless_zero}
 use Rattle.problem_builder.proofs.ValidEntries.{local_valid}
 use Rattle.problem_builder.proofs.Zipped.{all_mapped}
 
-module _ (m : FlowModel) (s : ℕ) (at : TimeStep) (old : List Bound) (valid : IsModel m) (time : IsTimeOf m at) (grid : AreGridHeads m old) (c : ℕ)
-    (lt : c < cell_count m.grid) (v : is_variable m at.period c ≡ true) where
+-- the branches of a confined model
+pub model_has_branches : (m : FlowModel) (s : ℕ) (at : TimeStep) → IsModel m → AreBranches m at (model_branches m s at)
+model_has_branches m s at valid = record {
+  ordered = (λ axis a after k. capped_ordered (face_term m axis a) s ((formulas_hold m valid).faces axis a k.within k.first k.second));
+  stored = (λ x e. e);
+}
+
+module _ (m : FlowModel) (s : ℕ) (at : TimeStep) (old : List Bound) (b : Branches) (sound_branches : AreBranches m at b) (valid : IsModel m)
+    (time : IsTimeOf m at) (grid : AreGridHeads m old) (c : ℕ) (lt : c < cell_count m.grid) (v : is_variable m at.period c ≡ true) where
   entries_fit : All (IsEntryValid (most_cells Wide)) (local_entries m at.period c)
   entries_fit = local_valid m at.period c valid time.valid
 
   here : is_active m c ≡ true
   here = variable_active m at.period c v
 
-  face_ordered : (f : Face) → IsFaceOf m.grid c f → is_active m f.end ≡ true → (face_pair m s f.axis f.first).lo ≤ (face_pair m s f.axis f.first).hi
-  face_ordered f g b =
-      let (x, y) = face_active m c f g here b in
-      capped_ordered (face_term m f.axis f.first) s ((formulas_hold m valid).faces f.axis f.first (face_range m.grid c f valid.grid.size lt g) x y)
+  face_ordered : (f : Face) → IsFaceOf m.grid c f → is_active m f.end ≡ true → (b.pair f.axis f.first).lo ≤ (b.pair f.axis f.first).hi
+  face_ordered f g active = sound_branches.ordered f.axis f.first (first_after m.grid c f valid.grid.size g) (face_branch m c f valid.grid.size lt g here active)
 
   old_range : IsHead (lower_at old c) × IsHead (upper_at old c)
   old_range = grid.range c no_bound (omega (arith, lt, grid.whole))
 
-  fixed_fits : (y : FixedSource) → In (fixed_sources m at.period c) y → FixedFits (whole_fixed m s at old c y)
+  source : (y : FixedSource) → In (sources_over m s at old b c) y → IsFixedSource m at.period c y
+  source = source_among m at.period c b.stored sound_branches.stored
+
+  fixed_fits : (y : FixedSource) → In (sources_over m s at old b c) y → FixedFits (fixed_over m s at old b c y)
   fixed_fits (ToConstant f) i =
-      let (g, b) = passing_are m.grid (is_constant m at.period) c f (fixed_source m at.period c (ToConstant f) i) in
-      let r = head_range m at valid time f.end (end_within m.grid c f valid.grid.size lt g) b in
-      record { ordered = face_ordered f g (constant_active m at.period f.end b); head_lo = r.0; head_hi = r.1 }
+      let (g, k) = passing_are m.grid (is_constant m at.period) c f (source (ToConstant f) i) in
+      let r = head_range m at valid time f.end (end_within m.grid c f valid.grid.size lt g) k in
+      record { ordered = face_ordered f g (constant_active m at.period f.end k); head_lo = r.0; head_hi = r.1 }
   fixed_fits (ToGeneral head k) i =
-      let r = head_range_of head (fixed_source m at.period c (ToGeneral head k) i entries_fit).0 in
+      let r = head_range_of head (source (ToGeneral head k) i entries_fit).0 in
       record { ordered = cond_ordered s k; head_lo = r.0; head_hi = r.1 }
   fixed_fits FromStorage i = record {
     ordered = capped_ordered (storage_term m (period_at m at.period) at.step c) s
-        ((formulas_hold m valid).storages (period_at m at.period) at.step c time.valid.times (fixed_source m at.period c FromStorage i) lt here);
+        ((formulas_hold m valid).storages (period_at m at.period) at.step c time.valid.times (source FromStorage i) lt here);
     head_lo = old_range.0;
     head_hi = old_range.1;
   }
 
-  pub cell_fits : fault_of (whole_cell m s at old c) ≡ None → CellFits (whole_cell m s at old c)
+  pub cell_fits : fault_of (cell_over m s at old b c) ≡ None → CellFits (cell_over m s at old b c)
   cell_fits none =
-      let k = no_fault_is_sound (whole_cell m s at old c) none in
-      let links = map (whole_link m s at old) (variable_faces m at.period c) in
+      let k = no_fault_is_sound (cell_over m s at old b c) none in
+      let link = link_over m s at old b in
+      let links = map link (variable_faces m at.period c) in
       let small = (or_parts (list_any (λ x. x.lo == 0) links) _ k.branches).0 in
       record {
-        links = all_mapped LinkFits (whole_link m s at old) (variable_faces m at.period c) (λ f j.
-            let (g, b) = passing_are m.grid (is_variable m at.period) c f j in
-            let x = whole_link m s at old f in
+        links = all_mapped LinkFits link (variable_faces m at.period c) (λ f j.
+            let (g, i) = passing_are m.grid (is_variable m at.period) c f j in
             record {
-              conducts = positive_unless_zero x.lo
-                  (none_passes (λ (y : Link). y.lo == 0) links small x (In-map (whole_link m s at old) (variable_faces m at.period c) f j));
-              ordered =
-                  face_ordered f g (variable_active m at.period f.end b);
+              conducts = positive_unless_zero (link f).lo
+                  (none_passes (λ (y : Link). y.lo == 0) links small (link f) (In-map link (variable_faces m at.period c) f j));
+              ordered = face_ordered f g (variable_active m at.period f.end i);
             });
-        fixed = all_mapped FixedFits (whole_fixed m s at old c) (fixed_sources m at.period c) fixed_fits;
+        fixed = all_mapped FixedFits (fixed_over m s at old b c) (sources_over m s at old b c) fixed_fits;
         rivers = rivers_fit m s at.period c valid time.valid;
         drains = drains_fit m s at.period c valid time.valid;
         evaps = evaps_fit m s at.period c valid time.valid lt v;

@@ -2,8 +2,8 @@
 use Rattle.problem_builder.proofs.Common.{◌≡◌, ℕ, ◌+◌, ◌<◌, ◌≤◌, Bool, true, cond, Option, Some, None, List, [], ◌∷◌, ◌++◌, map, refl, sym, ap, ◌∙◌, length}
 use Rattle.problem_builder.proofs.Common.{get_or, take, take_all, take_more, filter_map-append, option_to_list, cons_option, filter_map, Bound, Flow, Fixed}
 use Rattle.problem_builder.proofs.Common.{Face, Entry, FlowModel, TimeStep, FixedSource, ToConstant, Received, as_well, as_general, through, Dec, whole_flow}
-use Rattle.problem_builder.proofs.Common.{whole_fixed, whole_constant, well_of, general_of, option_map, FlowPair, recharge_pair, flow_of_pair, AllZip, Well}
-use Rattle.problem_builder.proofs.Common.{map-append, map-map}
+use Rattle.problem_builder.proofs.Common.{Branches, constant_over, fixed_over, well_of, general_of, option_map, FlowPair, recharge_pair, flow_of_pair, AllZip}
+use Rattle.problem_builder.proofs.Common.{Well, map-append, map-map}
 use Rattle.model_types.specs.declared.entry.Entry.TheVariants.{River as RiverEntry, Drain as DrainEntry, General as GeneralEntry}
 use Rattle.step_problem.specs.declared.entry.FlowKind.TheVariants.{Recharge}
 
@@ -44,31 +44,32 @@ made_all f g xs ys i all le e so_far = so_far ∙ ap (filter_map (λ x. option_m
 pub made_through : {X : Type 0} (f : Face → X) (test : ℕ → Bool) (o : Option Face) (face : Face) (x : X) → o ≡ Some face → test face.end ≡ true → x ≡ f face → Some x ≡ option_map f (through test o)
 made_through f test o face x e t r = ap Some r ∙ sym (ap (λ q. option_map f (through test q)) e ∙ ap (λ b. option_map f (cond b (Some face) None)) t)
 
-module _ (m : FlowModel) (s : ℕ) (at : TimeStep) (old : List Bound) (c : ℕ) where
-  generals : (x : Entry) → general_of s c x ≡ option_map (whole_fixed m s at old c) (as_general x)
+module _ (m : FlowModel) (s : ℕ) (at : TimeStep) (old : List Bound) (b : Branches) (c : ℕ) where
+  generals : (x : Entry) → general_of s c x ≡ option_map (fixed_over m s at old b c) (as_general x)
   generals (Well cell q) = refl
   generals (RiverEntry cell stage k bottom) = refl
   generals (DrainEntry cell elevation k) = refl
   generals (GeneralEntry cell head k) = refl
 
+  -- storage, then constant heads, then general heads
+  pub fixed_are : (o : Option Fixed) (storage : Option FixedSource) (faces : List Face) (ks gs : List Fixed) (entries : List Entry) (first second third : List Fixed) →
+      first ≡ [] ++ option_to_list o → o ≡ option_map (fixed_over m s at old b c) storage → ks ≡ map (constant_over m s at old b) faces → gs ≡ filter_map (general_of s c) entries →
+      second ≡ first ++ ks → third ≡ second ++ gs → third ≡ map (fixed_over m s at old b c) (option_to_list storage ++ map ToConstant faces ++ filter_map as_general entries)
+  fixed_are o storage faces ks gs entries first second third e₁ stored k g e₃ e₄ =
+      let F = fixed_over m s at old b c in
+      let a : first ≡ map F (option_to_list storage) = e₁ ∙ ap option_to_list stored ∙ made_list F storage in
+      let k' : ks ≡ map F (map ToConstant faces) = k ∙ sym (map-map F ToConstant faces) in
+      let d : gs ≡ map F (filter_map as_general entries) = g ∙ made_of F as_general (general_of s c) generals entries in
+      e₄ ∙ ap (λ xs. xs ++ gs) e₃ ∙ (λ t. (a t ++ k' t) ++ d t)
+      ∙ sym (map-append F (option_to_list storage ++ map ToConstant faces) (filter_map as_general entries) ∙ ap (λ xs.
+      xs ++ map F (filter_map as_general entries)) (map-append F (option_to_list storage) (map ToConstant faces)))
+
+module _ (m : FlowModel) (s c : ℕ) where
   wells : (x : Entry) → well_of s x ≡ option_map (whole_flow m s c) (as_well x)
   wells (Well cell q) = refl
   wells (RiverEntry cell stage k bottom) = refl
   wells (DrainEntry cell elevation k) = refl
   wells (GeneralEntry cell head k) = refl
-
-  -- storage, then constant heads, then general heads
-  pub fixed_are : (o : Option Fixed) (storage : Option FixedSource) (faces : List Face) (ks gs : List Fixed) (entries : List Entry) (first second third : List Fixed) →
-      first ≡ [] ++ option_to_list o → o ≡ option_map (whole_fixed m s at old c) storage → ks ≡ map (whole_constant m s at old) faces → gs ≡ filter_map (general_of s c) entries →
-      second ≡ first ++ ks → third ≡ second ++ gs → third ≡ map (whole_fixed m s at old c) (option_to_list storage ++ map ToConstant faces ++ filter_map as_general entries)
-  fixed_are o storage faces ks gs entries first second third e₁ stored k g e₃ e₄ =
-      let F = whole_fixed m s at old c in
-      let a : first ≡ map F (option_to_list storage) = e₁ ∙ ap option_to_list stored ∙ made_list F storage in
-      let b : ks ≡ map F (map ToConstant faces) = k ∙ sym (map-map F ToConstant faces) in
-      let d : gs ≡ map F (filter_map as_general entries) = g ∙ made_of F as_general (general_of s c) generals entries in
-      e₄ ∙ ap (λ xs. xs ++ gs) e₃ ∙ (λ t. (a t ++ b t) ++ d t)
-      ∙ sym (map-append F (option_to_list storage ++ map ToConstant faces) (filter_map as_general entries) ∙ ap (λ xs.
-      xs ++ map F (filter_map as_general entries)) (map-append F (option_to_list storage) (map ToConstant faces)))
 
   -- recharge, then wells
   pub flows_are : (o : Option Flow) (recharge : Option Dec) (ws : List Flow) (entries : List Entry) (first second : List Flow) →

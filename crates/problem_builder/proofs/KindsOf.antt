@@ -1,5 +1,6 @@
 -- What the kind of a cell says of it.
-use Rattle.problem_builder.proofs.Common.{◌≡◌, ℕ, true, false, FlowModel, NoFlow, Constant, arith, Variable, is_variable, is_constant, kind_of}
+use Rattle.problem_builder.proofs.Common.{◌≡◌, ℕ, true, false, FlowModel, NoFlow, arith, Variable, is_variable, is_constant, kind_of}
+use Rattle.model_types.specs.declared.given_heads.Kind.TheVariants.{Constant}
 
 module _ (m : FlowModel) (p c : ℕ) where
   pub variable_kind : kind_of m p c ≡ Variable → is_variable m p c ≡ true

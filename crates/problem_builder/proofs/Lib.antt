@@ -2,7 +2,7 @@ mod Common
 pub mod Zipped
 pub mod Appended
 pub mod HeadRange
-pub mod FacePairs
+pub mod CellFaces
 pub mod Joined
 pub mod Fits
 pub mod Steps
@@ -11,6 +11,8 @@ pub mod ValidEntries
 pub mod Sound
 pub mod CellFits
 pub mod Problems
+pub mod SameBranches
+pub mod ModelBuilt
 pub mod CellEnclosed
 pub mod TimesOf
 pub mod GivenRange

@@ -1,12 +1,13 @@
 -- Variable cells in their list, and sources in theirs.
-use Rattle.problem_builder.proofs.Common.{variable_cells, In-map, whole_cell, whole_fixed, whole_step, ◌≡◌, ℕ, zero, suc, ◌+◌, ◌<◌, ◌≤◌, ◌⊎◌, inl, inr, Bool}
-use Rattle.problem_builder.proofs.Common.{true, false, cond, Option, Some, None, List, [], ◌∷◌, ◌++◌, map, refl, sym, ap, ◌∙◌, subst, arith, All, ℤ, pos}
-use Rattle.problem_builder.proofs.Common.{negsuc, length, filter, filter_map, range_with_len, Contains, option_to_list, none-some, Entry, FlowModel}
-use Rattle.problem_builder.proofs.Common.{is_variable, variable_below, period_at, FixedSource, constant_faces, fixed_sources, storage_at, as_general}
-use Rattle.problem_builder.proofs.Common.{local_entries, ToConstant, ToGeneral, FromStorage, IsHeadNumber, IsNotNegative, IsEntryValid, is_active, int_at}
-use Rattle.problem_builder.proofs.Common.{is_constant, cell_count, HasSize, In, In-All, map-In, filter_map-In, In-get_or, Contains-In, passing, rank}
-use Rattle.problem_builder.proofs.Common.{rank_below, at_rank, below_is, not, int_lt, ◌==◌, unsigned_abs, and_parts, Bound, Fixed, Entries, entries_at}
-use Rattle.problem_builder.proofs.Common.{no_entries, TimeStep, passing_are, end_within, IsActive, HasOldHeads, Storage, IsCellNamed, Wide, most_cells}
+use Rattle.problem_builder.proofs.Common.{AreBranches, Branches, cell_over, fixed_over, sources_over, step_over, variable_cells, In-map, whole_cell}
+use Rattle.problem_builder.proofs.Common.{whole_fixed, whole_step, ◌≡◌, ℕ, zero, suc, ◌+◌, ◌<◌, ◌≤◌, ◌⊎◌, inl, inr, Bool, true, false, cond, Option, Some, None}
+use Rattle.problem_builder.proofs.Common.{List, [], ◌∷◌, ◌++◌, map, refl, sym, ap, ◌∙◌, subst, arith, All, ℤ, pos, negsuc, length, filter, filter_map}
+use Rattle.problem_builder.proofs.Common.{range_with_len, Contains, option_to_list, none-some, Entry, FlowModel, is_variable, variable_below, period_at}
+use Rattle.problem_builder.proofs.Common.{FixedSource, constant_faces, fixed_sources, storage_at, as_general, local_entries, ToConstant, ToGeneral, FromStorage}
+use Rattle.problem_builder.proofs.Common.{IsHeadNumber, IsNotNegative, IsEntryValid, is_active, int_at, is_constant, cell_count, HasSize, In, In-All, map-In}
+use Rattle.problem_builder.proofs.Common.{filter_map-In, In-get_or, Contains-In, passing, rank, rank_below, at_rank, below_is, not, int_lt, ◌==◌, unsigned_abs}
+use Rattle.problem_builder.proofs.Common.{and_parts, Bound, Fixed, Entries, entries_at, no_entries, TimeStep, passing_are, end_within, IsActive, HasOldHeads}
+use Rattle.problem_builder.proofs.Common.{Storage, IsCellNamed, Wide, most_cells}
 use Rattle.model_types.specs.declared.entry.Entry.TheVariants.{General as GeneralEntry}
 use Rattle.std.proofs.lemmas.Bool.Decides.{nat_tests}
 
@@ -66,14 +67,19 @@ module _ (m : FlowModel) (p c : ℕ) where
   of_storage true x s e = absurd (none-some x e)
   of_storage false x s e = subst IsFixedSource (some_same e) s
 
-  pub fixed_source : (x : FixedSource) → In (fixed_sources m p c) x → IsFixedSource x
-  fixed_source x i = elim (In-append (option_to_list (storage_at m p) ++ map ToConstant (constant_faces m p c)) (filter_map as_general (local_entries m p c)) x i) [
-    | inl j ↦ (elim (In-append (option_to_list (storage_at m p)) (map ToConstant (constant_faces m p c)) x j) [
-      | inl k ↦ of_storage (period_at m p).steady x refl (In-option (storage_at m p) x k)
+  -- among the sources of a cell, with this source of stored water
+  pub source_among : (o : Option FixedSource) → ((x : FixedSource) → o ≡ Some x → storage_at m p ≡ Some x) → (x : FixedSource) →
+      In (option_to_list o ++ map ToConstant (constant_faces m p c) ++ filter_map as_general (local_entries m p c)) x → IsFixedSource x
+  source_among o stored x i = elim (In-append (option_to_list o ++ map ToConstant (constant_faces m p c)) (filter_map as_general (local_entries m p c)) x i) [
+    | inl j ↦ (elim (In-append (option_to_list o) (map ToConstant (constant_faces m p c)) x j) [
+      | inl k ↦ of_storage (period_at m p).steady x refl (stored x (In-option o x k))
       | inr k ↦ (let (f, l, e) = map-In ToConstant (constant_faces m p c) x k in subst IsFixedSource e l)
     ])
     | inr j ↦ (let (y, k, e) = filter_map-In as_general (local_entries m p c) x j in of_general y x k e)
   ]
+
+  pub fixed_source : (x : FixedSource) → In (fixed_sources m p c) x → IsFixedSource x
+  fixed_source = source_among (storage_at m p) (λ x e. e)
 
 -- A variable cell is active, and a constant one.
 positive_active : (z : ℤ) → int_lt (pos 0) z ≡ true → not (unsigned_abs z == 0) ≡ true
@@ -91,21 +97,27 @@ constant_active m p c e = (and_parts (is_active m c) _ e).0
 pub In-Contains : {X : Type 0} (xs : List X) (x : X) → Contains xs x → In xs x
 In-Contains xs x (k, lt, e) = subst (In xs) e (In-get_or xs k x lt)
 
-module _ (m : FlowModel) (s : ℕ) (at : TimeStep) (old : List Bound) (size : HasSize m.grid) where
+module _ (m : FlowModel) (s : ℕ) (at : TimeStep) (old : List Bound) (b : Branches) (are : AreBranches m at b) (size : HasSize m.grid) where
   abbrev es : List Entries
-  es = whole_step m s at old
+  es = step_over m s at old b
+
+  abbrev cell : ℕ → Entries
+  cell = cell_over m s at old b
+
+  abbrev sources : ℕ → List FixedSource
+  sources = sources_over m s at old b
 
   -- the cell of an index is a variable cell
-  cell_at : (k : ℕ) → k < length es → (c : ℕ) × (is_variable m at.period c ≡ true) × (c < cell_count m.grid) × (whole_cell m s at old c ≡ entries_at es k)
+  cell_at : (k : ℕ) → k < length es → (c : ℕ) × (is_variable m at.period c ≡ true) × (c < cell_count m.grid) × (cell c ≡ entries_at es k)
   cell_at k lt =
-      let (c, i, e) = map-In (whole_cell m s at old) (variable_cells m at.period) (entries_at es k) (In-get_or es k no_entries lt) in
+      let (c, i, e) = map-In cell (variable_cells m at.period) (entries_at es k) (In-get_or es k no_entries lt) in
       let (v, r) = variable-In m at.period (cell_count m.grid) c i in
       (c, v, r, e)
 
-  source_active : (c : ℕ) → is_variable m at.period c ≡ true → c < cell_count m.grid → (y : FixedSource) → In (fixed_sources m at.period c) y → IsActive m (whole_fixed m s at old c y).source
+  source_active : (c : ℕ) → is_variable m at.period c ≡ true → c < cell_count m.grid → (y : FixedSource) → In (sources c) y → IsActive m (fixed_over m s at old b c y).source
   source_active c v lt (ToConstant f) i =
-      let (g, b) = passing_are m.grid (is_constant m at.period) c f (fixed_source m at.period c (ToConstant f) i) in
-      record { within = end_within m.grid c f size lt g; active = constant_active m at.period f.end b }
+      let (g, k) = passing_are m.grid (is_constant m at.period) c f (source_among m at.period c b.stored are.stored (ToConstant f) i) in
+      record { within = end_within m.grid c f size lt g; active = constant_active m at.period f.end k }
   source_active c v lt (ToGeneral head cond) i = record { within = lt; active = variable_active m at.period c v }
   source_active c v lt FromStorage i = record { within = lt; active = variable_active m at.period c v }
 
@@ -115,26 +127,29 @@ module _ (m : FlowModel) (s : ℕ) (at : TimeStep) (old : List Bound) (size : Ha
       subst (IsActive m) (sym (e ∙ sym (ap (λ (z : Entries). z.id) is))) (record { within = r; active = variable_active m at.period d v })
   cells_active c (k, lt, inr (x, has, e)) =
       let (d, v, r, is) = cell_at k lt in
-      let among : In (whole_cell m s at old d).fixed x = subst (λ (z : Entries). In z.fixed x) (sym is) (In-Contains (entries_at es k).fixed x has) in
-      let (y, i, q) = map-In (whole_fixed m s at old d) (fixed_sources m at.period d) x among in
+      let among : In (cell d).fixed x = subst (λ (z : Entries). In z.fixed x) (sym is) (In-Contains (entries_at es k).fixed x has) in
+      let (y, i, q) = map-In (fixed_over m s at old b d) (sources d) x among in
       subst (IsActive m) (sym (e ∙ sym (ap (λ (z : Fixed). z.source) q))) (source_active d v r y i)
 
+  pub named_active : (p : List Entries) → p ≡ es → (c : ℕ) → IsCellNamed p c → IsActive m c
+  named_active p e c named = cells_active c (subst (λ (q : List Entries). IsCellNamed q c) e named)
+
+-- a confined model has these branches
+module _ (m : FlowModel) (s : ℕ) (at : TimeStep) (old : List Bound) where
   storage_among : (c : ℕ) → (period_at m at.period).steady ≡ false → In (fixed_sources m at.period c) FromStorage
   storage_among c e =
       let P : Bool → Type 0 = λ b. In (option_to_list (cond b None (Some FromStorage)) ++ map ToConstant (constant_faces m at.period c) ++ filter_map as_general
       (local_entries m at.period c)) FromStorage in
       subst P (sym e) (inl refl)
 
-  cells_stored : (period_at m at.period).steady ≡ false → HasOldHeads es
+  cells_stored : (period_at m at.period).steady ≡ false → HasOldHeads (whole_step m s at old)
   cells_stored steady k lt =
-      let (c, v, r, is) = cell_at k lt in
+      let es = whole_step m s at old in
+      let (c, i, is) = map-In (whole_cell m s at old) (variable_cells m at.period) (entries_at es k) (In-get_or es k no_entries lt) in
       let sources = fixed_sources m at.period c in
       let F = whole_fixed m s at old c in
       let P : Entries → Type 0 = λ z. (x : Fixed) × Contains z.fixed x × (x.kind ≡ Storage) × (x.source ≡ z.id) in
       subst P is (F FromStorage, Contains-In (map F sources) (F FromStorage) (In-map F sources FromStorage (storage_among c steady)), refl, refl)
 
-  pub named_active : (p : List Entries) → p ≡ es → (c : ℕ) → IsCellNamed p c → IsActive m c
-  named_active p e c named = cells_active c (subst (λ (q : List Entries). IsCellNamed q c) e named)
-
-  pub old_heads : (p : List Entries) → p ≡ es → (period_at m at.period).steady ≡ false → HasOldHeads p
+  pub old_heads : (p : List Entries) → p ≡ whole_step m s at old → (period_at m at.period).steady ≡ false → HasOldHeads p
   old_heads p e steady = subst HasOldHeads (sym e) (cells_stored steady)

@@ -1,14 +1,16 @@
 -- The cells of a step are a problem.
-use Rattle.problem_builder.proofs.Common.{[], index_of, map, CellFits, In-get_or, filter_map, get_or-map, length-map, map-In, In-map, refusal_of, whole_cell}
-use Rattle.problem_builder.proofs.Common.{whole_link, ◌≡◌, ℕ, ◌<◌, inl, inr, Bool, true, List, length, get_or, sym, ap, ◌∙◌, subst, arith, Contains}
-use Rattle.problem_builder.proofs.Common.{cases_order, Bound, Link, Entries, entries_at, no_entries, no_link, LinksFit, IsProblem, Face, FlowModel, TimeStep}
-use Rattle.problem_builder.proofs.Common.{cell_count, is_variable, variable_faces, IsModel, In, Contains-In, All-In, Ordered, Ordered-at, IsFaceOf, passing_are}
-use Rattle.problem_builder.proofs.Common.{passing_have, end_within, end_other, face_back, turned, ends_ascend, few_faces, passing, rank, rank_below, rank_apart}
-use Rattle.problem_builder.proofs.Common.{at_rank, is_at, IsAt, rank_few, below_is, index_is, AreGridHeads, IsTimeOf, AreCells, Ordered-map}
-use Rattle.problem_builder.proofs.CellFits.{cell_fits}
+use Rattle.problem_builder.proofs.Common.{[], index_of, map, CellFits, In-get_or, filter_map, get_or-map, length-map, map-In, In-map, refusal_of, AreBranches}
+use Rattle.problem_builder.proofs.Common.{AreCellsOver, Branches, cell_over, link_over, model_branches, ◌≡◌, ℕ, ◌<◌, inl, inr, Bool, true, List, length, get_or}
+use Rattle.problem_builder.proofs.Common.{sym, ap, ◌∙◌, subst, arith, Contains, cases_order, Bound, Link, Entries, entries_at, no_entries, no_link, LinksFit}
+use Rattle.problem_builder.proofs.Common.{IsProblem, Face, FlowModel, TimeStep, cell_count, is_variable, variable_faces, IsModel, In, Contains-In, All-In}
+use Rattle.problem_builder.proofs.Common.{Ordered, Ordered-at, IsFaceOf, passing_are, passing_have, end_within, end_other, face_back, turned, ends_ascend}
+use Rattle.problem_builder.proofs.Common.{few_faces, passing, rank, rank_below, rank_apart, at_rank, is_at, IsAt, rank_few, below_is, index_is, AreGridHeads}
+use Rattle.problem_builder.proofs.Common.{IsTimeOf, AreCells, Ordered-map}
+use Rattle.problem_builder.proofs.CellFits.{cell_fits, model_has_branches}
 use Rattle.problem_builder.proofs.Sound.{no_refusal_is_no_fault}
 
-module _ (m : FlowModel) (s : ℕ) (at : TimeStep) (old : List Bound) (valid : IsModel m) (time : IsTimeOf m at) (grid : AreGridHeads m old) where
+module _ (m : FlowModel) (s : ℕ) (at : TimeStep) (old : List Bound) (b : Branches) (sound_branches : AreBranches m at b) (valid : IsModel m)
+    (time : IsTimeOf m at) (grid : AreGridHeads m old) where
   abbrev test : ℕ → Bool
   test = is_variable m at.period
 
@@ -20,10 +22,10 @@ module _ (m : FlowModel) (s : ℕ) (at : TimeStep) (old : List Bound) (valid : I
   number i = get_or numbers i 0
 
   abbrev cell : ℕ → Entries
-  cell = whole_cell m s at old
+  cell = cell_over m s at old b
 
   abbrev link : Face → Link
-  link = whole_link m s at old
+  link = link_over m s at old b
 
   abbrev es : List Entries
   es = map cell numbers
@@ -46,13 +48,13 @@ module _ (m : FlowModel) (s : ℕ) (at : TimeStep) (old : List Bound) (valid : I
   ascending : (c d : ℕ) → c < d → d < length es → (entries_at es c).id < (entries_at es d).id
   ascending c d lt within =
       let a = place c (omega (arith, lt, within)) in
-      let b = place d within in
+      let z = place d within in
       let x : (entries_at es c).id ≡ number c = ap (λ (e : Entries). e.id) (cell_is c (omega (arith, lt, within))) in
       let y : (entries_at es d).id ≡ number d = ap (λ (e : Entries). e.id) (cell_is d within) in
       elim (cases_order (number c) (number d)) [
-        | inl same ↦ absurd (omega (arith, lt, a.index, b.index, (let e : rank test (number c) ≡ rank test (number d) = ap (rank test) same in e)))
+        | inl same ↦ absurd (omega (arith, lt, a.index, z.index, (let e : rank test (number c) ≡ rank test (number d) = ap (rank test) same in e)))
         | inr (inl less) ↦ omega (arith, x, y, less)
-        | inr (inr more) ↦ absurd (omega (arith, lt, a.index, b.index, rank_below test (number d) (number c) b.passes more))
+        | inr (inr more) ↦ absurd (omega (arith, lt, a.index, z.index, rank_below test (number d) (number c) z.passes more))
       ]
 
   module _ (i : ℕ) (lt : i < length es) where
@@ -117,11 +119,16 @@ module _ (m : FlowModel) (s : ℕ) (at : TimeStep) (old : List Bound) (valid : I
     ascending = ascending;
     cells = (λ i lt. let k = place i lt in
         let none = no_refusal_is_no_fault es sound (cell (number i)) (subst (In es) (cell_is i lt) (In-get_or es i no_entries lt)) in
-        subst CellFits (sym (cell_is i lt)) (cell_fits m s at old valid time grid (number i) k.within k.passes none));
+        subst CellFits (sym (cell_is i lt)) (cell_fits m s at old b sound_branches valid time grid (number i) k.within k.passes none));
     links = (λ i lt. subst (λ (e : Entries). LinksFit es i e.links) (sym (cell_is i lt)) (links_fit i lt));
   }
 
-  pub is_problem : (p : List Entries) → AreCells m s at old (cell_count m.grid) p → IsProblem p
-  is_problem p are =
+  pub is_problem_over : (p : List Entries) → AreCellsOver m s at old b (cell_count m.grid) p → IsProblem p
+  is_problem_over p are =
       let e : p ≡ es = are.each ∙ ap (map cell) (below_is m at.period (cell_count m.grid)) in
       subst IsProblem (sym e) (cells_fit (ap (filter_map refusal_of) (sym e) ∙ are.sound))
+
+-- of a confined model
+pub is_problem : (m : FlowModel) (s : ℕ) (at : TimeStep) (old : List Bound) → IsModel m → IsTimeOf m at → AreGridHeads m old → (p : List Entries) →
+    AreCells m s at old (cell_count m.grid) p → IsProblem p
+is_problem m s at old valid = is_problem_over m s at old (model_branches m s at) (model_has_branches m s at valid) valid

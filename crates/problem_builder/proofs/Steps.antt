@@ -1,18 +1,18 @@
 -- The loop over the cells of the grid, a step at a time.
 use Rattle.problem_builder.proofs.Common.{zero, Option, In, filter_map-In, none-some, option_map, HasNoProblem, fault_of, Cell, Low, Some, cases_order}
-use Rattle.problem_builder.proofs.Common.{cons_option, filter_map, filter_map-append, inl, inr, map, refl, Err, IsBuildFault, IsProblemOf, Ok, Result}
-use Rattle.problem_builder.proofs.Common.{problem_of, refusal_of, unless_refused, whole_cell, whole_step, ◌≡◌, ℕ, suc, ◌+◌, ◌<◌, Bool, true, false, None, List}
-use Rattle.problem_builder.proofs.Common.{[], ◌∷◌, ◌++◌, sym, ap, ◌∙◌, arith, Bound, Entries, FlowModel, TimeStep, cell_count, is_variable, variable_below}
-use Rattle.problem_builder.proofs.Common.{passes_next, fails_next, below_is, AreCells, IsCellFault, map-append, NoBound}
-use Rattle.step_problem.specs.declared.refusal.BoundFault.{BoundFault}
-use Rattle.step_problem.specs.declared.refusal.BoundFault.TheVariants.{NoBound as Refused, Memory}
+use Rattle.problem_builder.proofs.Common.{cons_option, filter_map, filter_map-append, inl, inr, map, refl, Err, IsProblemOf, Ok, Result, AreCellsOver, Branches}
+use Rattle.problem_builder.proofs.Common.{IsFaultOver, IsProblemOver, cell_over, model_branches, step_over, problem_of, refusal_of, unless_refused, whole_step}
+use Rattle.problem_builder.proofs.Common.{◌≡◌, ℕ, suc, ◌+◌, ◌<◌, Bool, true, false, None, List, [], ◌∷◌, ◌++◌, sym, ap, ◌∙◌, arith, Bound, Entries, FlowModel}
+use Rattle.problem_builder.proofs.Common.{TimeStep, cell_count, is_variable, variable_below, passes_next, fails_next, below_is, AreCells, IsCellFault}
+use Rattle.problem_builder.proofs.Common.{map-append, NoBound, BoundFault, Memory}
+use Rattle.step_problem.specs.declared.refusal.BoundFault.TheVariants.{NoBound as Refused}
 
-module _ (m : FlowModel) (s : ℕ) (at : TimeStep) (old : List Bound) where
+module _ (m : FlowModel) (s : ℕ) (at : TimeStep) (old : List Bound) (b : Branches) where
   abbrev cell : ℕ → Entries
-  cell = whole_cell m s at old
+  cell = cell_over m s at old b
 
   abbrev Are : ℕ → List Entries → Type 0
-  Are = AreCells m s at old
+  Are = AreCellsOver m s at old b
 
   abbrev test : ℕ → Bool
   test = is_variable m at.period
@@ -43,9 +43,8 @@ module _ (m : FlowModel) (s : ℕ) (at : TimeStep) (old : List Bound) where
   next_none c es v are = record { each = are.each ∙ sym (ap (map cell) (ap below (next c) ∙ below_same c v)); sound = are.sound }
 
   -- All cells are the problem, and the refusal of a cell after cells that have none is the first one.
-  pub all_cells : (p : List Entries) → Are (cell_count m.grid) p → IsProblemOf m s at old p
-  unfolding problem_of
-  all_cells p are = (λ t. unless_refused ((ap (filter_map refusal_of) (sym are.each) ∙ are.sound) t) (whole_step m s at old)) ∙ ap Ok (sym are.each)
+  pub all_cells : (p : List Entries) → Are (cell_count m.grid) p → IsProblemOver m s at old b p
+  all_cells p are = (λ t. unless_refused ((ap (filter_map refusal_of) (sym are.each) ∙ are.sound) t) (step_over m s at old b)) ∙ ap Ok (sym are.each)
 
   refused_first : (c : ℕ) (fault : NoBound) → test c ≡ true → refusal_of (cell c) ≡ Some fault → filter_map refusal_of (map cell (below c)) ≡ [] → (n : ℕ) →
       c < n → (ns : List NoBound) × (filter_map refusal_of (map cell (below n)) ≡ fault ∷ ns)
@@ -63,17 +62,16 @@ module _ (m : FlowModel) (s : ℕ) (at : TimeStep) (old : List Bound) where
       added : (k : ℕ) → test k ≡ true → filter_map refusal_of (map cell (below (suc k))) ≡ filter_map refusal_of (map cell (below k)) ++ cons_option (refusal_of (cell k)) []
       added k v = ap (filter_map refusal_of) (ap (map cell) (below_more k v) ∙ map-append cell (below k) (k ∷ [])) ∙ filter_map-append refusal_of (map cell (below k)) (cell k ∷ [])
 
-      further : (k : ℕ) (ns : List NoBound) → filter_map refusal_of (map cell (below k)) ≡ fault ∷ ns → (b : Bool) → test k ≡ b → (more : List NoBound) ×
+      further : (k : ℕ) (ns : List NoBound) → filter_map refusal_of (map cell (below k)) ≡ fault ∷ ns → (passes : Bool) → test k ≡ passes → (more : List NoBound) ×
           (filter_map refusal_of (map cell (below (suc k))) ≡ fault ∷ more)
       further k ns e true v = (ns ++ cons_option (refusal_of (cell k)) [], added k v ∙ ap (λ xs. xs ++ cons_option (refusal_of (cell k)) []) e)
       further k ns e false v = (ns, ap (λ xs. filter_map refusal_of (map cell xs)) (below_same k v) ∙ e)
 
-  pub first_fault : (c : ℕ) (es : List Entries) (fault : BoundFault) → c < cell_count m.grid → test c ≡ true → IsCellFault (cell c) fault → Are c es → IsBuildFault m s at old fault
-  unfolding problem_of
+  pub first_fault : (c : ℕ) (es : List Entries) (fault : BoundFault) → c < cell_count m.grid → test c ≡ true → IsCellFault (cell c) fault → Are c es → IsFaultOver m s at old b fault
   first_fault c es Memory lt v k are = tt
   first_fault c es (Refused fault) lt v k are =
       let (ns, e) = refused_first c fault v k (ap (filter_map refusal_of) (sym are.each) ∙ are.sound) (cell_count m.grid) lt in
-      ap (λ xs. unless_refused xs (whole_step m s at old)) e
+      ap (λ xs. unless_refused xs (step_over m s at old b)) e
 
 -- a problem is all cells, and none has a refusal
 abbrev value_or : List Entries → Result (List Entries) NoBound → List Entries
@@ -84,11 +82,15 @@ pub unless_parts : (ns : List NoBound) (es p : List Entries) → unless_refused 
 unless_parts [] es p e = (sym (ap (value_or []) e), refl)
 unless_parts (n ∷ ns) es p e = absurd cc
 
+pub cells_over : (m : FlowModel) (s : ℕ) (at : TimeStep) (old : List Bound) (b : Branches) (p : List Entries) → IsProblemOver m s at old b p →
+    AreCellsOver m s at old b (cell_count m.grid) p
+cells_over m s at old b p e =
+    let (is, none) = unless_parts (filter_map refusal_of (step_over m s at old b)) (step_over m s at old b) p e in
+    record { each = is; sound = ap (filter_map refusal_of) is ∙ none }
+
 pub cells_of : (m : FlowModel) (s : ℕ) (at : TimeStep) (old : List Bound) (p : List Entries) → IsProblemOf m s at old p → AreCells m s at old (cell_count m.grid) p
 unfolding problem_of
-cells_of m s at old p e =
-    let (is, none) = unless_parts (filter_map refusal_of (whole_step m s at old)) (whole_step m s at old) p e in
-    record { each = is; sound = ap (filter_map refusal_of) is ∙ none }
+cells_of m s at old = cells_over m s at old (model_branches m s at)
 
 -- A result is one problem or one refusal.
 pub same_problem : {r : Result (List Entries) NoBound} {p q : List Entries} → r ≡ Ok p → r ≡ Ok q → p ≡ q

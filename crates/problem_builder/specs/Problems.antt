@@ -10,21 +10,21 @@ use Rattle.step_problem.specs.declared.place.Place.TheVariants.{Cell}
 use Rattle.step_problem.specs.Entries.{Entries}
 use Rattle.model_types.specs.declared.model.FlowModel.{FlowModel}
 use Rattle.model_types.specs.declared.time_steps.TimeStep.{TimeStep}
-use Rattle.model_types.specs.{cell_count, is_variable, variable_cells, period_at, is_active}
+use Rattle.model_types.specs.declared.grid.Grid.{Grid}
+use Rattle.model_types.specs.{cell_count, is_variable, variable_cells, period_at}
 use Rattle.decimal_input.specs.{Fraction}
 use Rattle.cell_balance.specs.{EnclosesStep}
 use Rattle.flow_equations.specs.{exact_step}
 use Rattle.step_problem.specs.declared.refusal.BoundFault.{BoundFault}
 use Rattle.step_problem.specs.declared.refusal.BoundFault.TheVariants.{NoBound as Refused, Memory}
-use Rattle.problem_builder.specs.Widths.{face_pair}
-use Rattle.problem_builder.specs.Cells.{whole_cell, whole_below, whole_step}
+use Rattle.problem_builder.specs.Cells.{Branches, below_over, cell_over, model_branches, step_over}
 use Rattle.problem_builder.specs.GridHeads.{HeadsEnclose, IsActive, IsCellNamed, HasOldHeads}
 use Rattle.step_problem.specs.declared.entry.FixedKind.{FixedKind}
 use Rattle.step_problem.specs.declared.entry.FixedKind.TheVariants.{Constant, General, Storage}
 use Rattle.step_problem.specs.declared.refusal.StepRefusal.TheVariants.{ConductanceTooSmall, ConductanceTooLarge, FlowTooLarge}
 use Rattle.step_problem.specs.{number_of, conductance_of, flow_magnitude}
 use Rattle.model_types.specs.declared.face.Face.{Face}
-use Rattle.problem_builder.specs.Tables.{Inputs, pair_at}
+use Rattle.problem_builder.specs.Tables.{Inputs, branches_of}
 
 -- The refusals of a cell, in their order.
 -- a branch to a constant-head neighbour
@@ -53,11 +53,28 @@ abbrev pub unless_refused : List NoBound → List Entries → Result (List Entri
 unless_refused [] es = Ok es
 unless_refused (n ∷ ns) es = Err n
 
+module _ (m : FlowModel) (s : ℕ) (at : TimeStep) (old : List Bound) (b : Branches) where
+  -- The problem of a time step over these branches: all variable cells, by ascending number; or the refusal of the first cell that has one.
+  abbrev pub problem_over : Result (List Entries) NoBound
+  problem_over = unless_refused (filter_map refusal_of (step_over m s at old b)) (step_over m s at old b)
+
+  abbrev pub IsProblemOver : List Entries → Type 0
+  IsProblemOver p = problem_over ≡ Ok p
+
+  -- lack of memory is possible at any time
+  abbrev pub IsFaultOver : BoundFault → Type 0
+  IsFaultOver (Refused fault) = problem_over ≡ Err fault
+  IsFaultOver Memory = Unit {0}
+
+  -- the variable cells below cell n, none of which has a refusal
+  pub record AreCellsOver (n : ℕ) (es : List Entries) : Type 0 where
+    pub each : es ≡ below_over m s at old b n
+    pub sound : filter_map refusal_of es ≡ []
+
 module _ (m : FlowModel) (s : ℕ) (at : TimeStep) (old : List Bound) where
-  -- The problem of a model's time step with s digits, from the heads `old` before it: all variable cells, by ascending number;
-  -- or the refusal of the first cell that has one.
+  -- The problem of a confined model's time step with s digits, from the heads `old` before it.
   unfoldable pub problem_of : Result (List Entries) NoBound
-  problem_of = unless_refused (filter_map refusal_of (whole_step m s at old)) (whole_step m s at old)
+  problem_of = problem_over m s at old (model_branches m s at)
 
   abbrev pub IsProblemOf : List Entries → Type 0
   IsProblemOf p = problem_of ≡ Ok p
@@ -79,10 +96,8 @@ module _ (m : FlowModel) (s : ℕ) (at : TimeStep) (old : List Bound) where
   IsBuildFault (Refused fault) = HasNoProblem fault
   IsBuildFault Memory = Unit {0}
 
-  -- the variable cells below cell n, none of which has a refusal
-  pub record AreCells (n : ℕ) (es : List Entries) : Type 0 where
-    pub each : es ≡ whole_below m s at old n
-    pub sound : filter_map refusal_of es ≡ []
+  abbrev pub AreCells : ℕ → List Entries → Type 0
+  AreCells = AreCellsOver m s at old (model_branches m s at)
 
 -- Facts that the functions of the builder pass to each other on the way to a cell.
 -- a cell of the grid that is variable
@@ -90,15 +105,9 @@ pub record IsVariableCell (i : Inputs) (c : ℕ) : Type 0 where
   pub within : c < cell_count i.model.grid
   pub variable : is_variable i.model i.at.period c ≡ true
 
--- a face, if there is one, lies in the grid, and the table has its conductance if the neighbour is active
-abbrev pub HasPair : Inputs → Option Face → Type 0
-HasPair i x =
-    IfSome x (λ f. (f.first < cell_count i.model.grid) × (f.end < cell_count i.model.grid)
-    × (is_active i.model f.end ≡ true → pair_at i.tables f.axis f.first ≡ face_pair i.model i.tables.digits f.axis f.first))
-
 -- a cell without a refusal, and the refusal of a cell
 pub record IsCheckedCell (i : Inputs) (c : ℕ) (e : Entries) : Type 0 where
-  pub is : e ≡ whole_cell i.model i.tables.digits i.at i.old c
+  pub is : e ≡ cell_over i.model i.tables.digits i.at i.old (branches_of i) c
   pub sound : refusal_of e ≡ None
 
 abbrev pub IsCellFault : Entries → BoundFault → Type 0

@@ -1,5 +1,5 @@
 -- The contents of the builder's tables.
-use Rattle.std.specs.Prelude.{◌≡◌, ℕ, ◌≤◌, pos, List, length, slice_index_or, Option, Some, None, ◌-◌, true}
+use Rattle.std.specs.Prelude.{◌≡◌, ℕ, ◌≤◌, pos, Bool, cond, List, length, slice_index_or, Option, Some, None, ◌-◌, true}
 use Rattle.step_problem.specs.declared.heads.Bound.{Bound}
 use Rattle.step_problem.specs.{no_bound}
 use Rattle.scaled_decimal.specs.declared.decimal.Sd.{Sd}
@@ -8,9 +8,10 @@ use Rattle.model_types.specs.declared.face.Axis.TheVariants.{Row, Column, Vertic
 use Rattle.model_types.specs.declared.given_heads.Kind.TheVariants.{NoFlow}
 use Rattle.model_types.specs.declared.model.FlowModel.{FlowModel}
 use Rattle.model_types.specs.declared.time_steps.TimeStep.{TimeStep}
-use Rattle.model_types.specs.{cell_count, HasSize, period_at, local_entries, IsModel, kind_of, index_of, given_in, is_active, recharge_at, evap_at}
+use Rattle.model_types.specs.{cell_count, HasSize, period_at, local_entries, IsModel, kind_of, index_of, given_in, is_active, recharge_at, evap_at, storage_at}
 use Rattle.conductance_bounds.specs.declared.span.Span.{Span}
 use Rattle.conductance_bounds.specs.declared.pair.Pair.{Pair}
+use Rattle.problem_builder.specs.declared.tables.FacePairs.{FacePairs}
 use Rattle.problem_builder.specs.declared.tables.Tables.{Tables}
 use Rattle.problem_builder.specs.declared.index.PeriodTables.{PeriodTables}
 use Rattle.problem_builder.specs.declared.step.StepTables.{StepTables}
@@ -22,7 +23,8 @@ use Rattle.step_problem.specs.declared.entry.Evap.{Evap}
 use Rattle.conductance_bounds.specs.declared.pair.FlowPair.{FlowPair}
 use Rattle.model_types.specs.declared.entry.Given.{Given}
 use Rattle.model_types.specs.declared.given_heads.Kind.{Kind}
-use Rattle.problem_builder.specs.Cells.{whole_evap}
+use Rattle.problem_builder.specs.Cells.{AreBranches, Branches, whole_evap}
+use Rattle.model_types.specs.declared.grid.Grid.{Grid}
 
 -- The contents of the tables of a stress period, cell by cell.
 abbrev pub IsKind : FlowModel → ℕ → ℕ → Kind → Type 0
@@ -71,18 +73,28 @@ item_in xs c = slice_index_or xs c None
 
 -- The tables of a run: thicknesses, and the conductances of the faces by their first cells.
 
-abbrev pub pair_at : Tables → Axis → ℕ → Pair
+abbrev pub pair_at : FacePairs → Axis → ℕ → Pair
 pair_at t Row c = pair_in t.row c
 pair_at t Column c = pair_in t.column c
 pair_at t Vertical c = pair_in t.vertical c
+
+-- a pair for each cell along each axis
+pub record HasPairs (g : Grid) (t : FacePairs) : Type 0 where
+  pub row : length t.row ≡ cell_count g
+  pub column : length t.column ≡ cell_count g
+  pub vertical : length t.vertical ≡ cell_count g
+
+-- branches over these pairs, without storage
+abbrev pub branches_over : FacePairs → Branches
+branches_over t = record { pair = pair_at t; stored = None }
 
 pub record AreTables (m : FlowModel) (s : ℕ) (t : Tables) : Type 0 where
   pub digits : t.digits ≡ s
   pub thick : Filled (IsThickness m) no_span (cell_count m.grid) t.thick
   pub bed : Filled (IsBedBelow m) no_span (cell_count m.grid) t.bed
-  pub row : Filled (HasConductance m s Row) no_pair (cell_count m.grid) t.row
-  pub column : Filled (HasConductance m s Column) no_pair (cell_count m.grid) t.column
-  pub vertical : Filled (HasConductance m s Vertical) no_pair (cell_count m.grid) t.vertical
+  pub row : Filled (HasConductance m s Row) no_pair (cell_count m.grid) t.pairs.row
+  pub column : Filled (HasConductance m s Column) no_pair (cell_count m.grid) t.pairs.column
+  pub vertical : Filled (HasConductance m s Vertical) no_pair (cell_count m.grid) t.pairs.vertical
 
 -- The tables of a stress period: kinds and indices, given and kept heads, and for each cell the bounds of its entries, of its
 -- recharge and of its evapotranspiration.
@@ -111,14 +123,19 @@ pub record AreStepTables (m : FlowModel) (at : TimeStep) (t : StepTables) : Type
   pub factors : AreFactorsOf m at t.factors
   pub heads : AreConstantHeads m at t.heads
 
--- The data from which a step's cells are made.
+-- The data from which a step's cells are made. Where `stored` is false, storage is left out.
 pub record Inputs : Type 0 where
   pub model : FlowModel
   pub tables : Tables
+  pub pairs : FacePairs
+  pub stored : Bool
   pub period : PeriodTables
   pub step : StepTables
   pub at : TimeStep
   pub old : List Bound
+
+abbrev pub branches_of : Inputs → Branches
+branches_of i = record { pair = pair_at i.pairs; stored = cond i.stored (storage_at i.model i.at.period) None }
 
 pub record AreInputs (i : Inputs) : Type 0 where
   pub model : IsModel i.model
@@ -126,6 +143,8 @@ pub record AreInputs (i : Inputs) : Type 0 where
   pub size : HasSize i.model.grid
   pub digits : i.tables.digits ≤ 18
   pub tables : AreTables i.model i.tables.digits i.tables
+  pub pairs : HasPairs i.model.grid i.pairs
+  pub branches : AreBranches i.model i.at (branches_of i)
   pub period : ArePeriodTables i.model i.tables.digits i.at.period i.period
   pub storage : AreEvenStorages i.model i.tables.digits i.at.period i.period.storage
   pub step : AreStepTables i.model i.at i.step

@@ -1,7 +1,7 @@
 // The branches of a cell to its neighbours.
 ghost use Rattle.std.specs.Prelude.{◌≡◌, ◌<◌, IfOk, ◌++◌, map};
-ghost use Rattle.model_types.specs.{cell_count, through, is_variable, is_constant, variable_faces, constant_faces};
-ghost use Rattle.problem_builder.specs.{whole_link, whole_constant, IsVariableCell, HasPair, AreInputs, pair_at};
+ghost use Rattle.model_types.specs.{IsInGrid, cell_count, through, is_variable, is_constant, variable_faces, constant_faces};
+ghost use Rattle.problem_builder.specs.{link_over, constant_over, IsVariableCell, AreInputs, branches_of, pair_at};
 ghost use Rattle.std.specs.Option.{option_map, option_to_list};
 
 use crate::input::StepInput;
@@ -14,21 +14,21 @@ use step_problem::{Bound, Fixed, FixedKind, Flow, FlowKind, Link};
 fn face_pair(input: &StepInput, face: Face) -> Pair
     requires input { AreInputs input.now }
     requires first { face.first < cell_count input.now.model.grid }
-    ensures { result ≡ pair_at input.now.tables face.axis face.first }
+    ensures { result ≡ pair_at input.now.pairs face.axis face.first }
 {
     let place = face.first as usize;
     match face.axis {
-        Axis::Row => input.tables.row.as_slice()[place],
-        Axis::Column => input.tables.column.as_slice()[place],
-        Axis::Vertical => input.tables.vertical.as_slice()[place],
+        Axis::Row => input.pairs.row.as_slice()[place],
+        Axis::Column => input.pairs.column.as_slice()[place],
+        Axis::Vertical => input.pairs.vertical.as_slice()[place],
     }
 }
 
 // The branch through a face whose other end is a variable cell.
 fn link_through(input: &StepInput, face: Option<Face>) -> Option<Link>
     requires input { AreInputs input.now }
-    requires face { HasPair input.now face }
-    ensures { result ≡ option_map (whole_link input.now.model input.now.tables.digits input.now.at input.now.old)
+    requires face { IsInGrid input.now.model.grid face }
+    ensures { result ≡ option_map (link_over input.now.model input.now.tables.digits input.now.at input.now.old (branches_of input.now))
         (through (is_variable input.now.model input.now.at.period) face) }
 {
     match face {
@@ -48,7 +48,7 @@ fn link_through(input: &StepInput, face: Option<Face>) -> Option<Link>
 pub fn links(alloc: Global, input: &StepInput, cell: u32) -> Result<Vec<Link>, AllocError>
     requires input { AreInputs input.now }
     requires cell { IsVariableCell input.now cell }
-    ensures { IfOk result (λ v. v.items ≡ map (whole_link input.now.model input.now.tables.digits input.now.at input.now.old)
+    ensures { IfOk result (λ v. v.items ≡ map (link_over input.now.model input.now.tables.digits input.now.at input.now.old (branches_of input.now))
         (variable_faces input.now.model input.now.at.period cell)) }
 {
     let faces = input.model.grid.faces(cell);
@@ -63,8 +63,8 @@ pub fn links(alloc: Global, input: &StepInput, cell: u32) -> Result<Vec<Link>, A
 // The branch through a face whose other end has a constant head.
 fn constant_through(input: &StepInput, face: Option<Face>) -> Option<Fixed>
     requires input { AreInputs input.now }
-    requires face { HasPair input.now face }
-    ensures { result ≡ option_map (whole_constant input.now.model input.now.tables.digits input.now.at input.now.old)
+    requires face { IsInGrid input.now.model.grid face }
+    ensures { result ≡ option_map (constant_over input.now.model input.now.tables.digits input.now.at input.now.old (branches_of input.now))
         (through (is_constant input.now.model input.now.at.period) face) }
 {
     match face {
@@ -81,7 +81,7 @@ fn constant_through(input: &StepInput, face: Option<Face>) -> Option<Fixed>
 pub fn constants(alloc: Global, input: &StepInput, cell: u32) -> Result<Vec<Fixed>, AllocError>
     requires input { AreInputs input.now }
     requires cell { IsVariableCell input.now cell }
-    ensures { IfOk result (λ v. v.items ≡ map (whole_constant input.now.model input.now.tables.digits input.now.at input.now.old)
+    ensures { IfOk result (λ v. v.items ≡ map (constant_over input.now.model input.now.tables.digits input.now.at input.now.old (branches_of input.now))
         (constant_faces input.now.model input.now.at.period cell)) }
 {
     let faces = input.model.grid.faces(cell);

@@ -1,15 +1,16 @@
 // The problem of a step, cell by cell.
 ghost use Rattle.std.specs.Prelude.{◌≤◌, Contains, IfOk, IfErr};
 ghost use Rattle.model_types.specs.{cell_count, times, IsModel};
-ghost use Rattle.problem_builder.specs.{AreGridHeads, AreCells, IsBuilt, IsBuildFault, IsVariableCell, IsCheckedCell, IsCellFault, AreInputs, whole_cell};
-ghost use Rattle.problem_builder.specs.{AreTables, ArePeriodTables, AreStepTables, AreEvenStorages};
+ghost use Rattle.problem_builder.specs.{AreBranches, AreCellsOver, AreGridHeads, AreInputs, HasPairs, IsBuildFault, IsBuilt, IsCellFault, IsCheckedCell};
+ghost use Rattle.problem_builder.specs.{IsFaultOver, IsProblemOver, IsVariableCell, branches_of, branches_over, cell_over, AreTables, ArePeriodTables};
+ghost use Rattle.problem_builder.specs.{AreStepTables, AreEvenStorages};
 
 use crate::cell::cell;
 use crate::fault::fault;
 use crate::index::PeriodTables;
 use crate::input::StepInput;
 use crate::step::StepTables;
-use crate::tables::Tables;
+use crate::tables::{FacePairs, Tables};
 use model_types::{FlowModel, TimeStep};
 use std::alloc::Global;
 use step_problem::{Bound, BoundFault, Cell, NoBound, Place, Problem, Side};
@@ -19,7 +20,7 @@ fn checked_cell(alloc: Global, input: &StepInput, number: u32) -> Result<Cell, B
     requires input { AreInputs input.now }
     requires cell { IsVariableCell input.now number }
     ensures cell { IfOk result (IsCheckedCell input.now number) }
-    ensures fault { IfErr result (IsCellFault (whole_cell input.now.model input.now.tables.digits input.now.at input.now.old number)) }
+    ensures fault { IfErr result (IsCellFault (cell_over input.now.model input.now.tables.digits input.now.at input.now.old (branches_of input.now) number)) }
 {
     let made = cell(alloc, input, number)?;
     match fault(&made) {
@@ -34,8 +35,9 @@ fn checked_cell(alloc: Global, input: &StepInput, number: u32) -> Result<Cell, B
 // All variable cells, or the first refusal.
 pub(crate) fn cells(alloc: Global, input: &StepInput) -> Result<Vec<Cell>, BoundFault>
     requires { AreInputs input.now }
-    ensures cells { IfOk result (λ v. AreCells input.now.model input.now.tables.digits input.now.at input.now.old (cell_count input.now.model.grid) v.items) }
-    ensures fault { IfErr result (IsBuildFault input.now.model input.now.tables.digits input.now.at input.now.old) }
+    ensures cells { IfOk result (λ v. AreCellsOver input.now.model input.now.tables.digits input.now.at input.now.old (branches_of input.now)
+        (cell_count input.now.model.grid) v.items) }
+    ensures fault { IfErr result (IsFaultOver input.now.model input.now.tables.digits input.now.at input.now.old (branches_of input.now)) }
 {
     let mut cells = Vec::new(alloc);
     let count = input.model.grid.cell_count();
@@ -51,8 +53,8 @@ pub(crate) fn cells(alloc: Global, input: &StepInput) -> Result<Vec<Cell>, Bound
 // The problem of these inputs.
 fn problem_of(alloc: Global, input: &StepInput) -> Result<Problem, BoundFault>
     requires { AreInputs input.now }
-    ensures built { IfOk result (IsBuilt input.now.model input.now.tables.digits input.now.at input.now.old) }
-    ensures refusal { IfErr result (IsBuildFault input.now.model input.now.tables.digits input.now.at input.now.old) }
+    ensures problem { IfOk result (IsProblemOver input.now.model input.now.tables.digits input.now.at input.now.old (branches_of input.now)) }
+    ensures refusal { IfErr result (IsFaultOver input.now.model input.now.tables.digits input.now.at input.now.old (branches_of input.now)) }
 {
     let cells = cells(alloc, input)?;
     Ok(Problem::new(cells))
@@ -83,10 +85,50 @@ pub fn build_with(
     let input = StepInput {
         model,
         tables,
+        pairs: &tables.pairs,
+        stored: true,
         period,
         step,
         at,
         old,
+    };
+    problem_of(alloc, &input)
+}
+
+/// The problem of a time step over these conductances of its faces, without storage, or its first refusal. The tables
+/// are those of the run, of the time's stress period and of the time; the heads have one bound for each cell.
+pub fn build_over(
+    alloc: Global,
+    model: &FlowModel,
+    tables: &Tables,
+    pairs: &FacePairs,
+    period: &PeriodTables,
+    step: &StepTables,
+    at: TimeStep,
+    heads: &[Bound],
+) -> Result<Problem, BoundFault>
+    requires model { IsModel model.now }
+    requires time { Contains (times model.now) at }
+    requires heads { AreGridHeads model.now heads.now }
+    requires digits { tables.now.digits ≤ 18 }
+    requires tables { AreTables model.now tables.now.digits tables.now }
+    requires pairs { HasPairs model.now.grid pairs.now }
+    requires branches { AreBranches model.now at (branches_over pairs.now) }
+    requires period { ArePeriodTables model.now tables.now.digits at.period period.now }
+    requires storage { AreEvenStorages model.now tables.now.digits at.period period.now.storage }
+    requires step { AreStepTables model.now at step.now }
+    ensures problem { IfOk result (IsProblemOver model.now tables.now.digits at heads.now (branches_over pairs.now)) }
+    ensures refusal { IfErr result (IsFaultOver model.now tables.now.digits at heads.now (branches_over pairs.now)) }
+{
+    let input = StepInput {
+        model,
+        tables,
+        pairs,
+        stored: false,
+        period,
+        step,
+        at,
+        old: heads,
     };
     problem_of(alloc, &input)
 }

@@ -1,8 +1,8 @@
 // A cell of a step's problem.
 ghost use Rattle.std.specs.Prelude.{◌≡◌, IfOk, map};
 ghost use Rattle.std.specs.Option.{option_map};
-ghost use Rattle.model_types.specs.{fixed_sources, flow_sources, evap_sources, recharge_at, Received};
-ghost use Rattle.problem_builder.specs.{whole_fixed, whole_flow, whole_evap, whole_cell, IsVariableCell, AreInputs};
+ghost use Rattle.model_types.specs.{flow_sources, evap_sources, recharge_at, Received};
+ghost use Rattle.problem_builder.specs.{fixed_over, sources_over, whole_flow, whole_evap, cell_over, IsVariableCell, AreInputs, branches_of};
 
 use crate::branches::{constant_flow, constants, links, push_some};
 use crate::input::StepInput;
@@ -13,8 +13,9 @@ use step_problem::{Cell, Evap, Fixed, Flow, FlowKind};
 fn fixed_branches(alloc: Global, input: &StepInput, cell: u32) -> Result<Vec<Fixed>, AllocError>
     requires input { AreInputs input.now }
     requires cell { IsVariableCell input.now cell }
-    ensures { IfOk result (λ v. v.items ≡ map (whole_fixed input.now.model input.now.tables.digits input.now.at input.now.old cell)
-        (fixed_sources input.now.model input.now.at.period cell)) }
+    ensures { IfOk result (λ v. v.items ≡ map
+        (fixed_over input.now.model input.now.tables.digits input.now.at input.now.old (branches_of input.now) cell)
+        (sources_over input.now.model input.now.tables.digits input.now.at input.now.old (branches_of input.now) cell)) }
 {
     let stored = stored_branch(input, cell);
     let constants = constants(alloc, input, cell)?;
@@ -72,7 +73,7 @@ fn evaps(alloc: Global, input: &StepInput, cell: u32) -> Result<Vec<Evap>, Alloc
 pub fn cell(alloc: Global, input: &StepInput, number: u32) -> Result<Cell, AllocError>
     requires input { AreInputs input.now }
     requires cell { IsVariableCell input.now number }
-    ensures { IfOk result (λ e. e ≡ whole_cell input.now.model input.now.tables.digits input.now.at input.now.old number) }
+    ensures { IfOk result (λ e. e ≡ cell_over input.now.model input.now.tables.digits input.now.at input.now.old (branches_of input.now) number) }
 {
     let entries = input.entries(number);
     Ok(Cell {

@@ -139,8 +139,8 @@ fn vertical_pair(model: &FlowModel, thick: &[Span], beds: &[Span], first: u32, s
     capped_pair(vert_branch(&a, &b, &bed, model.delr_at(first), model.delc_at(first), s))
 }
 
-// Whether there is a next cell along the axis, and both are active.
-fn is_branch(model: &FlowModel, axis: Axis, cell: u32) -> bool
+/// Whether there is a next cell along the axis, and both are active.
+pub fn is_branch(model: &FlowModel, axis: Axis, cell: u32) -> bool
     requires size { HasSize model.now.grid }
     requires cell { cell < cell_count model.now.grid }
     ensures branch { IsTrue result → IsBranch model.now axis cell }

@@ -7,16 +7,19 @@ ghost use Rattle.problem_builder.specs.Tables.{AreInputs, bound_at};
 use crate::entries::CellEntries;
 use crate::index::PeriodTables;
 use crate::step::StepTables;
-use crate::tables::Tables;
+use crate::tables::{FacePairs, Tables};
 use model_types::{FlowModel, Kind, TimeStep};
 use std::marker::Model;
 use step_problem::Bound;
 
-/// A model, the tables of its run, of a period and of a step, the step's time, and the heads before it.
+/// A model, the tables of its run, of a period and of a step, the conductances of its faces, the step's time, and
+/// the heads before it. Where `stored` is false, storage is left out.
 #[derive(Drop)]
 pub struct StepInput<'a> {
     pub model: &'a FlowModel,
     pub tables: &'a Tables,
+    pub pairs: &'a FacePairs,
+    pub stored: bool,
     pub period: &'a PeriodTables,
     pub step: &'a StepTables,
     pub at: TimeStep,
@@ -31,6 +34,8 @@ impl<'a> Model for StepInput<'a> {
     ghost view = { λ i. record {
       model = i.model.now;
       tables = i.tables.now;
+      pairs = i.pairs.now;
+      stored = i.stored;
       period = i.period.now;
       step = i.step.now;
       at = i.at;

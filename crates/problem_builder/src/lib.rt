@@ -23,8 +23,8 @@ pub mod storages;
 pub mod stored;
 pub mod tables;
 
-pub use builder::{build, build_with};
+pub use builder::{build, build_over, build_with};
 pub use index::PeriodTables;
 pub use start::start_heads;
 pub use step::StepTables;
-pub use tables::Tables;
+pub use tables::{FacePairs, Tables};

@@ -1,8 +1,7 @@
 // The branch of a cell to its old head.
 ghost use Rattle.std.specs.Prelude.{◌≡◌};
 ghost use Rattle.std.specs.Option.{option_map};
-ghost use Rattle.model_types.specs.{storage_at};
-ghost use Rattle.problem_builder.specs.{whole_fixed, IsVariableCell, HasStorage, AreInputs};
+ghost use Rattle.problem_builder.specs.{fixed_over, IsVariableCell, HasStorage, AreInputs, branches_of};
 
 use crate::branches::known_head;
 use crate::faces::NO_PAIR;
@@ -35,13 +34,16 @@ fn storage(input: &StepInput, cell: u32) -> Pair
     }
 }
 
-/// The branch to the cell's old head, in a transient period.
+/// The branch to the cell's old head, in a transient period, unless storage is left out.
 pub fn stored_branch(input: &StepInput, cell: u32) -> Option<Fixed>
     requires input { AreInputs input.now }
     requires cell { IsVariableCell input.now cell }
-    ensures { result ≡ option_map (whole_fixed input.now.model input.now.tables.digits input.now.at input.now.old cell)
-        (storage_at input.now.model input.now.at.period) }
+    ensures { result ≡ option_map (fixed_over input.now.model input.now.tables.digits input.now.at input.now.old (branches_of input.now) cell)
+        (branches_of input.now).stored }
 {
+    if !input.stored {
+        return None;
+    }
     if input.is_steady() {
         return None;
     }

@@ -9,16 +9,22 @@ use model_types::{Axis, FlowModel, Listed};
 use scaled_decimal::Sd;
 use std::alloc::{AllocError, Global};
 
+/// The conductances of all faces, in units of 10^-s: for each cell the one to the next cell along each axis.
+#[derive(Drop)]
+pub struct FacePairs {
+    pub row: Listed<Pair>,
+    pub column: Listed<Pair>,
+    pub vertical: Listed<Pair>,
+}
+
 /// The data that depend on a model and the number of digits alone, made once a run: for each cell its thickness and
-/// that of the bed below it, and by a face's first cell the conductance through it, in units of 10^-s. A
-/// conductance that reaches 2^60 units is kept as 1 and 2^60.
+/// that of the bed below it, and the conductances of faces. A conductance that reaches 2^60 units is kept as 1 and
+/// 2^60.
 pub struct Tables {
     pub digits: u32,
     pub thick: Listed<Span>,
     pub bed: Listed<Span>,
-    pub row: Listed<Pair>,
-    pub column: Listed<Pair>,
-    pub vertical: Listed<Pair>,
+    pub pairs: FacePairs,
 }
 
 impl Drop for Tables {
@@ -27,9 +33,7 @@ impl Drop for Tables {
             digits: _,
             thick: _,
             bed: _,
-            row: _,
-            column: _,
-            vertical: _,
+            pairs: _,
         } = self;
     }
 }
@@ -52,9 +56,11 @@ impl Tables {
             digits: s,
             thick: Listed::new(thick),
             bed: Listed::new(bed),
-            row: Listed::new(row),
-            column: Listed::new(column),
-            vertical: Listed::new(vertical),
+            pairs: FacePairs {
+                row: Listed::new(row),
+                column: Listed::new(column),
+                vertical: Listed::new(vertical),
+            },
         })
     }
 }

@@ -109,7 +109,7 @@ module _ (m : FlowModel) (w : ConvertibleLayers) (h : ℕ → Fraction) (valid :
     spans : (c : ℕ) → c < cell_count m.grid → is_active m c ≡ true → has_depth m w heads c ≡ true → IsSpanOf m w h c (saturated_span m w heads c)
     spans c lt active deep = span_is m w heads h valid inside c lt active deep
 
-    face : (axis : Axis) (a : ℕ) → IsBranch m axis a → has_depth m w heads a ≡ true → has_depth m w heads (a + stride m.grid axis) ≡ true →
+    pub face : (axis : Axis) (a : ℕ) → IsBranch m axis a → has_depth m w heads a ≡ true → has_depth m w heads (a + stride m.grid axis) ≡ true →
         PairEncloses (face_formula m w heads axis a) s (conductance_at m w h axis a)
     face Row a br deep deep' =
         let b = a + 1 in

@@ -1,19 +1,19 @@
-use Rattle.problem_builder.proofs.Common.{option_map, whole_constant, ap, ◌∙◌, arith, faces, is_constant, through, Inputs, ◌≡◌, length}
-use Rattle.problem_builder.proofs.FacePairs.{face_paired}
+use Rattle.problem_builder.proofs.Common.{option_map, branches_of, constant_over, ap, ◌∙◌, arith, faces, is_constant, through, Inputs, ◌≡◌, length}
+use Rattle.problem_builder.proofs.CellFaces.{face_within}
 use Rattle.problem_builder.proofs.Joined.{push_next, made_all}
 use Rattle.problem_builder.proofs.branches.constants.Goals as goal
 
 pub constant_through-requires-clause-face : goal.constant_through-requires-clause-face
 constant_through-requires-clause-face c =
     let len : length c.faces-faces.result ≡ 6 = ap length c.faces-faces.ensures.faces in
-    face_paired c.args.input.now c.args.cell _ c.loop-face.face-index _ c.requires.input c.requires.cell
+    face_within c.args.input.now.model.grid c.args.cell _ c.loop-face.face-index _ c.requires.input.size c.requires.cell.within
     (c.faces-faces.ensures.faces ∙ ap (λ (z : Inputs). faces z.model.grid c.args.cell) c.input.view_is) (omega (arith, len, c.loop-face-test.true))
 
 pub loop-face-preserved : goal.loop-face-preserved
 loop-face-preserved c =
     let i = c.args.input.now in
     let len : length c.faces-faces.result ≡ 6 = ap length c.faces-faces.ensures.faces in
-    push_next (λ o. option_map (whole_constant i.model i.tables.digits i.at i.old) (through (is_constant i.model i.at.period) o)) c.faces-faces.result
+    push_next (λ o. option_map (constant_over i.model i.tables.digits i.at i.old (branches_of i)) (through (is_constant i.model i.at.period) o)) c.faces-faces.result
     c.loop-face.face-index _ _ _ c.constant_through.result
     (omega (arith, len, c.loop-face-test.true)) c.in_ok-push_some.ensures c.constant_through.ensures c.loop-face.invariant
 
@@ -21,6 +21,6 @@ pub returns : goal.returns
 returns c =
     let i = c.args.input.now in
     let len : length c.faces-faces.result ≡ 6 = ap length c.faces-faces.ensures.faces in
-    made_all (whole_constant i.model i.tables.digits i.at i.old) (through (is_constant i.model i.at.period)) c.faces-faces.result _ c.loop-face.face-index _
+    made_all (constant_over i.model i.tables.digits i.at i.old (branches_of i)) (through (is_constant i.model i.at.period)) c.faces-faces.result _ c.loop-face.face-index _
     (omega (arith, len, c.loop-face-test.false))
     (c.faces-faces.ensures.faces ∙ ap (λ (z : Inputs). faces z.model.grid c.args.cell) c.input.view_is) c.loop-face.invariant

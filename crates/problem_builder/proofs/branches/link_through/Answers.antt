@@ -1,5 +1,4 @@
-use Rattle.problem_builder.proofs.Common.{subst, sym, ◌∙◌, is_variable, HasPair, whole_link}
-use Rattle.problem_builder.proofs.Members.{variable_active}
+use Rattle.problem_builder.proofs.Common.{sym, ◌∙◌, is_variable, branches_of, link_over}
 use Rattle.problem_builder.proofs.Joined.{made_through}
 use Rattle.problem_builder.proofs.branches.link_through.Goals as goal
 
@@ -7,8 +6,8 @@ pub returns-in-Some : goal.returns-in-Some
 returns-in-Some c =
     let i = c.args.input.now in
     let f = c.in-Some.face in
-    let h = subst (HasPair i) c.in-Some.is c.requires.face in
     let v = sym c.is_variable.ensures ∙ c.if-is_variable.true in
     let cell = c.index.ensures in
-    let pair = c.face_pair-pair.ensures ∙ h.2 (variable_active i.model i.at.period f.end v) in
-    made_through (whole_link i.model i.tables.digits i.at i.old) (is_variable i.model i.at.period) c.args.face f _ c.in-Some.is v (λ t. record { cell = cell t; lo = (pair t).lo; hi = (pair t).hi })
+    let pair = c.face_pair-pair.ensures in
+    made_through (link_over i.model i.tables.digits i.at i.old (branches_of i)) (is_variable i.model i.at.period) c.args.face f _ c.in-Some.is v
+    (λ t. record { cell = cell t; lo = (pair t).lo; hi = (pair t).hi })
