@@ -167,8 +167,10 @@ first_without title fed true m s good = Without-append 10 (digits_line title m s
 listing_without : (between : Bool) (m : FlowModel) (s : ℕ) (pairs : ℕ → List ZonePair) (steps : List ListedStep) → IsWritable m s → AreZonePairs pairs →
     AreListed m pairs steps → AllByRecursion NoFeed (listing between m s steps)
 unfolding listing
-listing_without between m s pairs steps good are h =
-    (first_without (codes "HEADS 2") (by_test 10 (codes "HEADS 2") refl) between m s good, all_appended NoFeed (all_step_lines m s (times m) steps) (end_line ∷ []) (steps_without m s pairs steps good are h.steps) (by_test 10 end_line refl, tt))
+listing_without between m s pairs steps good are h = (
+  first_without (codes "HEADS 2") (by_test 10 (codes "HEADS 2") refl) between m s good,
+  all_appended NoFeed (all_step_lines m s (times m) steps) (end_line ∷ []) (steps_without m s pairs steps good are h.steps) (by_test 10 end_line refl, tt),
+)
 
 pub listings_are_read_again : ListingsAreReadAgain
 listings_are_read_again between m s pairs steps good are h = grind (arith, left_of, lines_of, listing_without, rows_again)

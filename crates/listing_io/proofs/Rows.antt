@@ -40,7 +40,8 @@ whole_was {X = X} first read steps h =
       end = text_row end_line all.item.1 end.item end.first ∙ ap (λ (t : List Line). end_line ∷ t) (none_over end.item.number end.item.lines over.item over.first);
     })
 
-module _ {X : Type 0} (first : Result Left ℕ) (read : List TimeStep → Left → Result (List X × Left) ℕ) (m : FlowModel) (after : Left) (ts : List TimeStep) (same : ts ≡ times m) (started : first ≡ Ok after) where
+module _ {X : Type 0} (first : Result Left ℕ) (read : List TimeStep → Left → Result (List X × Left) ℕ) (m : FlowModel) (after : Left)
+    (ts : List TimeStep) (same : ts ≡ times m) (started : first ≡ Ok after) where
   abbrev Reads : Result (List X × Left) ℕ → Type 0
   Reads r = read ts after ≡ r
 
