@@ -11,6 +11,7 @@ pub mod OkRuns
 pub mod Outcomes
 pub mod StoredSteps
 pub mod Written
+pub mod TextWritten
 pub mod Stating
 pub mod Texts
 pub mod TextEnds

@@ -17,6 +17,7 @@ pub mod Runs
 pub mod Storage
 pub mod Parts
 pub mod Written
+pub mod TextWritten
 pub mod Stated
 pub mod Serving
 pub mod Batched
@@ -46,6 +47,7 @@ pub use Rattle.engine.specs.Stated.{DeckAndListingAreStated, DeckHasSameListing,
 pub use Rattle.engine.specs.Stated.{SpanStated}
 pub use Rattle.engine.specs.Storage.{StorageHolds}
 pub use Rattle.engine.specs.TextCertified.{AreText, OneTextVerdict}
+pub use Rattle.engine.specs.TextWritten.{ChecksText, IsReadableText, OneSpanTextIsCertified, OneTextIsCertified}
 pub use Rattle.engine.specs.TwoDecks.{IsDecksRefusal, Second, not_alike, of_both, of_first, of_second}
 unfoldable pub use Rattle.engine.specs.TwoDecks.{second_in}
 pub use Rattle.engine.specs.Uses.{FolderUse, SinkUse, failed_write, folder_use, sink_use}

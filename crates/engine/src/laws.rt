@@ -1,6 +1,7 @@
 // Laws of what is defined. Each is the contract of an empty function, but for the laws below that it calls.
 ghost use Rattle.engine.specs.{OneListingIsCertified, OneSpanIsCertified, WrittenIsCertified, StorageHolds, WorkersChangeNoCase, DeckAndListingAreStated};
-ghost use Rattle.engine.specs.{DecksAndListingAreStated, SameModelHasSameListing, DeckHasSameListing, SameDeckHasSameModel};
+ghost use Rattle.engine.specs.{DecksAndListingAreStated, SameModelHasSameListing, DeckHasSameListing, SameDeckHasSameModel, OneSpanTextIsCertified};
+ghost use Rattle.engine.specs.{OneTextIsCertified};
 
 use check_run::laws::{run_is_certified, run_is_read_again};
 
@@ -29,6 +30,15 @@ pub fn one_listing_is_certified()
     ensures two { OneSpanIsCertified }
 {
     written_is_certified();
+}
+
+/// What a run with `--deck` put, `check --deck` certifies, from the bytes alone: of one deck, and of two.
+pub fn texts_are_certified()
+    ensures one { OneTextIsCertified }
+    ensures two { OneSpanTextIsCertified }
+{
+    run_is_certified();
+    run_is_read_again();
 }
 
 /// What `write` and then `run` put of the same files is the text of a deck and then a listing, and every history of this deck's
