@@ -13,6 +13,7 @@ from .commands.shared import existing, guarded, listing_of
 from .deck.model import Model
 from .listing.listing import Listing, read_listing
 from .listing.spans import second_deck
+from .planning.drawdown_weather import written_by
 from .program.verdict import Verdict, check_listing
 
 if TYPE_CHECKING:
@@ -166,10 +167,10 @@ def drawdown_whatever(
     force: bool = False,
 ) -> Answer:
     """What a plan does to a base deck in every weather between it and the deck `to`, in any weather (any=True), or in
-    its own. `plan`: a file of WEL or a name file. `.listing` is that of the difference decks."""
+    its own. `plan`: a file of WEL or a name file. `.listing` is that of base less plan."""
     options = dict(to=to, any=any, cell=cells_of(cell), at=at, hk=span_of(hk), digits=digits, quick=quick, wide=wide)
     answer = call("drawdown", {"plan": base, "base": plan, "folder": folder}, options | dict(force=force))
-    answer.written = read_listing(Path(folder) / "difference.heads")
+    answer.written = written_by(Path(folder), any)
     return answer
 
 

@@ -32,6 +32,12 @@ KNOWN = [
 ]
 
 
+@pytest.fixture(autouse=True)
+def difference_decks(monkeypatch):
+    """By difference decks, whatever the program knows."""
+    monkeypatch.setattr("heads_tools.planning.drawdown_weather.takes_plans", lambda: False)
+
+
 def well_file(folder, *entries, periods=1, name="plan.wel"):
     path = folder / name
     path.write_text(f"9 0\n{len(entries)} 0\n" + "".join(f"{e}\n" for e in entries) + "-1 0\n" * (periods - 1))

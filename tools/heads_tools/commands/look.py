@@ -5,12 +5,18 @@ import argparse
 from pathlib import Path
 from typing import IO
 
+from ..common.text import Problem
 from ..deck.model import read_model
+from ..listing.listing import Listing
+from ..listing.plan_listing import is_plan_listing, read_plan_listing
+from ..listing.spans import second_deck
 from ..listing.zones import read_zones
 from ..common.whole_files import whole_folder
 from ..pages.look import look, look_at_map
 from ..pages.map_page import NAME
-from ..program.verdict import status_of
+from ..pages.weather_page import look_at_plan
+from ..planning.drawdown_weather import Asked
+from ..program.verdict import check_listing, status_of
 from .shared import existing, listing_of, model_for_zones, page_folder, say, verdict_of
 from .words import LISTING, add_force, add_to, add_wide, add_words, cell
 
@@ -31,6 +37,9 @@ def add(sub: argparse.ArgumentParser) -> None:
         help="the model: true widths, elevations, times, units; and the listing is checked against it by heads check",
     )
     add_to(sub, "the second deck, where the listing is that of two decks")
+    sub.add_argument(
+        "--plan", type=Path, metavar="WELLS", help="the file of WEL of a listing of what a plan does (with --name)"
+    )
     sub.add_argument(
         "--cell",
         type=cell,
@@ -65,6 +74,10 @@ def add(sub: argparse.ArgumentParser) -> None:
 
 def do(args: argparse.Namespace, _: list[str], out: IO[str]) -> int:
     model_for_zones(args)
+    if not isinstance(args.listing, Listing) and is_plan_listing(existing(args.listing)):
+        return do_plan(args, out)
+    if args.plan:
+        raise Problem(f"--plan goes with a listing of what a plan does, and {args.listing} is none")
     listing = listing_of(args.listing)
     model = read_model(existing(args.name)) if args.name else None
     verdict = verdict_of(args, listing)
@@ -80,3 +93,21 @@ def do(args: argparse.Namespace, _: list[str], out: IO[str]) -> int:
         said = look(listing, folder, model, args.cell, given, args.every, verdict, zones, base, args.svg)
     say(said + [f"open {args.folder / 'index.html'}"], out)
     return status_of(args.name, verdict)
+
+
+def do_plan(args: argparse.Namespace, out: IO[str]) -> int:
+    """The page of a listing of what a plan does."""
+    if not (args.name and args.plan):
+        raise Problem(f"{args.listing} lists what a plan does: name the base deck and the wells, --name and --plan")
+    if args.given or args.minus or args.page or args.every or args.svg:
+        raise Problem("--given, --minus, --page, --every and --svg go with a listing of heads")
+    nam, plan, listing = existing(args.name), existing(args.plan), read_plan_listing(existing(args.listing))
+    if not listing.sources:
+        raise Problem(f"{args.listing} has no whole step: it ends with {listing.drawdown.end or 'a part of one'}")
+    zones, to = existing(args.zones) if args.zones else None, second_deck(nam, args.to)
+    verdict = check_listing(nam, listing.drawdown, zones, to, args.wide, plan)
+    asked = Asked(nam, plan, args.to, cells={each: "" for each in args.cell}, has_wide=args.wide)
+    with page_folder(args.folder) as folder:
+        said = look_at_plan(asked, listing, verdict, folder)
+    say(said + [f"open {args.folder / 'index.html'}"], out)
+    return status_of(nam, verdict)

@@ -17,7 +17,8 @@ from .text import Problem, on_disk, read_text, sha256
 NAME_FILES = (".nam", ".mfn")
 # Files that MODFLOW writes: what the name file says of them may be written over where heads-tools made it.
 OUTPUTS = {"LIST", "GLOBAL", "DATA", "DATA(BINARY)", "DATAGLO", "DATAGLO(BINARY)"}
-ENDS = (b"HEADS ", b"REFUSED ", b"NOBOUND ", b"READFAULT", b"MEMORY", b"UNFINISHED ", b"USAGE:", b"WATCH ")
+LISTINGS = (b"HEADS ", b"DRAWDOWN ")
+ENDS = (*LISTINGS, b"REFUSED ", b"NOBOUND ", b"READFAULT", b"MEMORY", b"UNFINISHED ", b"USAGE:", b"WATCH ")
 # How tables, job files, list files and the small files beside results begin, which heads-tools writes.
 BEGINS = re.compile(
     rb"period,step,[a-z,_]*(lower|least)|[0-9a-f]{64}  |                                  heads\n"

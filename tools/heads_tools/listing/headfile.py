@@ -33,7 +33,7 @@ def read_heads(path: str | Path, shape: tuple[int, int, int] | None = None, most
     binary file numbers from `most` up are no heads."""
     path = Path(path)
     raw = read_raw(path)
-    if raw.startswith(b"HEADS "):
+    if raw.startswith((b"HEADS ", b"DRAWDOWN ")):
         raise Problem(f"{path} is a listing of `heads`, and a head file or a table is due: `heads-tools hds` makes one")
     for marks in (0, 4):
         for real, size in (("f", 4), ("d", 8)):

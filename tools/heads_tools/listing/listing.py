@@ -18,6 +18,7 @@ TERMS = ["STORAGE", "CONSTANT HEAD", "WELLS", "DRAINS", "RIVER LEAKAGE", "HEAD D
 UNITS_IN_ONE = 10**9
 FIFTHS = 5**9
 NO_LISTING = ("REFUSED", "READFAULT", "MEMORY", "USAGE:", "CERTIFIED", "NOT")
+HEADS_LINES, PLAN_FIRST = ("HEAD", "STEP", "IN ", "OUT ", "ZONE"), "DRAWDOWN"
 
 
 # A layer, a row and a column, from 1.
@@ -233,6 +234,8 @@ def read_listing(path: str | Path, has_convertible: bool = False) -> Listing:
         raise Problem(f"{path} is empty: the write failed, or the run was stopped")
     if first[0] in NO_LISTING:
         raise Problem(f"{path} has no listing, it ended with: {lines[0][:100]}")
+    if first[0] == PLAN_FIRST:
+        raise Problem(f"{path} lists what a plan does (`heads run NAME --plan WELLS`): `look` and `exhibit` take it")
     is_span, is_convertible = first[6:] == ["TO"], first[6:] == ["CONVERTIBLE"]
     if is_convertible and not has_convertible:
         refuse_convertible(Path(path))
@@ -246,17 +249,15 @@ def read_listing(path: str | Path, has_convertible: bool = False) -> Listing:
     digest = hashlib.sha256(content).hexdigest()
     listing = Listing(Path(path), int(first[3]), int(first[5]), is_span=is_span, sha256=digest)
     listing.is_convertible = is_convertible
-    starts = [n for n, line in enumerate(lines) if line.startswith("STEP ")]
-    tail = next((n for n in range(len(lines) - 1, -1, -1) if lines[n].strip()), 0)
-    listing.end = lines[tail].strip() if not lines[tail].startswith(("HEAD", "STEP", "IN ", "OUT ", "ZONE")) else ""
-    for begin, end in zip(starts, starts[1:] + [tail if listing.end else tail + 1]):
-        is_last = begin == starts[-1]
+    parts, listing.end = steps_in(lines, HEADS_LINES)
+    for begin, end in parts:
+        is_last = (begin, end) == parts[-1]
         try:
             step, cells = _read_step(lines, begin, end, listing.flow_places)
         except (ValueError, IndexError):
             if is_last and not listing.end:
                 break
-            raise Problem(f"{path}, {_bad_line(lines, begin, end, listing.flow_places)}") from None
+            raise Problem(f"{path}, {bad_line(lines, begin, end, forms_of(listing.flow_places))}") from None
         if not listing.steps:
             listing.cells = cells
         elif len(step.low) != len(listing.cells) and is_last and not listing.end:
@@ -265,6 +266,15 @@ def read_listing(path: str | Path, has_convertible: bool = False) -> Listing:
             raise Problem(f"{path}, line {begin + 1}: this step has other cells than the first")
         listing.steps.append(step)
     return listing
+
+
+def steps_in(lines: list[str], words: tuple[str, ...]) -> tuple[list[tuple[int, int]], str]:
+    """Where the lines of each step begin and end, and the last line, if it begins with none of the words that a step's
+    lines begin with."""
+    starts = [n for n, line in enumerate(lines) if line.startswith("STEP ")]
+    tail = next((n for n in range(len(lines) - 1, -1, -1) if lines[n].strip()), 0)
+    end = lines[tail].strip() if not lines[tail].startswith(words) else ""
+    return list(zip(starts, starts[1:] + [tail if end else tail + 1])), end
 
 
 def _read_step(lines: list[str], begin: int, end: int, places: int) -> tuple[Step, np.ndarray]:
@@ -279,34 +289,35 @@ def _read_step(lines: list[str], begin: int, end: int, places: int) -> tuple[Ste
     for line in lines[last:end]:
         word, *rest = line.split(None, 3)
         if word == "ZONE":
-            low, high = (_flow(w, places) for w in rest[2].split())
+            low, high = (flow_of(w, places) for w in rest[2].split())
             step.zones.append((int(rest[0]), int(rest[1]), low, high))
             continue
         if word not in ("IN", "OUT"):
             raise ValueError(f"a line begins with {word}")
         pair = step.terms.setdefault(rest[2].strip(), [0, 0, 0, 0])
         at = 0 if word == "IN" else 2
-        pair[at], pair[at + 1] = _flow(rest[0], places), _flow(rest[1], places)
+        pair[at], pair[at + 1] = flow_of(rest[0], places), flow_of(rest[1], places)
     return step, table[:, :3]
 
 
-def _flow(word: str, places: int) -> int:
+def flow_of(word: str, places: int) -> int:
     whole, _, part = word.partition(".")
     if len(part) != places:
         raise ValueError(f"a flow with {len(part)} decimals where {places} are due")
     return int(whole + part)
 
 
-def _bad_line(lines: list[str], begin: int, end: int, places: int) -> str:
-    """The first line of a step that isn't of any form of a listing's lines, by its number from 1, and what is wrong."""
+def forms_of(places: int) -> dict[str, str]:
+    """The forms of a listing's lines by their first words."""
     flow = rf"-?\d+\.\d{{{places}}}" if places else r"-?\d+"
-    forms = {
-        "STEP": r"STEP( \d+){2}",
-        "HEAD": r"HEAD( \d+){3}( -?\d+\.\d{9}){2}",
-        "IN": rf"IN( {flow}){{2}} \S.*",
-        "OUT": rf"OUT( {flow}){{2}} \S.*",
-        "ZONE": rf"ZONE( \d+){{2}}( {flow}){{2}}",
-    }
+    pair = r"( \d+){3}( -?\d+\.\d{9}){2}"
+    forms = {"STEP": r"STEP( \d+){2}", "ZONE": rf"ZONE( \d+){{2}}( {flow}){{2}}"}
+    forms |= {word: word + pair for word in ("HEAD", "BASE", "PLAN", "DRAWDOWN")}
+    return forms | {word: rf"{word}( {flow}){{2}} \S.*" for word in ("IN", "OUT", "SOURCE")}
+
+
+def bad_line(lines: list[str], begin: int, end: int, forms: dict[str, str]) -> str:
+    """The first line of a step that isn't of any form of a listing's lines, by its number from 1, and what is wrong."""
     for n in range(begin, end):
         line = lines[n].rstrip()
         if not line:

@@ -6,13 +6,15 @@ from pathlib import Path
 
 import numpy as np
 
-from ..common.text import Problem, decimal_text
+from ..common.text import Problem, decimal_text, down, up
 from ..deck.ranges import Range
-from ..planning.difference_decks import HIGH_DIFFERENCE, LOW_DIFFERENCE
+from ..listing.plan_listing import PlanListing
+from ..planning.difference_decks import ADDED, DRAWDOWN_LISTING, HIGH_DIFFERENCE, LOW_DIFFERENCE
 from ..planning.drawdown import place_of
-from ..planning.drawdown_weather import Asked, Cell, Effect, Weathered, weathered
+from ..planning.drawdown_weather import Asked, Cell, Effect, Weathered, looked_at, weathered
 from ..planning.plan_decks import BASE, PLAN, write_file
 from ..planning.weather_words import (
+    SHOWN,
     cell_at,
     deepest,
     lines,
@@ -28,7 +30,7 @@ from ..planning.weather_words import (
     write_tables,
 )
 from ..planning.well_ranges import at_the_well, demand_hk, well_lines
-from ..program.verdict import status_of
+from ..program.verdict import Verdict, status_of
 from . import curves, maps
 from .drawdown_page import MOST_MAPS, scale_of
 from .looking import plan_for
@@ -117,9 +119,26 @@ def add_sources(it: Weathered, album: Album, page: Page, effects: list[Effect]) 
         page.table(room, ["term", "from", "to"], source_rows(it, effect, 6))
 
 
+def add_zones(it: Weathered, page: Page) -> None:
+    """What flows more between zones under the plan, where the listing says it."""
+    flows = it.listing.steps[-1].zones if it.is_listed else []
+    if flows:
+        places = it.listing.flow_places
+        rows = [[f"{a} to {b}", down(low, places, SHOWN), up(high, places, SHOWN)] for a, b, low, high in flows]
+        page.text("Zones", f"What flows more between zones under the plan, {when(it, it.effects[-1])}, in {rate(it)}.")
+        page.table("Zones", ["zones", "from", "to"], rows)
+
+
 def commands(it: Weathered) -> list[str]:
     """How the listings are made and checked again, in the folder of the decks."""
     words = " ".join(it.asked.words())
+    if it.is_listed:
+        to = " --to base_high.nam" * (it.high is not it.base)
+        wide = " --wide" * it.asked.has_wide
+        return [
+            f"heads run {BASE}.nam --plan {ADDED}{to} {words}".rstrip() + f" > {DRAWDOWN_LISTING}",
+            f"heads check {BASE}.nam {DRAWDOWN_LISTING} --plan {ADDED}{to}{wide}",
+        ]
     ends = {BASE: "base_high", PLAN: "plan_high"} if it.high is not it.base else {BASE: "", PLAN: ""}
     out = []
     for stem, end in ({} if it.asked.is_any else ends).items():
@@ -135,15 +154,18 @@ def commands(it: Weathered) -> list[str]:
 
 def spelled_as(it: Weathered) -> str:
     other = f", base_high.nam is {it.high.name}" if it.high is not it.base else ""
-    steps = " Each step is a period of the difference decks where its length can be written exactly." * bool(it.heads)
-    return f"base.nam is {it.base.name}{other}, as `heads write` puts it.{steps}"
+    is_split = bool(it.heads) and not it.is_listed
+    steps = " Each step is a period of the difference decks where its length can be written exactly." * is_split
+    wells = f" {ADDED} has the plan's wells." * it.is_listed
+    return f"base.nam is {it.base.name}{other}, as `heads write` puts it.{wells}{steps}"
 
 
-def draw(it: Weathered, folder: Path, tables: list[str], named: str, at_well: list[str]) -> None:
-    page = Page(f"{named}: what {it.plan.name} does, {it.weather}", files=[*tables, "difference.heads", NOTES])
+def draw(it: Weathered, folder: Path, files: list[str], at_well: list[str], again: list[str]) -> None:
+    """The page. `again`: how the listings are made once more."""
+    page = Page(f"{it.asked.base.name}: what {it.plan.name} does, {it.weather}", files=files)
     page.verdict, page.is_good = verdict_of(it), None if it.is_certified else False
     page.facts = [
-        *facts_of(it.listing, unit(it), it.model, "Difference"),
+        *facts_of(it.listing, unit(it), it.model, "Drawdown" if it.is_listed else "Difference"),
         *(fact for name, each in zip(("Base", "Plan"), it.heads) for fact in facts_of(each, unit(it), None, name)),
         *facts_of_making(it.verdicts),
     ]
@@ -163,9 +185,9 @@ def draw(it: Weathered, folder: Path, tables: list[str], named: str, at_well: li
     draw_curves(it, album, page, cells)
     last, deep = it.effects[-1], worst(it)
     add_sources(it, album, page, [last] + ([deep] if deep is not last else []))
-    page.text("Once more", f"{spelled_as(it)} In this folder, with the program whose sha256 stands above:")
-    for line in commands(it):
-        page.text("Once more", f"`{line}`")
+    add_zones(it, page)
+    for line in again:
+        page.text("Once more", line)
     write_page(page, folder)
 
 
@@ -177,11 +199,20 @@ def drawdown_weather(asked: Asked, folder: Path, hk: Range | None = None) -> tup
     it = weathered(asked, folder)
     found = at_the_well(it, hk, folder) if hk else None
     at_well = well_lines(found) if found else []
-    draw(it, folder, write_tables(it, folder), asked.base.name, at_well)
+    once_more = f"{spelled_as(it)} In this folder, with the program whose sha256 stands above:"
+    again = [once_more, *(f"`{line}`" for line in commands(it))]
+    draw(it, folder, [*write_tables(it, folder), it.listing.path.name, NOTES], at_well, again)
     said = [*sentences(it), *lines(it), *at_well, *may_be_said(it)]
     write_file(folder / NOTES, ("\n".join([*said, spelled_as(it), *commands(it)]) + "\n").encode("utf-8"))
     verdicts = it.verdicts + (found.verdicts if found else [])
     return said, next((status for seen in verdicts if (status := status_of(asked.base, seen))), 0)
+
+
+def look_at_plan(asked: Asked, listing: PlanListing, verdict: Verdict, folder: Path) -> list[str]:
+    """Tables and a page of a plan's listing that was made before; what there is to say."""
+    it = looked_at(asked, listing, verdict)
+    draw(it, folder, write_tables(it, folder), [], [])
+    return [*sentences(it), *lines(it), *may_be_said(it)]
 
 
 def folder_of(asked: Asked, folder: Path | None) -> Path:

@@ -11,6 +11,7 @@ from .shares import Branch, word_of
 from .stretches import Stretch, dis_lines
 
 PLAN_HIGH, LOW_DIFFERENCE, HIGH_DIFFERENCE = "plan_high", "difference_low", "difference_high"
+ADDED, DRAWDOWN_LISTING = "added.wel", "drawdown.heads"
 
 
 def write_lines(folder: Path, stem: str, kind: str, lines: list[str]) -> None:
@@ -43,6 +44,11 @@ def write_plan_decks(folder: Path, base: Spelled, high: Spelled, plan: Plan) -> 
         wells = [[*entries, *added] for entries, added in zip(deck.entries("WEL"), plan.wells)]
         write_lines(folder, stem, "WEL", well_lines(wells))
         write_names(folder, stem, {kind: own for kind in deck.texts} | {"WEL": stem})
+
+
+def write_added(folder: Path, plan: Plan) -> None:
+    """The plan's wells alone, as `heads run NAME --plan` reads them."""
+    write_file(folder / ADDED, ("\n".join(well_lines(plan.wells)) + "\n").encode())
 
 
 def write_difference_decks(

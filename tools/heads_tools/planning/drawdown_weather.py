@@ -1,8 +1,10 @@
-"""What a plan does whatever the weather: two listings bound where the heads of both plans stand, their shares make two
-difference decks, and the listing of these bounds what the plan does. The program runs and checks each listing; that
-the two difference decks enclose every pair of plans isn't proved."""
+"""What a plan does whatever the weather. A program that has --plan lists it, and checks that listing. With an older
+one, and in any weather at all: two listings bound where the heads of both plans stand, their shares make two difference
+decks, and the listing of these bounds what the plan does. The program runs and checks each listing; that the two
+difference decks enclose every pair of plans isn't proved."""
 from __future__ import annotations
 
+import tempfile
 from dataclasses import dataclass, field
 from pathlib import Path
 
@@ -14,19 +16,30 @@ from ..deck.differences import what_differs
 from ..deck.model import Model, model_of, read_model
 from ..deck.packages import read_deck
 from ..deck.places import Place, named_place
-from ..listing.listing import Listing
+from ..listing.listing import Listing, read_listing
 from ..listing.made_by import QUICK
+from ..listing.plan_listing import PlanListing, read_plan_listing
 from ..listing.points import spot_at
 from ..listing.spans import second_deck
 from ..program.explain import explain
-from ..program.program import DEFAULT_DIGITS, call, run
+from ..program.program import Ended, call, digits_of, run, takes_plans
 from ..program.verdict import Verdict, check_listing
-from .difference_decks import HIGH_DIFFERENCE, LOW_DIFFERENCE, PLAN_HIGH, write_difference_decks, write_plan_decks
+from .difference_decks import (
+    ADDED,
+    DRAWDOWN_LISTING,
+    HIGH_DIFFERENCE,
+    LOW_DIFFERENCE,
+    PLAN_HIGH,
+    write_added,
+    write_difference_decks,
+    write_plan_decks,
+)
 from .plan_decks import BASE, HIGH, PLAN, Plan, Spelled, demand_weather, read_plan, spelled
-from .plan_sources import Sources, sources_of, without_equation
+from .plan_sources import Sources, listed_sources, sources_of, without_equation
 from .shares import Branch, Weather, heads_of
 from .stretches import Stretch, stretches_of
 
+DIFFERENCE = "difference"
 Cell = tuple[int, int, int]
 Point = tuple[str, float, float, int]
 
@@ -68,7 +81,8 @@ class Effect:
 class Weathered:
     """What a plan does in every weather: the decks, the listing of the differences and those of both plans' heads, if
     any, the verdicts on them (that on the differences first), the effects of all steps, the model of the plan, and how
-    many ramps are surely connected in both plans, surely not, and neither."""
+    many ramps are surely connected in both plans, surely not, and neither. `is_listed`: the program itself lists what
+    the plan does, and no difference decks were written."""
 
     asked: Asked
     base: Spelled
@@ -80,6 +94,7 @@ class Weathered:
     effects: list[Effect]
     model: Model
     ramps: tuple[int, int, int]
+    is_listed: bool = False
 
     @property
     def is_certified(self) -> bool:
@@ -111,6 +126,39 @@ class Weathered:
 
 def weathered(asked: Asked, folder: Path) -> Weathered:
     """Writes the decks into a folder, runs and checks them there."""
+    base, high, plan = decks_of(asked, folder)
+    if is_by_program(asked.is_any):
+        write_added(folder, plan)
+        return by_listing(asked, base, high, plan, *plan_listed(folder, high is not base, asked), folder)
+    runs: list[tuple[Listing, Verdict]] = []
+    if not asked.is_any:
+        ends = (HIGH, PLAN_HIGH) if high is not base else ("", "")
+        runs = [listed(folder, stem, end, stem, asked) for stem, end in zip((BASE, PLAN), ends)]
+    heads = [listing for listing, _ in runs]
+    stretches = stretches_of(base, is_split=bool(heads))
+    branches = branches_of(base, high, stretches, heads)
+    write_difference_decks(folder, base, plan, stretches, branches, asked.has_wide)
+    difference, verdict = listed(folder, LOW_DIFFERENCE, HIGH_DIFFERENCE, DIFFERENCE, asked)
+    effects = effects_of(base, stretches, branches, heads, difference)
+    verdicts = [verdict, *(seen for _, seen in runs)]
+    model, ramps = read_model(folder / f"{PLAN}.nam"), ramps_of(branches)
+    return Weathered(asked, base, high, plan, difference, heads, verdicts, effects, model, ramps)
+
+
+def is_by_program(is_any: bool) -> bool:
+    """Whether the program lists what the plan does: not in any weather at all, of which it has no word."""
+    return not is_any and takes_plans()
+
+
+def written_by(folder: Path, is_any: bool) -> Listing:
+    """The listing of base less plan that was written into a folder."""
+    if is_by_program(is_any):
+        return read_plan_listing(folder / DRAWDOWN_LISTING).drawdown
+    return read_listing(folder / f"{DIFFERENCE}.heads")
+
+
+def decks_of(asked: Asked, folder: Path) -> tuple[Spelled, Spelled, Plan]:
+    """The base deck, the other end of the weather and the plan, whose decks are written into a folder."""
     base = spelled(asked.base, folder, BASE, asked.has_wide)
     find_cells(asked, base)
     high = base
@@ -120,19 +168,43 @@ def weathered(asked: Asked, folder: Path) -> Weathered:
         demand_alike(folder, asked)
     plan = read_plan(asked.plan, base, folder, asked.has_wide)
     write_plan_decks(folder, base, high, plan)
-    runs: list[tuple[Listing, Verdict]] = []
-    if not asked.is_any:
-        ends = (HIGH, PLAN_HIGH) if high is not base else ("", "")
-        runs = [listed(folder, stem, end, stem, asked) for stem, end in zip((BASE, PLAN), ends)]
-    heads = [listing for listing, _ in runs]
-    stretches = stretches_of(base, is_split=bool(heads))
-    branches = branches_of(base, high, stretches, heads)
-    write_difference_decks(folder, base, plan, stretches, branches, asked.has_wide)
-    difference, verdict = listed(folder, LOW_DIFFERENCE, HIGH_DIFFERENCE, "difference", asked)
-    effects = effects_of(base, stretches, branches, heads, difference)
-    verdicts = [verdict, *(seen for _, seen in runs)]
-    model, ramps = read_model(folder / f"{PLAN}.nam"), ramps_of(branches)
-    return Weathered(asked, base, high, plan, difference, heads, verdicts, effects, model, ramps)
+    return base, high, plan
+
+
+def plan_listed(folder: Path, is_span: bool, asked: Asked) -> tuple[PlanListing, Verdict]:
+    """The program's own listing of what the plan does, and what `heads check` says of it."""
+    nam, to = folder / f"{BASE}.nam", ["--to", f"{HIGH}.nam"] if is_span else []
+    options = ["--plan", ADDED, *to, *asked.words()]
+    ended = run(nam, options, folder / DRAWDOWN_LISTING)
+    demand_listing(ended, folder, options, "There are no bounds of what the plan does.")
+    listing = ended.plan_listing()
+    return listing, check_listing(nam, listing.drawdown, None, to, asked.has_wide, folder / ADDED)
+
+
+def looked_at(asked: Asked, listing: PlanListing, verdict: Verdict) -> Weathered:
+    """What a plan's listing says that was made before."""
+    with tempfile.TemporaryDirectory(prefix="heads_") as folder:
+        return by_listing(asked, *decks_of(asked, Path(folder)), listing, verdict, Path(folder))
+
+
+def by_listing(
+    asked: Asked, base: Spelled, high: Spelled, plan: Plan, listing: PlanListing, verdict: Verdict, folder: Path
+) -> Weathered:
+    """What a plan does as the program lists it. The tighter of the listed bounds and those of the listed heads,
+    subtracted, is taken: both are proved."""
+    weather, effects, branches = Weather(base, high), list[Effect](), []
+    for n, step in enumerate(listing.drawdown.steps):
+        one, two = listing.base.steps[n], listing.planned.steps[n]
+        low, high_ = np.maximum(step.low, one.low - two.high), np.minimum(step.high, one.high - two.low)
+        sources = listed_sources(listing.sources[n], listing.drawdown.flow_places, plan, base, step.period - 1)
+        effects.append(Effect(step.period, step.step, low, high_, sources))
+        heads = heads_of(listing.base, listing.planned, step.period, (step.step,))
+        branches.append(weather.branches(step.period - 1, heads))
+    model, heads_listed = read_model(folder / f"{PLAN}.nam"), [listing.base, listing.planned]
+    ramps = ramps_of(branches)
+    return Weathered(
+        asked, base, high, plan, listing.drawdown, heads_listed, [verdict], effects, model, ramps, is_listed=True
+    )
 
 
 def find_cells(asked: Asked, base: Spelled) -> None:
@@ -161,15 +233,20 @@ def listed(folder: Path, stem: str, end: str, name: str, asked: Asked) -> tuple[
     nam, to = folder / f"{stem}.nam", ["--to", f"{end}.nam"] if end else []
     options = [*to, *asked.words()]
     ended = run(nam, options, folder / f"{name}.heads")
-    meaning = explain(ended.last, folder, asked.digits or DEFAULT_DIGITS, ended.steps > 0, options)
-    if ended.status != 0 or not meaning.is_good:
-        raise Problem(" ".join([why_none(name, asked), *meaning.lines]))
+    demand_listing(ended, folder, options, why_none(name, asked))
     listing = ended.listing()
     return listing, check_listing(nam, listing, None, to, asked.has_wide)
 
 
+def demand_listing(ended: Ended, folder: Path, options: list[str], why: str) -> None:
+    """Refuses a run without a whole listing."""
+    meaning = explain(ended.last, folder, digits_of(options), ended.steps > 0, options)
+    if ended.status != 0 or not meaning.is_good:
+        raise Problem(" ".join([why, *meaning.lines]))
+
+
 def why_none(name: str, asked: Asked) -> str:
-    if name != "difference":
+    if name != DIFFERENCE:
         return f"There are no bounds of the {'base deck' if name == BASE else 'plan'}'s heads."
     if asked.is_any:
         return (

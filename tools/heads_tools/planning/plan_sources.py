@@ -3,12 +3,14 @@ whole numbers. All terms together give what the plan's wells take."""
 from __future__ import annotations
 
 from dataclasses import dataclass, field
+from fractions import Fraction
 
 import numpy as np
 
+from ..common.spelling import exact
 from ..deck.deck import Deck
 from ..listing.listing import Step
-from .plan_decks import Spelled
+from .plan_decks import Plan, Spelled
 from .shares import HEAD_PLACES, PLACES, TERMS, Branch
 
 Pair = tuple[int, int]
@@ -18,7 +20,7 @@ FLOW_PLACES = PLACES + HEAD_PLACES
 @dataclass
 class Sources:
     """Of a step, in 10^-FLOW_PLACES: what the plan's wells take; what each term gives more, by the sum of its least and
-    greatest flows (`sums`), and narrowed by what the others leave (`terms`)."""
+    greatest flows (`sums`; none where the program lists the terms), and narrowed by what the others leave (`terms`)."""
 
     takes: Pair
     sums: dict[str, Pair] = field(default_factory=dict)
@@ -51,6 +53,18 @@ def sources_of(
         others = lows - low, highs - high
         out.terms[name] = max(low, out.takes[0] - others[1]), min(high, out.takes[1] - others[0])
     return out
+
+
+def listed_sources(terms: dict[str, Pair], places: int, plan: Plan, base: Spelled, period: int) -> Sources:
+    """The sources that a plan's listing gives for a step of a period, counted from 0."""
+    idle = without_equation(base, period)
+    taken = Fraction(0)
+    for entry in plan.wells[period]:
+        if not idle[tuple(n - 1 for n in entry.cell)]:
+            taken -= Fraction(exact(entry.words[0]))
+    units, scale = taken * 10**FLOW_PLACES, 10 ** (FLOW_PLACES - places)
+    takes = units.numerator // units.denominator, -(-units.numerator // units.denominator)
+    return Sources(takes, terms={name: (low * scale, high * scale) for name, (low, high) in terms.items()})
 
 
 def without_equation(base: Spelled, period: int) -> np.ndarray:

@@ -17,6 +17,7 @@ NOT_PROVED = (
     "Not proved by machine: that the two difference decks enclose the difference of the plans' heads in each such"
     " weather. It is argued in docs/METHOD.md, and tested. Each number of the difference decks' listing is certified"
 )
+LISTED = "The heads of both plans in each such weather, and their difference, lie between the listed numbers"
 SAME = "the same with the plan as without it, and chosen anew at each step"
 ANY = (
     "Any weather: recharge, other wells, stages, bottoms, elevations, surfaces, given heads and STRT are any numbers;"
@@ -65,7 +66,7 @@ def verdict_of(it: Weathered) -> str:
     """The line under the title."""
     names = ", ".join(seen.name for seen in it.verdicts)
     if it.is_certified:
-        return f"heads check: CERTIFIED ({names}). {NOT_PROVED}."
+        return f"heads check: CERTIFIED ({names}). {LISTED if it.is_listed else NOT_PROVED}."
     wrong = [f"{seen.name} ({seen.last})" for seen in it.verdicts if not seen.is_certified]
     return f"NOT CERTIFIED: {', '.join(wrong)}. These are no bounds of the drawdown."
 
@@ -97,9 +98,10 @@ def sentences(it: Weathered) -> list[str]:
     out += subtracted(it, last)
     sure, dry, between = it.ramps
     if sure + dry + between:
+        each = "step" if it.is_listed else "period of the difference decks"
         out.append(
-            f"Of {sure + dry + between} rivers, drains and evapotranspirations, counted anew in each period of the"
-            f" difference decks: {sure} surely connected in both plans, {dry} surely not, {between} neither."
+            f"Of {sure + dry + between} rivers, drains and evapotranspirations, counted anew in each {each}: {sure}"
+            f" surely connected in both plans, {dry} surely not, {between} neither."
         )
     shown = int(((last.low > 0) | (last.high < 0)).sum())
     out.append(f"At {counted(shown, 'cell')} of {len(last.low)} the bounds show that the plan changes the head.")
@@ -108,7 +110,8 @@ def sentences(it: Weathered) -> list[str]:
         out.append(f"{head}at the end of {when(it, last)} {change_at(it, last, it.listing.at(cell))}.")
     if it.model is None:
         return out
-    listed = [(seen, BelowTop(it.model.deck, listing)) for listing, seen in zip(it.heads[1:], it.verdicts[2:])]
+    seen_of_plan = it.verdicts if it.is_listed else it.verdicts[2:]
+    listed = [(seen, BelowTop(it.model.deck, listing)) for listing, seen in zip(it.heads[1:], seen_of_plan)]
     return [*out, *tops_lines(listed)]
 
 
@@ -153,7 +156,8 @@ def source_spans(effect: Effect) -> list[tuple[str, float, float]]:
 
 
 def write_tables(it: Weathered, folder: Path) -> list[str]:
-    """drawdown.csv (base less plan: above 0 where the plan lowers the head) and source.csv: their names."""
+    """drawdown.csv (base less plan: above 0 where the plan lowers the head) and source.csv: their names. A term's sums
+    are those of the difference decks."""
     with whole_file(folder / "drawdown.csv", is_own=True) as file:
         file.write("period,step,time,layer,row,col,drawdown_lower,drawdown_upper\n")
         for effect in it.effects:
@@ -162,11 +166,11 @@ def write_tables(it: Weathered, folder: Path) -> list[str]:
             write_cells(file, f"{head},", ",", it.listing.cells, effect.low, effect.high)
     places = it.listing.flow_places
     with whole_file(folder / "source.csv", is_own=True) as file:
-        file.write("period,step,term,more_lower,more_upper,sums_lower,sums_upper\n")
+        file.write("period,step,term,more_lower,more_upper" + ",sums_lower,sums_upper" * (not it.is_listed) + "\n")
         for effect in it.effects:
             known = effect.sources
-            rows = {name: (known.terms[name], known.sums[name]) for name in known.sums}
-            for name, pairs in (rows | {"ALL": (known.takes, known.takes)}).items():
+            rows = {name: (pair, *([known.sums[name]] if known.sums else [])) for name, pair in known.terms.items()}
+            for name, pairs in (rows | {"ALL": (known.takes,) * (1 if it.is_listed else 2)}).items():
                 words = [side(n, FLOW_PLACES, places) for pair in pairs for side, n in zip((down, up), pair)]
                 file.write(",".join([str(effect.period), str(effect.step), name, *words]) + "\n")
     return ["drawdown.csv", "source.csv"]
@@ -181,11 +185,13 @@ def may_be_said(it: Weathered) -> list[str]:
     said = f"{said_weather(it)}, {change_at(it, effect, at)} at the end of {when(it, effect)}"
     most, greatest = most_of(it)
     more = f" {ANY}." if it.asked.is_any else ""
+    argued = "; that they bound the plan's effect is argued and tested, and isn't proved by machine"
+    wrong = " 'this is proved'," * (not it.is_listed)
     return [
         f"May be said: 'In the equations of {it.base.name}, {said}, and no head by more than"
         f" {up(most.high[greatest], 9, SHOWN)} {unit(it)} at the end of any step. The numbers are certified by `heads"
-        f" check`; that they bound the plan's effect is argued and tested, and isn't proved by machine.{more}'",
-        f"May not be said: 'The well will lower the groundwater by {up(effect.high[at], 9, SHOWN)} {unit(it)}', 'this"
-        " is proved', 'the uncertainty of the drawdown'. The conductivities, the storage and the grid are taken as they"
-        " stand in the deck, and nothing is said of the aquifer itself, nor of weather outside what is named.",
+        f" check`{argued * (not it.is_listed)}.{more}'",
+        f"May not be said: 'The well will lower the groundwater by {up(effect.high[at], 9, SHOWN)} {unit(it)}',{wrong}"
+        " 'the uncertainty of the drawdown'. The conductivities, the storage and the grid are taken as they stand in"
+        " the deck, and nothing is said of the aquifer itself, nor of weather outside what is named.",
     ]

@@ -2,7 +2,7 @@
 from __future__ import annotations
 
 NUMBERS = {"--digits": (0, 18), "--workers": (1, 64), "--rounds": (1, 4_000_000_000), "--watch": (1, 1000)}
-FILES = {"--zones", "--to"}
+FILES = {"--zones", "--to", "--plan"}
 FLAGS = {"--quick", "--wide"}
 
 

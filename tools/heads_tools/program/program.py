@@ -22,6 +22,7 @@ from ..common.text import Problem, sha256
 from ..common.whole_files import draft_of
 from ..listing.listing import Listing, read_listing
 from ..listing.made_by import drop_words, is_quick, keep_words
+from ..listing.plan_listing import PlanListing, read_plan_listing
 from .follow import Progress
 
 IS_WINDOWS = sys.platform == "win32"
@@ -182,12 +183,24 @@ class Ended:
 
     def listing(self) -> Listing:
         """The listing that the run wrote, if it is still there."""
+        found = read_listing(self.written())
+        self.demand_own(found.sha256)
+        return found
+
+    def plan_listing(self) -> PlanListing:
+        """The same of a run with --plan."""
+        found = read_plan_listing(self.written())
+        self.demand_own(found.drawdown.sha256)
+        return found
+
+    def written(self) -> Path:
         if self.output is None:
             raise Problem("the run wrote no file")
-        found = read_listing(self.output)
-        if found.sha256 != self.sha256:
+        return self.output
+
+    def demand_own(self, digest: str) -> None:
+        if digest != self.sha256:
             raise Problem(f"{self.output} was written over since this run: two runs at once need two files (--out)")
-        return found
 
 
 def call(words: list[str], folder: Path, seconds: float | None = None) -> Ended:
@@ -208,7 +221,7 @@ def has_steps(path: Path) -> bool:
     if not path.is_file():
         return False
     with open(path, "rb") as file:
-        return file.readline().startswith(b"HEADS ") and file.readline().startswith(b"STEP ")
+        return file.readline().startswith((b"HEADS ", b"DRAWDOWN ")) and file.readline().startswith(b"STEP ")
 
 
 def end_of(target: Path) -> Path:
@@ -274,7 +287,7 @@ def copy_output(stream: IO[bytes], file: IO[bytes], progress: Progress | None) -
     for line in stream:
         file.write(line)
         digest.update(line)
-        if progress and line.startswith(b"HEAD "):
+        if progress and line.startswith((b"HEAD ", b"BASE ")):
             progress.head(line)
         elif progress and line.startswith((b"STEP ", b"END")) and count:
             progress.step()
@@ -290,10 +303,19 @@ def watch_file(target: Path) -> IO[bytes]:
     return open(path, "wb")
 
 
-def takes_wide() -> bool:
-    """Whether the program knows the word --wide."""
+def takes(words: list[str]) -> bool:
+    """Whether the program knows these words: in a folder without files it then says which one is missing."""
     with tempfile.TemporaryDirectory(prefix="heads_") as folder:
-        return call(["run", "a.nam", WIDE_WORD], Path(folder)).status != 1
+        return call(words, Path(folder)).status != 1
+
+
+def takes_wide() -> bool:
+    return takes(["run", "a.nam", WIDE_WORD])
+
+
+def takes_plans() -> bool:
+    """Whether the program lists what a plan does, and checks such a listing."""
+    return takes(["run", "a.nam", "--plan", "a.wel"]) and takes(["check", "a.nam", "a.txt", "--plan", "a.wel"])
 
 
 def with_wide(ended: Ended, options: list[str], folder: Path) -> list[str] | None:

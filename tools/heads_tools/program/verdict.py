@@ -19,6 +19,10 @@ from .program import call, direct_program, program_file
 CERTIFIED = "CERTIFIED"
 ALL_EXACT = "Every exact solution of the model's equations lies between the listed numbers."
 ALL_CHANGES = "The change of each exact head lies between the two bounds."
+ALL_PLANS = (
+    "The exact heads of both plans in one weather, and their difference, lie between the listed numbers, and so does "
+    "what each term gives more under the plan."
+)
 NO_MODEL = "no model was named by --name"
 NO_CHECK = "no check was asked for"
 UNCHECKED_ZONES = "The flows between zones weren't checked: no zone file was named (--zones)."
@@ -31,7 +35,7 @@ class Verdict:
     `name`: the listing's file; `has_zones`: whether the listing has lines ZONE; `is_zoned`: whether the check was given
     their zone file, without which they aren't checked; `is_span`: the listing is that of two decks; `is_change`: the
     verdict is that on two listings, whose heads were subtracted; `sha256`: that of the listing; `model`: the name file;
-    `program`: the sha256 of the program that checked."""
+    `program`: the sha256 of the program that checked; `is_plan`: the listing is one of what a plan does."""
 
     status: int | None
     last: str
@@ -43,6 +47,7 @@ class Verdict:
     sha256: str = ""
     model: str = ""
     program: str = ""
+    is_plan: bool = False
 
     @property
     def is_certified(self) -> bool:
@@ -61,6 +66,7 @@ class Verdict:
         if self.is_certified:
             rest = "" if self.is_zoned or not self.has_zones else f" {UNCHECKED_ZONES}"
             what = ALL_CHANGES if self.is_change else ALL_BETWEEN if self.is_span else ALL_EXACT
+            what = ALL_PLANS if self.is_plan else what
             return f"heads check: CERTIFIED{', both listings' if self.is_change else ''}. {what}{rest}"
         if self.status is None:
             return f"Not checked ({self.last}): these numbers are bounds only if `heads check` certifies them."
@@ -116,31 +122,37 @@ def both(plan: Verdict, base: Verdict) -> Verdict:
 
 
 def check_listing(
-    nam: Path, listing: Listing, zones: Path | None = None, to: list[str] | None = None, has_wide: bool = False
+    nam: Path,
+    listing: Listing,
+    zones: Path | None = None,
+    to: list[str] | None = None,
+    has_wide: bool = False,
+    plan: Path | None = None,
 ) -> Verdict:
     """Calls `heads check` in the model's folder on the listing's file, with its zone file; where none is named, on the
     listing without its lines ZONE. `to`: the options that name the second deck of a listing of two. The check is with
-    --wide where that is asked for, or where the listing is known to be of such a run. The file has to have the bytes
-    that were read: else there is nothing to check."""
+    --wide where that is asked for, or where the listing is known to be of such a run. `plan`: the wells of a plan's
+    listing. The file has to have the bytes that were read: else there is nothing to check."""
     demand_decks(listing, to or [])
     told = listing.path.name, has_zones(listing), zones is not None, listing.is_span, False, listing.sha256, nam.name
     with tempfile.TemporaryDirectory(prefix="heads_") as folder:
         path = readable(listing.path, Path(folder) / "listing.heads", told[1] and not told[2])
         words, names = ["check", nam.name, str(path), "--digits", str(listing.digits)], {path: told[0]}
         words += [*(to or []), *wide_words(has_wide or is_made_wide(listing))]
-        if zones:
-            file = readable(zones, Path(folder) / "zones")
-            words, names = [*words, "--zones", str(file)], names | {file: zones.name}
+        for word, given in (("--zones", zones), ("--plan", plan)):
+            if given:
+                file = readable(given, Path(folder) / word[2:])
+                words, names = [*words, word, str(file)], names | {file: given.name}
         try:
             ended = call(words, nam.parent)
             program = program_sha256()
         except Problem as error:
-            return Verdict(None, str(error), *told)
+            return Verdict(None, str(error), *told, is_plan=plan is not None)
     demand_same(listing)
     last = ended.last or f"status {ended.status}"
     for file, name in names.items():
         last = last.replace(str(file), name)
-    return Verdict(ended.status, last, *told, program)
+    return Verdict(ended.status, last, *told, program, plan is not None)
 
 
 def status_of(nam: Path | None, verdict: Verdict) -> int:
