@@ -1,3 +1,0 @@
-mod Common
-pub mod Same
-pub mod Frozen
