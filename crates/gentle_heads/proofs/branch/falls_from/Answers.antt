@@ -1,5 +1,5 @@
 use Rattle.gentle_heads.proofs.Common.{inl, inr, true, sym, ◌∙◌, true≢false}
-use Rattle.gentle_heads.proofs.test.falls_from.Goals as goal
+use Rattle.gentle_heads.proofs.branch.falls_from.Goals as goal
 
 pub returns-then-is_convertible : goal.returns-then-is_convertible
 returns-then-is_convertible c =

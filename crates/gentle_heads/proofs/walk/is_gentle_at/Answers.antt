@@ -1,4 +1,4 @@
-use Rattle.gentle_heads.proofs.test.is_gentle_at.Goals as goal
+use Rattle.gentle_heads.proofs.walk.is_gentle_at.Goals as goal
 
 pub returns : goal.returns
 returns c =

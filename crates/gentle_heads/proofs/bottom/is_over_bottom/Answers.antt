@@ -1,6 +1,6 @@
 use Rattle.gentle_heads.proofs.Common.{◌≡◌, ◌+◌, ◌-◌, arith, layer_size}
 use Rattle.gentle_heads.proofs.Elevations.{over_bottom_is}
-use Rattle.gentle_heads.proofs.test.is_over_bottom.Goals as goal
+use Rattle.gentle_heads.proofs.bottom.is_over_bottom.Goals as goal
 
 pub returns : goal.returns
 returns c =

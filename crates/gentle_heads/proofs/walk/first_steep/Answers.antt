@@ -1,5 +1,5 @@
 use Rattle.gentle_heads.proofs.Common.{◌≡◌, ℕ, inl, inr, true, false, sym, subst, arith, ◌∙◌, cases_Bool, cases_eq, false≢true, is_active, IsGentleAt}
-use Rattle.gentle_heads.proofs.test.first_steep.Goals as goal
+use Rattle.gentle_heads.proofs.walk.first_steep.Goals as goal
 
 pub returns-then-not-passes : goal.returns-then-not-passes
 returns-then-not-passes c =

@@ -1,5 +1,5 @@
 use Rattle.gentle_heads.proofs.Common.{FitsSigned, rules, sym, subst, ◌∙◌, to_z-of_z, w128, IsDec, bottom_valid}
-use Rattle.gentle_heads.proofs.test.is_wet.Goals as goal
+use Rattle.gentle_heads.proofs.walk.is_wet.Goals as goal
 
 pub is_below-requires-clause-elevation : goal.is_below-requires-clause-elevation
 is_below-requires-clause-elevation c = subst IsDec (sym c.bottom_at.ensures) (bottom_valid c.args.model.now c.args.c c.requires.model)

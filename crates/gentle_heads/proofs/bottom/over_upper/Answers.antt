@@ -1,5 +1,5 @@
 use Rattle.gentle_heads.proofs.Common.{FitsSigned, rules, sym, subst, ◌∙◌, to_z-of_z, w128, IsDec, bottom_valid}
-use Rattle.gentle_heads.proofs.test.over_upper.Goals as goal
+use Rattle.gentle_heads.proofs.bottom.over_upper.Goals as goal
 
 pub is_at_or_below-requires-clause-elevation : goal.is_at_or_below-requires-clause-elevation
 is_at_or_below-requires-clause-elevation c = subst IsDec (sym c.bottom_at.ensures) (bottom_valid c.args.model.now c.args.upper c.requires.model)

@@ -1,7 +1,7 @@
 use Rattle.gentle_heads.proofs.Common.{FitsSigned, rules, ◌≡◌, ◌^◌, ◌↔◌, ◌-ℤ◌, IsTrue, inl, inr, true, false, refl, sym, subst, ◌∙◌, false≢true, to_z-of_z}
 use Rattle.gentle_heads.proofs.Common.{w128, share, IsDec, number, AtMost, bottom_at, top_at, bottom_valid, top_valid, lower_at, upper_at}
 use Rattle.gentle_heads.proofs.Elevations.{fall_is}
-use Rattle.gentle_heads.proofs.test.falls_to.Goals as goal
+use Rattle.gentle_heads.proofs.branch.falls_to.Goals as goal
 
 pub is_at_or_below-requires-clause-elevation : goal.is_at_or_below-requires-clause-elevation
 is_at_or_below-requires-clause-elevation c = subst IsDec (sym c.top_at.ensures) (top_valid c.args.model.now c.args.c c.requires.model)

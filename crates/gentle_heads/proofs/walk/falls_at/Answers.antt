@@ -1,5 +1,5 @@
 use Rattle.std.proofs.Common.{sym, ◌∙◌}
-use Rattle.gentle_heads.proofs.test.falls_at.Goals as goal
+use Rattle.gentle_heads.proofs.walk.falls_at.Goals as goal
 
 pub returns-then-is_variable : goal.returns-then-is_variable
 returns-then-is_variable c =
