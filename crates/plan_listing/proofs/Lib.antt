@@ -1,0 +1,7 @@
+mod Common
+pub mod Texts
+pub mod Cells
+pub mod Readers
+pub mod Steps
+pub mod Feeds
+pub mod Apart

@@ -1,0 +1,52 @@
+use Rattle.plan_listing.proofs.Common.{◌∙◌, ◌≤◌, List, length, sym, subst, err_from_is_err_and, TimeStep, pairs_in, zones_of, plan_first_line, plan_step_at}
+use Rattle.plan_listing.proofs.Common.{end_stops, over_stops, steps_stop}
+use Rattle.std.specs.Prelude.{All}
+use Rattle.listing_io.proofs.Periods.{times_within}
+use Rattle.listing_io.proofs.Rows.{all_read}
+unfoldable use Rattle.record_lines.specs.{for_each}
+unfoldable use Rattle.listing_io.specs.{text_at}
+unfoldable use Rattle.plan_listing.specs.{plan_listing_at}
+use Rattle.plan_listing.proofs.listing_reader.read_lines.Goals as goal
+
+pub read_steps-requires-clause-times : goal.read_steps-requires-clause-times
+read_steps-requires-clause-times c =
+    let T : List TimeStep → Type 0 = λ ts. All (λ at. at.period ≤ length c.args.model.now.periods) ts in
+    subst T (sym (c.as_slice.ensures.value ∙ c.in_ok-times.ensures.times)) (times_within c.args.model.now)
+
+pub returns-in_err-steps : goal.returns-in_err-steps
+unfolding plan_listing_at
+returns-in_err-steps c =
+    let first = text_at (plan_first_line c.args.between c.args.model.now c.args.s) c.args.lines.now in
+    let read = for_each (plan_step_at c.args.model.now c.args.s (pairs_in c.args.model.now (zones_of c.args.pairs.now))) in
+    let same = c.as_slice.ensures.value ∙ c.in_ok-times.ensures.times in
+    let p = err_from_is_err_and c.from_residual-in_err-steps.result c.from_residual-in_err-steps.ensures.1 in
+    rw (p.1, p.2) (steps_stop first read c.args.model.now _ c.as_slice.result.now same c.in_ok-read_first.ensures c.in_err-steps.field-0.0 c.in_err-steps.ensures)
+
+pub returns-in_err-expect : goal.returns-in_err-expect
+unfolding plan_listing_at
+returns-in_err-expect c =
+    let first = text_at (plan_first_line c.args.between c.args.model.now c.args.s) c.args.lines.now in
+    let read = for_each (plan_step_at c.args.model.now c.args.s (pairs_in c.args.model.now (zones_of c.args.pairs.now))) in
+    let same = c.as_slice.ensures.value ∙ c.in_ok-times.ensures.times in
+    let p = err_from_is_err_and c.from_residual-in_err-expect.result c.from_residual-in_err-expect.ensures.1 in
+    rw (p.1, p.2) (end_stops first read c.args.model.now _ c.as_slice.result.now same c.in_ok-read_first.ensures
+    c.in_ok-steps.steps.items _ c.in_ok-steps.ensures c.in_err-expect.field-0.0 c.in_err-expect.ensures)
+
+pub returns-in_err-end : goal.returns-in_err-end
+unfolding plan_listing_at
+returns-in_err-end c =
+    let first = text_at (plan_first_line c.args.between c.args.model.now c.args.s) c.args.lines.now in
+    let read = for_each (plan_step_at c.args.model.now c.args.s (pairs_in c.args.model.now (zones_of c.args.pairs.now))) in
+    let same = c.as_slice.ensures.value ∙ c.in_ok-times.ensures.times in
+    let p = err_from_is_err_and c.from_residual-in_err-end.result c.from_residual-in_err-end.ensures.1 in
+    rw (p.1, p.2) (over_stops first read c.args.model.now _ c.as_slice.result.now same c.in_ok-read_first.ensures
+    c.in_ok-steps.steps.items _ c.in_ok-steps.ensures _ c.in_ok-expect.ensures c.in_err-end.field-0.0 c.in_err-end.ensures)
+
+pub returns : goal.returns
+unfolding plan_listing_at
+returns c =
+    let first = text_at (plan_first_line c.args.between c.args.model.now c.args.s) c.args.lines.now in
+    let read = for_each (plan_step_at c.args.model.now c.args.s (pairs_in c.args.model.now (zones_of c.args.pairs.now))) in
+    let same = c.as_slice.ensures.value ∙ c.in_ok-times.ensures.times in
+    all_read first read c.args.model.now _ c.as_slice.result.now same c.in_ok-read_first.ensures c.in_ok-steps.steps.items _
+    c.in_ok-steps.ensures _ c.in_ok-expect.ensures _ c.in_ok-end.ensures
