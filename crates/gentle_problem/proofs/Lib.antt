@@ -1,0 +1,4 @@
+mod Common
+pub mod Ordered
+pub mod Made
+pub mod Enclosed

@@ -1,0 +1,2 @@
+pub mod Problems
+pub use Rattle.gentle_problem.specs.Problems.{ArePairsAt, HasPairAt, ProblemsEnclose, ProblemsFit, branches_at}
