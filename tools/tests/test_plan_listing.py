@@ -129,3 +129,19 @@ def test_drawdown_takes_the_programs_own_listing(with_plans, tool, tmp_path):
 def test_the_call_returns_the_drawdown(with_plans, tmp_path):
     answer = drawdown_whatever(with_plans / "m.nam", with_plans / "plan.wel", tmp_path / "out", with_plans / "h.nam")
     assert answer.listing.is_change and answer.listing.steps[-1].high.max() == 979309253
+
+
+@pytest.mark.program
+def test_an_exhibit_has_the_plan_its_rechecks_and_the_sentence_for_a_permit(with_plans, tool, tmp_path, monkeypatch):
+    for module in ("exhibit", "exhibit_plan"):
+        monkeypatch.setattr(f"heads_tools.commands.{module}.program_file", lambda: tmp_path / "heads")
+    words = "exhibit", with_plans / "m.nam", tmp_path / "exhibit", "--to", "h.nam", "--plan", "plan.wel"
+    status, out, err = tool(*words)
+    assert status == 0, out + err
+    text = (tmp_path / "exhibit" / "EXHIBIT.txt").read_text()
+    assert "recheck      HOLDS (status 0)" in text
+    assert "(cd deck && ../heads check m.nam ../m-h-plan.heads --plan plan.wel --digits 12 --to h.nam)" in text
+    assert "(cd deck && python3 ../recheck_plan.py m.nam ../m-h-plan.heads plan.wel --to h.nam)" in text
+    assert "lowers the head at layer 1 row 1 column 2" in text and "isn't proved by machine" not in text
+    for file in "recheck.py recheck_plan.py deck/plan.wel deck/h.nam look/index.html look/source.csv".split():
+        assert (tmp_path / "exhibit" / file).is_file(), file

@@ -10,7 +10,7 @@ import subprocess
 import sys
 import tempfile
 import time
-from dataclasses import dataclass, field, replace
+from dataclasses import replace
 from pathlib import Path
 from typing import IO
 
@@ -26,15 +26,25 @@ from ..listing.below_top import ALL_FULL, BelowTop
 from ..listing.listing import read_listing
 from ..listing.made_by import is_quick, keep_words, kind_of
 from ..listing.spans import second_deck, target_of
-from ..listing.what_is_said import NOT_THE_MOST, Words, words_of
+from ..listing.what_is_said import NOT_THE_MOST, words_of
 from ..listing.zones import read_zones
 from ..pages.look import look
 from ..pages.looking import title_of
-from ..pages.templates import rendered
 from ..program.explain import explain
-from ..program.program import TOP, Ended, Version, beside, digits_of, program_file, record_of, version
+from ..program.program import TOP, Version, beside, digits_of, program_file, record_of, version
 from ..program.reading import files_of
 from ..program.verdict import Verdict, has_zones
+from .exhibit_parts import (
+    RECHECK,
+    RECHECK_PLAN,
+    Exhibit,
+    add_recheck,
+    plan_file,
+    shell,
+    to_options,
+    zone_file,
+)
+from .exhibit_plan import add_plan_verdicts
 from .shared import existing, flags_of
 from .words import NAM, WIDE_RUN, add_quick, add_to, add_wide, add_words
 
@@ -43,40 +53,6 @@ ONE_SPELLING = (
     "puts it. It is proved that its files are read as that model: whoever reads them item by item beside MODFLOW's "
     "input instructions need not believe how `heads` reads the spelling of the deck."
 )
-NO_CERTIFIED = "Nothing may be said of it: there is no certified listing."
-NOTHING = "Nothing may be said of this model's heads from this run."
-MOST_RECHECK_HEADS = 200_000
-
-
-@dataclass
-class Exhibit:
-    """What an exhibit says. `may`: what may be said; `words`: the sentences of its listing; `tops`: what its heads say
-    of the tops of their cells, and `maps` the pictures of it; `commands`: what was run and can be run again, each as
-    it stands in the exhibit's own folder; `facts`: name and text."""
-
-    title: str
-    verdict: str = NOTHING
-    may: list[str] = field(default_factory=list)
-    words: Words = field(default_factory=Words)
-    tops: list[str] = field(default_factory=lambda: [NO_CERTIFIED])
-    maps: list[str] = field(default_factory=list)
-    commands: list[str] = field(default_factory=list)
-    facts: list[tuple[str, str]] = field(default_factory=list)
-
-    def text(self) -> str:
-        """EXHIBIT.txt."""
-        lines = [f"Exhibit: {self.title}", self.verdict, ""]
-        lines += ["What may be said:", *(f"  {line}" for line in self.may or [NOTHING]), ""]
-        may_not = [*self.words.may_not, f"({self.words.why_not})"]
-        lines += ["What may not be said:", *(f"  {line}" for line in may_not), ""]
-        lines += ["Whether the layers are full:", *(f"  {line}" for line in self.tops), ""]
-        lines += ["To test it, in this folder:", *(f"    {line}" for line in self.commands), ""]
-        lines += ["What was run:", *(f"  {name:<13}{text}" for name, text in self.facts)]
-        return "\n".join(lines) + "\n"
-
-    def page(self) -> str:
-        """judge.html."""
-        return rendered("judge.html", told=self, may=self.may or [NOTHING])
 
 
 def exhibit(nam: Path, folder: Path, options: list[str], out: IO[str]) -> int:
@@ -120,7 +96,8 @@ def exhibit(nam: Path, folder: Path, options: list[str], out: IO[str]) -> int:
 
 def fill(folder: Path, name: str, options: list[str], known: Version) -> tuple[int, Exhibit]:
     """Runs, checks, rechecks and draws in the exhibit's folder."""
-    listing = target_of(Path(name), to_options(options)).name
+    listing, plan = target_of(Path(name), to_options(options)).name, plan_file(options)
+    listing = f"{Path(listing).stem}-{Path(plan[0]).stem}.heads" if plan else listing
     deck = f"cd deck && ../heads run {shlex.join([name, *options])}"
     ended = shell(folder, f"({deck}) > {shlex.quote(listing)}")
     ended.last = last_line(folder / listing)
@@ -131,7 +108,7 @@ def fill(folder: Path, name: str, options: list[str], known: Version) -> tuple[i
     if meaning.is_good:
         keep_words(folder / listing, name, options)
         told.facts.append(("pairs", kind_of(options)))
-        status = add_verdicts(told, folder, name, listing, options, known)
+        status = (add_plan_verdicts if plan else add_verdicts)(told, folder, name, listing, options, known)
         told.commands += same_bytes(deck, listing, options)
         add_written(told, folder, name, listing, options)
     else:
@@ -202,31 +179,11 @@ def add_written(told: Exhibit, folder: Path, name: str, listing: str, options: l
     for file, content in files.items():
         with whole_file(folder / "written" / file, binary=True, is_own=True) as new:
             new.write(content)
-    copy_files(zone_files(folder / "deck", options), folder / "deck", folder / "written")
+    named = [*zone_files(folder / "deck", options), *plan_file(options)]
+    copy_files(named, folder / "deck", folder / "written")
     run = f"cd written && ../heads run {shlex.join(['p.nam', *options])}"
     told.commands += [f"{write} | cmp - written.txt && echo SAME", *same_bytes(run, listing, options)]
     told.facts.append(("written", ONE_SPELLING))
-
-
-def add_recheck(told: Exhibit, folder: Path, arguments: str, heads: int) -> None:
-    command = f"(cd deck && python3 ../recheck.py {arguments})"
-    if not (folder / "recheck.py").is_file():
-        told.facts.append(("recheck", "recheck.py isn't here: not done"))
-        return
-    told.commands.append(command)
-    if heads > MOST_RECHECK_HEADS:
-        told.facts.append(("recheck", f"not done here: {heads} heads take long in fractions"))
-        return
-    done = shell(folder, command.replace("python3", shlex.quote(sys.executable), 1))
-    told.facts.append(("recheck", f"{done.last} (status {done.status})"))
-
-
-def shell(folder: Path, command: str) -> Ended:
-    """Runs a line as it stands in a folder: its status and the last line that it printed."""
-    print(f"running {command}", file=sys.stderr)
-    began = time.monotonic()
-    done = subprocess.run(["sh", "-c", command], cwd=folder, stdout=subprocess.PIPE, text=True, errors="replace")
-    return Ended(done.returncode, (done.stdout.strip().split("\n") or [""])[-1], time.monotonic() - began)
 
 
 def last_line(path: Path) -> str:
@@ -237,11 +194,6 @@ def is_part(path: Path) -> bool:
     return "\nSTEP " in read_text(path)
 
 
-def to_options(options: list[str]) -> list[str]:
-    """The options that name a second deck, as second_deck made them."""
-    return options[options.index("--to") :][:2] if "--to" in options else []
-
-
 def differing(deck: Path, name: str, to: list[str]) -> list[str]:
     """The stresses that differ between the two decks of a run, in words."""
     return what_differs(*(read_deck(deck / each)[0] for each in (name, to[1]))) if to else []
@@ -249,12 +201,6 @@ def differing(deck: Path, name: str, to: list[str]) -> list[str]:
 
 def wells_of(model: Model) -> list[tuple[int, int, int]]:
     return [entry.cell for entries in model.deck.lists.get("WEL", []) for entry in entries or []]
-
-
-def zone_file(options: list[str]) -> list[str]:
-    return [options[n + 1] for n, word in enumerate(options[:-1]) if word == "--zones"] + [
-        w[8:] for w in options if w.startswith("--zones=")
-    ]
 
 
 def deck_files(nam: Path) -> list[str]:
@@ -282,7 +228,7 @@ def opened_files(folder: Path, name: str) -> list[str]:
 
 def copy_deck(nam: Path, deck: Path, options: list[str]) -> None:
     deck.mkdir()
-    names = deck_files(nam) + zone_files(nam.parent, options)
+    names = deck_files(nam) + zone_files(nam.parent, options) + plan_file(options)
     names += [file for name in to_options(options)[1:] for file in deck_files(nam.with_name(name))]
     for name in names:
         if ".." in name or name.startswith(("/", "\\")):
@@ -299,16 +245,16 @@ def copy_files(names: list[str], source: Path, target: Path) -> None:
 
 
 def copy_program(binary: Path, folder: Path) -> None:
-    """The program, the record of its sources, and recheck.py."""
+    """The program, the record of its sources, recheck.py and recheck_plan.py."""
     copy = folder / ("heads.exe" if binary.suffix == ".exe" else "heads")
     copy_whole(binary, copy)
     copy.chmod(0o755)
     record = record_of(binary)
     if record:
         copy_whole(record, folder / "heads.txt")
-    script = beside("recheck.py")
-    if script:
-        copy_whole(script, folder / "recheck.py")
+    for name in (RECHECK, RECHECK_PLAN):
+        if script := beside(name):
+            copy_whole(script, folder / name)
 
 
 def program_facts(known: Version) -> list[tuple[str, str]]:

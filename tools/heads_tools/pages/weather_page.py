@@ -211,8 +211,12 @@ def drawdown_weather(asked: Asked, folder: Path, hk: Range | None = None) -> tup
 def look_at_plan(asked: Asked, listing: PlanListing, verdict: Verdict, folder: Path) -> list[str]:
     """Tables and a page of a plan's listing that was made before; what there is to say."""
     it = looked_at(asked, listing, verdict)
-    draw(it, folder, write_tables(it, folder), [], [])
+    draw_plan(it, folder)
     return [*sentences(it), *lines(it), *may_be_said(it)]
+
+
+def draw_plan(it: Weathered, folder: Path) -> None:
+    draw(it, folder, write_tables(it, folder), [], [])
 
 
 def folder_of(asked: Asked, folder: Path | None) -> Path:

@@ -108,11 +108,7 @@ def sentences(it: Weathered) -> list[str]:
     for cell, name in it.asked.cells.items():
         head = f"{name}: " if name else ""
         out.append(f"{head}at the end of {when(it, last)} {change_at(it, last, it.listing.at(cell))}.")
-    if it.model is None:
-        return out
-    seen_of_plan = it.verdicts if it.is_listed else it.verdicts[2:]
-    listed = [(seen, BelowTop(it.model.deck, listing)) for listing, seen in zip(it.heads[1:], seen_of_plan)]
-    return [*out, *tops_lines(listed)]
+    return [*out, *tops_of(it)]
 
 
 def subtracted(it: Weathered, effect: Effect) -> list[str]:
@@ -178,20 +174,38 @@ def write_tables(it: Weathered, folder: Path) -> list[str]:
 
 def may_be_said(it: Weathered) -> list[str]:
     """The sentence for a permit, and what may not be said."""
-    effect = worst(it)
-    at = deepest(effect)
     if not it.is_certified:
         return ["Nothing may be said of the drawdown: a listing isn't certified."]
+    may, may_not = permit(it)
+    return [f"May be said: '{may}'", f"May not be said: {may_not}"]
+
+
+def permit(it: Weathered) -> tuple[str, str]:
+    """The sentence for a permit, and those that nothing here says."""
+    effect = worst(it)
+    at = deepest(effect)
     said = f"{said_weather(it)}, {change_at(it, effect, at)} at the end of {when(it, effect)}"
     most, greatest = most_of(it)
     more = f" {ANY}." if it.asked.is_any else ""
     argued = "; that they bound the plan's effect is argued and tested, and isn't proved by machine"
     wrong = " 'this is proved'," * (not it.is_listed)
-    return [
-        f"May be said: 'In the equations of {it.base.name}, {said}, and no head by more than"
+    return (
+        f"In the equations of {it.base.name}, {said}, and no head by more than"
         f" {up(most.high[greatest], 9, SHOWN)} {unit(it)} at the end of any step. The numbers are certified by `heads"
-        f" check`{argued * (not it.is_listed)}.{more}'",
-        f"May not be said: 'The well will lower the groundwater by {up(effect.high[at], 9, SHOWN)} {unit(it)}',{wrong}"
+        f" check`{argued * (not it.is_listed)}.{more}",
+        f"'The well will lower the groundwater by {up(effect.high[at], 9, SHOWN)} {unit(it)}',{wrong}"
         " 'the uncertainty of the drawdown'. The conductivities, the storage and the grid are taken as they stand in"
         " the deck, and nothing is said of the aquifer itself, nor of weather outside what is named.",
-    ]
+    )
+
+
+def promised(it: Weathered) -> str:
+    """What the listing says of each cell and term."""
+    return f"{said_weather(it)[0].upper()}{said_weather(it)[1:]}: {LISTED[0].lower()}{LISTED[1:]}."
+
+
+def tops_of(it: Weathered) -> list[str]:
+    """What the heads with the plan say of the tops of their cells."""
+    seen_of_plan = it.verdicts if it.is_listed else it.verdicts[2:]
+    listed = [(seen, BelowTop(it.model.deck, listing)) for listing, seen in zip(it.heads[1:], seen_of_plan)]
+    return tops_lines(listed)
