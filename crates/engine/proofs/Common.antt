@@ -7,13 +7,14 @@ pub use Rattle.std.proofs.lemmas.List.Elements.{All-append, All-cons, All-head, 
 pub use Rattle.std.proofs.lemmas.Result.{IfOk-at_ok, IfOk-weaker, err_from_is_err_and}
 pub use Rattle.std.specs.Io.KnownBytes.{Appends}
 pub use Rattle.std.specs.List.{AllZip, concat, filter, onto_first}
-pub use Rattle.std.specs.Prelude.{All, IfErr, false, is_some, option_to_list, slice_get, unwrap_or, ◌-◌, ◌==◌}
+pub use Rattle.std.specs.Prelude.{All, IfErr, false, is_some, nat_abs, option_to_list, slice_get, unwrap_or, ◌-◌, ◌==◌, ◌^◌}
 pub use Rattle.std.specs.declared.alloc.Global.{Global}
 pub use Rattle.std.specs.declared.vec.Vec.{Vec}
 pub use Rattle.check_run.proofs.FlowPairs.{flows_have_pairs, run_encloses}
 pub use Rattle.check_run.specs.{IsReadable, IsVerdict, ListingEncloses, RunIsCertified, RunIsReadAgain, VerdictIsOne, as_listed, checked_task, steps_of}
 pub use Rattle.check_run.specs.declared.verdict.ListingVerdict.{ListingVerdict}
 pub use Rattle.check_run.specs.declared.verdict.ListingVerdict.TheVariants.{Certified, Fails}
+pub use Rattle.command_line.proofs.DigitLemmas.{check_digits, text_digits}
 pub use Rattle.command_line.specs.{AskedBatch, AskedCheck, AskedText, Batch, Check, CheckText, ListingOrder, Make, Run, Wanted, Words, Write, asked_of}
 pub use Rattle.command_line.specs.{asked_text, batch_of, check_of, order_of_words, text_if, usage_line, wanted_by}
 pub use Rattle.command_line.specs.declared.order.Order.{Order}
@@ -24,18 +25,18 @@ pub use Rattle.deck_problems.specs.declared.decks.Decks.{Decks}
 pub use Rattle.deck_span.specs.{AreAlike, Choice, DifferenceIsOne, IsFirstDifference, step_from}
 pub use Rattle.deck_span.specs.declared.difference.Difference.{Difference}
 pub use Rattle.engine.specs.{After, Answers, AnswersBeside, AreDecksAs, AreDecksOf, AreItsSteps, ArePairOf, ArePutInTurn, AreTasks, AreText, AreViews}
-pub use Rattle.engine.specs.{AreWatched, ByDeck, Case, Checking, ChecksWritten, Comparing, CutOf, DeckAndListingAreStated, DeckHasSameListing}
+pub use Rattle.engine.specs.{AreWatched, ByDeck, Case, Checking, ChecksText, ChecksWritten, Comparing, CutOf, DeckAndListingAreStated, DeckHasSameListing}
 pub use Rattle.engine.specs.{DecksAndListingAreStated, Defines, Due, EndIsDefined, EndsOk, FolderUse, GoesThrough, GoesWell, HasEnded, HasNoList, HeadlineOf}
 pub use Rattle.engine.specs.{IsAsked, IsCheck, IsDecksRefusal, IsDue, IsFaultOf, IsFirstIf, IsFirstPut, IsJobEnd, IsJobListing, IsListed, IsListingOf, IsMade}
-pub use Rattle.engine.specs.{IsNoSecond, IsOrder, IsPlain, IsReadingEnd, IsRefusedBy, IsRunOf, IsRunResult, IsRunText, IsSaid, IsStopNumber, IsStopped}
-pub use Rattle.engine.specs.{IsTaskRead, IsValid, IsValidJob, IsView, IsWatched, JobDefines, Jobs, Listing, ListsPairs, Making, MayRead, NoWords, OneDeck}
-pub use Rattle.engine.specs.{OneDeckListing, OneDeckSpan, OneOf, OneSpan, OneSummary, OneTextVerdict, OneVerdict, ReadsFolder, ReadsNothing, Refuses}
-pub use Rattle.engine.specs.{RunHeadline, RunSpanHeadline, SameDeckHasSameModel, SameModelHasSameListing, Saying, Second, Serves, Shows, SidePuts, SinkUse}
-pub use Rattle.engine.specs.{SpanStated, SpanVerdict, StorageHolds, ViewsPut, Writing, WrittenIsCertified, after_text, broken_off, but_batch, case_decks}
-pub use Rattle.engine.specs.{case_listed, case_named, case_of, case_parts, case_read, case_rest, certified_line, decks_task, decks_text, defined, failed_write}
-pub use Rattle.engine.specs.{files_if, files_of, folder_use, job_of, job_task, jobs_read, lines_of, listing_read, made_fault, made_model, made_task, model_line}
-pub use Rattle.engine.specs.{names_read, not_alike, of_both, of_first, of_second, read_by_name, second_by, sink_use, span_task_of, steps_read, summed_text}
-pub use Rattle.engine.specs.{task_of, unread, verdict_line, verdict_status, views_in, words_text, zones_read}
+pub use Rattle.engine.specs.{IsNoSecond, IsOrder, IsPlain, IsReadableText, IsReadingEnd, IsRefusedBy, IsRunOf, IsRunResult, IsRunText, IsSaid, IsStopNumber}
+pub use Rattle.engine.specs.{IsStopped, IsTaskRead, IsValid, IsValidJob, IsView, IsWatched, JobDefines, Jobs, Listing, ListsPairs, Making, MayRead, NoWords}
+pub use Rattle.engine.specs.{OneDeck, OneDeckListing, OneDeckSpan, OneOf, OneSpan, OneSpanTextIsCertified, OneSummary, OneTextIsCertified, OneTextVerdict}
+pub use Rattle.engine.specs.{OneVerdict, ReadsFolder, ReadsNothing, Refuses, RunHeadline, RunSpanHeadline, SameDeckHasSameModel, SameModelHasSameListing}
+pub use Rattle.engine.specs.{Saying, Second, Serves, Shows, SidePuts, SinkUse, SpanStated, SpanVerdict, StorageHolds, ViewsPut, Writing, WrittenIsCertified}
+pub use Rattle.engine.specs.{after_text, broken_off, but_batch, case_decks, case_listed, case_named, case_of, case_parts, case_read, case_rest, certified_line}
+pub use Rattle.engine.specs.{decks_task, decks_text, defined, failed_write, files_if, files_of, folder_use, job_of, job_task, jobs_read, lines_of, listing_read}
+pub use Rattle.engine.specs.{made_fault, made_model, made_task, model_line, names_read, not_alike, of_both, of_first, of_second, read_by_name, second_by}
+pub use Rattle.engine.specs.{sink_use, span_task_of, steps_read, summed_text, task_of, unread, verdict_line, verdict_status, views_in, words_text, zones_read}
 unfoldable pub use Rattle.engine.specs.{second_in}
 pub use Rattle.engine.specs.Batched.{Batched}
 pub use Rattle.engine.specs.OneListing.{OneListing}
@@ -45,14 +46,14 @@ pub use Rattle.engine.specs.declared.zoned.ZonedListing.{ZonedListing}
 pub use Rattle.exact_histories.proofs.WholeRuns.{have_one, history_exists, history_is_one}
 pub use Rattle.exact_histories.specs.{HaveOneHistory}
 pub use Rattle.listing_io.specs.{AreListed, IsListedAt, all_lines, ended_line, first_line, listing_at, listing_in, or_bad_listing, refused_line, step_lines}
-pub use Rattle.listing_io.specs.{text_of, view_text}
+pub use Rattle.listing_io.specs.{view_text}
 pub use Rattle.listing_io.specs.declared.listing.ListedStep.{ListedStep}
 pub use Rattle.listing_run.proofs.Lines.{ends_by}
 pub use Rattle.listing_run.proofs.Pieces.{alone, beside_by, cut_listing_is_beside, line_not_ok, put_not_ok, wanting_not_ok}
 pub use Rattle.listing_run.proofs.Settled.{IsWhole, is_whole, whole_listing}
 pub use Rattle.listing_run.specs.{AllSteps, BoundAll, BoundChoices, Bounds, HasLargeFlow, IsCutListing, IsListing, IsListingBeside, IsSettledBy, IsStep, IsTask}
 pub use Rattle.listing_run.specs.{ListingExcludesRefusal, ListingIsOne, PairEncloses, Reaches, ReachesFirst, RefusalIsOne, RestsOrSettles, Steps, begun}
-pub use Rattle.listing_run.specs.{deck_task, faces_of, last_line, left, listed, listing, no_budget, no_heads, no_zones, rests, settled, status_of}
+pub use Rattle.listing_run.specs.{deck_task, faces_of, last_line, left, listed, listing, no_budget, no_heads, no_zones, rests, settled, status_of, text_of}
 pub use Rattle.listing_run.specs.declared.solving.Step.{Step}
 pub use Rattle.listing_run.specs.declared.steps.Task.{Task}
 pub use Rattle.listing_run.specs.declared.text.ListingEnd.{ListingEnd}
@@ -60,7 +61,7 @@ pub use Rattle.listing_summary.specs.{IsSummarized, summary_of, summary_text}
 pub use Rattle.model_maker.specs.{made_files, made_name}
 pub use Rattle.model_reader.specs.{model_of, names_in}
 unfoldable pub use Rattle.model_reader.specs.{reads}
-pub use Rattle.model_text.proofs.ModelForms.{deck_reads, unit_is_short}
+pub use Rattle.model_text.proofs.ModelForms.{deck_reads, read_writable, unit_is_short}
 pub use Rattle.model_text.specs.{deck_files, deck_name}
 unfoldable pub use Rattle.model_text.specs.{deck_text, zoned_text}
 pub use Rattle.model_types.specs.{IsModel, cell_count, most_bytes, place, start_head, times}
@@ -84,7 +85,7 @@ pub use Rattle.run_puts.specs.{early, end_line, failed, first_not_ok, memory_put
 pub use Rattle.run_puts.specs.declared.job_end.JobEnd.{JobEnd}
 pub use Rattle.run_puts.specs.declared.puts.Status.{Status}
 pub use Rattle.settle_driver.specs.{AddsPhases, EnclosesPair}
-pub use Rattle.stated_text.specs.{IsRefused, StandsIn, is_current, later_by, parts_text, steps_after, unlike}
+pub use Rattle.stated_text.specs.{CanBeRead, IsRefused, ListingIsReadBack, StandsIn, is_current, later_by, parts_text, steps_after, unlike}
 pub use Rattle.stated_text.specs.declared.part.Part.{Part}
 pub use Rattle.stated_text.specs.declared.part.Parts.{Parts}
 pub use Rattle.step_chain.specs.{LeavesRange, edges_by, two}
@@ -93,6 +94,8 @@ pub use Rattle.step_problem.specs.Entries.{Entries}
 pub use Rattle.step_problem.specs.declared.heads.Bound.{Bound}
 pub use Rattle.step_problem.specs.declared.place.NoBound.{NoBound}
 pub use Rattle.view_puts.specs.{AreAllShown, IsStopPut, LeadOn, ViewPuts, no_lead, no_view}
-pub use Rattle.zone_pairs.specs.{AreNumbers, AreZonesOf, pairs_below, pairs_in, zones_of_flow}
+pub use Rattle.zone_file.proofs.ZoneLemmas.{numbers_small, zones_give}
+pub use Rattle.zone_file.specs.{zones_of}
+pub use Rattle.zone_pairs.specs.{AreNumbers, AreZones, AreZonesOf, pairs_below, pairs_in, zones_of_flow}
 pub use Rattle.zone_pairs.specs.declared.pair.ZonePair.{ZonePair}
 pub use denote.Ref.{Bor}

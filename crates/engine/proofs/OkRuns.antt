@@ -9,7 +9,8 @@ use Rattle.engine.proofs.Common.{span_task_of, deck_text, deck_reads, summary_of
 use Rattle.engine.proofs.Common.{Decks, Batched, case_read, OneListing, false, DifferenceIsOne, Appends, Bool, CheckText, IsSaid, OneDeckListing, OneDeckSpan}
 use Rattle.engine.proofs.Common.{OneSpan, RunHeadline, RunSpanHeadline, Task, Words, after_text, case_listed, concat, decks_text, words_text, zoned_text, ◌++◌}
 use Rattle.engine.proofs.Common.{AreText, AskedText, ListingVerdict, OneTextVerdict, IsVerdict, case_parts, case_rest, certified_line, file_at, is_some}
-use Rattle.engine.proofs.Common.{option_map, pairs_in, sym, verdict_line, unwrap_or, StandsIn, parts_text, steps_after, unlike, Part, text_of, ByDeck}
+use Rattle.engine.proofs.Common.{option_map, pairs_in, sym, verdict_line, unwrap_or, StandsIn, parts_text, steps_after, unlike, Part, ByDeck}
+use Rattle.listing_io.specs.{text_of}
 use Rattle.engine.proofs.Certifying.{certified_and_one, is_certified}
 use Rattle.engine.proofs.Dues.{Delivers}
 use Rattle.engine.proofs.Labels.{listing_pairs, listing_times}

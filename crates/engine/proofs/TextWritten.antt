@@ -1,24 +1,17 @@
 -- The text that a run put is certified.
 use Rattle.engine.proofs.Common.{[], ◌≡◌, ◌≤◌, ◌<◌, ◌++◌, ◌∷◌, ◌∙◌, ℕ, ℤ, Bool, List, None, Ok, Err, Option, Some, Result, ap, append-nil, arith, inr}
-use Rattle.engine.proofs.Common.{length-map, map, refl, subst, sym, unsigned_abs, IfSome, option_map, is_some, concat, Appends, AskedText, ListingOrder, order_of_words}
-use Rattle.engine.proofs.Common.{AreDecks, Decks, one_deck, one_valid, two, FlowModel, Step, Task, Text, end_line, listing, ListedStep, pairs_in, AreNumbers, FileSet, Refusal}
-use Rattle.engine.proofs.Common.{AreItsSteps, Case, Defines, IsCheck, RunIsCertified, RunIsReadAgain, as_listed, case_of, case_parts, case_read}
-use Rattle.engine.proofs.Common.{case_rest, certified_line, have_one, reads, run_encloses, span_task_of, task_of, unit_is_short, zoned_text, zones_read, Wanted}
-use Rattle.engine.proofs.Common.{Part, OneDeckListing, OneDeckSpan, cell_count, AreAlike, ◌>>=◌, unwrap_or}
-use Rattle.listing_run.specs.{text_of}
+use Rattle.engine.proofs.Common.{length-map, map, refl, subst, sym, unsigned_abs, IfSome, option_map, is_some, concat, Appends, AskedText, ListingOrder}
+use Rattle.engine.proofs.Common.{order_of_words, AreDecks, Decks, one_deck, one_valid, two, FlowModel, Step, Task, Text, end_line, listing, ListedStep}
+use Rattle.engine.proofs.Common.{pairs_in, AreNumbers, FileSet, Refusal, AreItsSteps, Case, Defines, IsCheck, RunIsCertified, RunIsReadAgain, as_listed}
+use Rattle.engine.proofs.Common.{case_of, case_parts, case_read, case_rest, certified_line, have_one, reads, run_encloses, span_task_of, task_of, unit_is_short}
+use Rattle.engine.proofs.Common.{zoned_text, zones_read, Wanted, Part, OneDeckListing, OneDeckSpan, cell_count, AreAlike, ◌>>=◌, unwrap_or, text_of, ChecksText}
+use Rattle.engine.proofs.Common.{IsReadableText, OneSpanTextIsCertified, OneTextIsCertified, text_digits, read_writable, CanBeRead, ListingIsReadBack}
+use Rattle.engine.proofs.Common.{parts_text, nat_abs, ◌^◌, zones_of, numbers_small, zones_give, AreZones}
 use Rattle.engine.proofs.Written.{read_numbers, some_ok}
-use Rattle.engine.specs.TextWritten.{ChecksText, IsReadableText, OneSpanTextIsCertified, OneTextIsCertified}
 use Rattle.check_run.specs.declared.verdict.ListingVerdict.TheVariants.{Certified as Holds}
-use Rattle.command_line.proofs.DigitLemmas.{text_digits}
-use Rattle.model_text.proofs.ModelForms.{read_writable}
-use Rattle.run_puts.specs.declared.puts.Status.TheVariants as status
 use Rattle.stated_text.proofs.ReadBack.{decks_are_read_back, listed_begins, rest_back}
-use Rattle.stated_text.specs.{CanBeRead, ListingIsReadBack, parts_text}
+use Rattle.run_puts.specs.declared.puts.Status.TheVariants as status
 unfoldable use Rattle.stated_text.specs.{parts_in}
-use Rattle.std.specs.Prelude.{nat_abs, ◌^◌}
-use Rattle.zone_file.specs.{zones_of}
-use Rattle.zone_file.proofs.ZoneLemmas.{numbers_small, zones_give}
-use Rattle.zone_pairs.specs.{AreZones}
 
 -- The listing of decks with all steps, after the text of these decks.
 module _ (certified : RunIsCertified) (again : RunIsReadAgain) (k : Task) (values : List Step) (decks : AreDecks k.decks) (numbers : AreNumbers k.zones) (all : AreItsSteps k values)

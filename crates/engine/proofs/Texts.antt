@@ -4,8 +4,7 @@ use Rattle.engine.proofs.Common.{append_assoc, inl, inr, is_some, map, refl, sub
 use Rattle.engine.proofs.Common.{FlowModel, ListedStep, ListsPairs, ListingEncloses, Step, Task, TimeStep, checked_task, concat, decks_text, end_line, listing}
 use Rattle.engine.proofs.Common.{pairs_in, times, two, one_deck, zoned_text, HaveOneHistory, steps_of, IsListedAt, ended_line, first_line, step_lines}
 use Rattle.engine.proofs.Common.{onto_first, ◌==◌, ◌-◌, Err, Refusal, Result, ZonePair, listing_in, refusal, BadListing, is_current, later_by, steps_after}
-use Rattle.engine.proofs.Common.{AreText, SpanStated, Stated}
-use Rattle.listing_run.specs.{text_of}
+use Rattle.engine.proofs.Common.{AreText, SpanStated, Stated, text_of}
 use Rattle.listing_io.specs.{end_line as last_row, text_of as text}
 use Rattle.std.proofs.lemmas.Bool.{eqb-true}
 use Rattle.stated_text.proofs.ListedTexts.{listing_was}

@@ -5,10 +5,7 @@ use Rattle.engine.proofs.Common.{or_bad_listing, one_valid, Text, end_line, IsLi
 use Rattle.engine.proofs.Common.{listing_read, steps_read, task_of, zones_read, IsCheck, certified_line, Defines, Limits, unit_is_short, IsReadable}
 use Rattle.engine.proofs.Common.{RunIsCertified, RunIsReadAgain, as_listed, Step, ChecksWritten, WrittenIsCertified, Task, reads, AreDecks, is_some, listing_in}
 use Rattle.engine.proofs.Common.{◌>>=◌, case_read, option_map, ListingOrder, Decks, read_by_name, OneSpan, span_task_of, have_one, AreItsSteps, OneListing}
-use Rattle.engine.proofs.Common.{run_encloses}
-use Rattle.zone_file.specs.{zones_of}
-use Rattle.command_line.proofs.DigitLemmas.{check_digits}
-use Rattle.zone_file.proofs.ZoneLemmas.{numbers_small}
+use Rattle.engine.proofs.Common.{run_encloses, zones_of, check_digits, numbers_small}
 use Rattle.check_run.specs.declared.verdict.ListingVerdict.TheVariants.{Certified as Holds}
 use Rattle.engine.proofs.Readings.{decks_read, named_read}
 use Rattle.engine.proofs.DeckEnds.{case_within, to_check, within_defines}
