@@ -15,6 +15,6 @@ pub use Rattle.problem_builder.proofs.TimesOf.{time_of}
 pub use Rattle.problem_builder.specs.{AreBranches, Filled, HasPairs, HeadsEnclose, IsBranch, IsFaultOver, IsProblemOver, branches_over, no_pair, pair_at}
 pub use Rattle.problem_builder.specs.{problem_over}
 pub use Rattle.step_problem.specs.declared.heads.Bound.{Bound}
-pub use Rattle.water_conductances.proofs.FacePairs.{face, pairs_enclose}
+pub use Rattle.water_conductances.proofs.FacePairs.{face_in_bounds, pairs_enclose}
 pub use Rattle.water_conductances.specs.{AreOrdered, face_formula, has_depth, pair_at_heads}
 pub use Rattle.water_table.specs.declared.convertible_layers.ConvertibleLayers.{ConvertibleLayers}

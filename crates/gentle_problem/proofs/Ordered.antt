@@ -1,7 +1,7 @@
 -- The pair of a face has its bounds in order.
 use Rattle.gentle_problem.proofs.Common.{◌≡◌, ℕ, ◌+◌, ◌^◌, ◌≤◌, inl, inr, Bool, true, false, cond, Option, List, sym, subst, refl, arith}
 use Rattle.gentle_problem.proofs.Common.{le_of_mul-le-mul_right, Encloses, Fraction, Ratio, share, Bound, FlowModel, Axis, IsModel, stride, Pair, HeadsEnclose}
-use Rattle.gentle_problem.proofs.Common.{IsBranch, no_pair, ConvertibleLayers, AreOrdered, face_formula, has_depth, pair_at_heads, face}
+use Rattle.gentle_problem.proofs.Common.{IsBranch, no_pair, ConvertibleLayers, AreOrdered, face_formula, has_depth, pair_at_heads, face_in_bounds}
 use Rattle.std.proofs.lemmas.Bool.{and_parts}
 use Rattle.std.proofs.lemmas.Int.{ints}
 use Rattle.std.specs.Option.{unwrap_or}
@@ -38,7 +38,7 @@ module _ (m : FlowModel) (heads : List Bound) (ordered : AreOrdered m heads) whe
         (cond b (capped_pair (face_formula m w heads axis a) s) no_pair).lo ≤ (cond b (capped_pair (face_formula m w heads axis a) s) no_pair).hi
     by_depth true e =
         let both = and_parts (has_depth m w heads a) _ e in
-        capped_in_order (face_formula m w heads axis a) s (in_order _ _ s _ (face m w lower valid heads lower_within s axis a k both.0 both.1))
+        capped_in_order (face_formula m w heads axis a) s (in_order _ _ s _ (face_in_bounds m w lower valid heads lower_within s axis a k both.0 both.1))
     by_depth false e = omega arith
 
     pub pair_in_order : (pair_at_heads m w heads s axis a).lo ≤ (pair_at_heads m w heads s axis a).hi

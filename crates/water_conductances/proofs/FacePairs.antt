@@ -109,21 +109,21 @@ module _ (m : FlowModel) (w : ConvertibleLayers) (h : ℕ → Fraction) (valid :
     spans : (c : ℕ) → c < cell_count m.grid → is_active m c ≡ true → has_depth m w heads c ≡ true → IsSpanOf m w h c (saturated_span m w heads c)
     spans c lt active deep = span_is m w heads h valid inside c lt active deep
 
-    pub face : (axis : Axis) (a : ℕ) → IsBranch m axis a → has_depth m w heads a ≡ true → has_depth m w heads (a + stride m.grid axis) ≡ true →
+    pub face_in_bounds : (axis : Axis) (a : ℕ) → IsBranch m axis a → has_depth m w heads a ≡ true → has_depth m w heads (a + stride m.grid axis) ≡ true →
         PairEncloses (face_formula m w heads axis a) s (conductance_at m w h axis a)
-    face Row a br deep deep' =
+    face_in_bounds Row a br deep deep' =
         let b = a + 1 in
         let lt : a < cell_count m.grid = omega (arith, br.within) in
         along _ _ s _ (row_same m (saturated_span m w heads a) (saturated_span m w heads b) a b (sat a) (sat b) s)
         (term_pair_encloses s (row_face a b (saturated_span m w heads a) (saturated_span m w heads b) (ready a lt br.first) (ready b br.within br.second)
         (spans a lt br.first deep) (spans b br.within br.second deep')))
-    face Column a br deep deep' =
+    face_in_bounds Column a br deep deep' =
         let b = a + m.grid.cols in
         let lt : a < cell_count m.grid = omega (arith, br.within) in
         along _ _ s _ (column_same m (saturated_span m w heads a) (saturated_span m w heads b) a b (sat a) (sat b) s)
         (term_pair_encloses s (column_face a b (saturated_span m w heads a) (saturated_span m w heads b) (ready a lt br.first) (ready b br.within br.second)
         (spans a lt br.first deep) (spans b br.within br.second deep')))
-    face Vertical a br deep deep' =
+    face_in_bounds Vertical a br deep deep' =
         let b = a + layer_size m.grid in
         let lt : a < cell_count m.grid = omega (arith, br.within) in
         let two = cell_below_means_layers m.grid.layers (layer_size m.grid) a br.within in
@@ -140,7 +140,7 @@ module _ (m : FlowModel) (w : ConvertibleLayers) (h : ℕ → Fraction) (valid :
         0 < (pair_by axis a b).lo → (pair_by axis a b).hi < 2 ^ 60 → Encloses (pair_by axis a b).lo (pair_by axis a b).hi s (conductance_at m w h axis a)
     by_depth axis a br true e some small =
         let both = and_parts (has_depth m w heads a) _ e in
-        capped_encloses (face_formula m w heads axis a) s (conductance_at m w h axis a) (face axis a br both.0 both.1) small
+        capped_encloses (face_formula m w heads axis a) s (conductance_at m w h axis a) (face_in_bounds axis a br both.0 both.1) small
     by_depth axis a br false e some small = absurd (omega (arith, some))
 
 pub pairs_enclose : PairsEnclose
