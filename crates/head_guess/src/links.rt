@@ -92,6 +92,15 @@ fn ramp_count(cell: &Cell) -> usize {
         .saturating_add(cell.evaps.len())
 }
 
+// The number of all cells' links.
+fn link_count(p: &Problem) -> usize {
+    let mut count = 0_usize;
+    for cell in 0..p.len() {
+        count = count.saturating_add(p.cell(cell).links.len());
+    }
+    count
+}
+
 impl Links {
     // Adds the row of a cell, whose parts follow those of the last one.
     fn add_cell(&mut self, cell: &Cell, last: &Row) -> Result<Row, AllocError> {
@@ -126,7 +135,7 @@ impl Links {
     pub fn of(alloc: Global, p: &Problem) -> Result<Links, AllocError> {
         let mut links = Links {
             rows: Vec::with_capacity(alloc, p.len())?,
-            edges: Vec::new(alloc),
+            edges: Vec::with_capacity(alloc, link_count(p))?,
             uneven: 0,
         };
         let mut last = Row::default();
@@ -139,6 +148,11 @@ impl Links {
     /// The number of cells.
     pub fn len(&self) -> usize {
         self.rows.len()
+    }
+
+    /// The number of all cells' edges.
+    pub fn edge_count(&self) -> usize {
+        self.edges.len()
     }
 
     /// The links of a cell on the average, in hundredths.

@@ -56,9 +56,10 @@ fn add_cell(
 
 /// The matrix of these slopes, over 2^scale. A cell whose slope is 0 has no couplings.
 pub fn matrix_of(side: &OneSide, slopes: &[i64], scale: u32) -> Result<Matrix, AllocError> {
-    let mut matrix = Matrix::new(side.alloc);
+    let (links, alloc) = (side.links, side.alloc);
+    let mut matrix = Matrix::with_capacity(alloc, links.len(), links.edge_count())?;
     for cell in 0..side.len() {
-        add_cell(&mut matrix, side.links, slopes, scale, cell)?;
+        add_cell(&mut matrix, links, slopes, scale, cell)?;
     }
     Ok(matrix)
 }

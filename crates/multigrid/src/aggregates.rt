@@ -12,7 +12,7 @@ pub struct Aggregates {
 
 fn stronger(a: Option<Coupling>, b: Coupling) -> Option<Coupling> {
     match a {
-        Some(a) if a.weight >= b.weight => Some(a),
+        Some(a) if a.weight() >= b.weight() => Some(a),
         _ => Some(b),
     }
 }
@@ -31,7 +31,7 @@ impl Aggregates {
             }
         }
         let joined = match (any, free) {
-            (Some(any), Some(free)) if free.weight >= any.weight / 4 => {
+            (Some(any), Some(free)) if free.weight() >= any.weight() / 4 => {
                 put(of, free.other as usize, self.count);
                 self.count
             }

@@ -42,11 +42,11 @@ impl Merger<'_> {
         for coupling in self.matrix.couplings(&row) {
             let other = label_at(self.of, coupling.other as usize);
             if other == aggregate {
-                diagonal = diagonal.saturating_sub(coupling.weight);
+                diagonal = diagonal.saturating_sub(coupling.weight());
                 continue;
             }
             let place = at(self.places.as_slice(), other as usize);
-            let place = self.coarse.strengthen(place, other, coupling.weight)?;
+            let place = self.coarse.strengthen(place, other, coupling.weight())?;
             put(self.places.as_mut_slice(), other as usize, place);
         }
         Ok(diagonal)

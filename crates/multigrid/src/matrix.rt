@@ -1,45 +1,61 @@
 // A sparse matrix by rows.
-use crate::numbers::{at, clamp_long};
+use crate::numbers::{at, clamp_long, label};
 use std::alloc::{AllocError, Global};
 
-/// An entry off the diagonal: the other unknown, and the weight, which is negated in the matrix.
+/// An entry off the diagonal: the other unknown, and the weight, which is negated in the matrix. Its weight is in bytes, which need not be aligned, so
+/// that an entry takes 12 bytes: a solution waits for memory.
 #[derive(Clone, Copy)]
 pub struct Coupling {
     pub other: u32,
-    pub weight: i64,
+    weight: [u8; 8],
+}
+
+impl Coupling {
+    fn new(other: u32, weight: i64) -> Coupling {
+        Coupling {
+            other,
+            weight: weight.to_le_bytes(),
+        }
+    }
+
+    pub fn weight(self) -> i64 {
+        i64::from_le_bytes(self.weight)
+    }
 }
 
 /// An entry on the diagonal, at least 1, with its reciprocal, so that a quotient by it is a product.
 #[derive(Clone, Copy)]
 pub struct Pivot {
     pub weight: i64,
-    // About 2^(61 + bits) over the weight.
+    // About 2^(61 + bits) over the weight, where it has `bits` bits.
     reciprocal: i64,
-    bits: u32,
 }
 
 impl Pivot {
     fn new(weight: i64) -> Pivot {
         let weight = weight.max(1);
-        let bits = 64_u32.saturating_sub(weight.leading_zeros());
-        let power = 1_i128.wrapping_shl(bits.saturating_add(61));
+        let power = 1_i128.wrapping_shl(125_u32.saturating_sub(weight.leading_zeros()));
         let quotient = power.checked_div(weight as i128).unwrap_or(0);
         Pivot {
             weight,
             reciprocal: i64::try_from(quotient).unwrap_or(i64::MAX),
-            bits,
         }
+    }
+
+    // The bits of the weight but the first one.
+    fn later_bits(&self) -> u32 {
+        63_u32.saturating_sub(self.weight.leading_zeros())
     }
 
     /// An approximate quotient of a number by the weight.
     pub fn quotient(&self, x: i128) -> i64 {
-        let x = clamp_long(x.wrapping_shr(self.bits.saturating_sub(1)));
+        let x = clamp_long(x.wrapping_shr(self.later_bits()));
         clamp_long((x as i128 * self.reciprocal as i128).wrapping_shr(62))
     }
 
     /// The magnitude of a number over the weight, up to a factor of 2.
     pub fn size(&self, x: i128) -> u128 {
-        x.wrapping_shr(self.bits.saturating_sub(1)).unsigned_abs()
+        x.wrapping_shr(self.later_bits()).unsigned_abs()
     }
 
     pub fn times(&self, x: i64) -> i128 {
@@ -50,8 +66,8 @@ impl Pivot {
 /// A row's pivot, and the places of its couplings.
 #[derive(Clone, Copy)]
 pub struct Row {
-    first: usize,
-    end: usize,
+    first: u32,
+    end: u32,
     pub pivot: Pivot,
 }
 
@@ -73,6 +89,19 @@ impl Matrix {
         }
     }
 
+    /// A matrix with memory for as many rows and couplings.
+    pub fn with_capacity(
+        alloc: Global,
+        rows: usize,
+        couplings: usize,
+    ) -> Result<Matrix, AllocError> {
+        Ok(Matrix {
+            rows: Vec::with_capacity(alloc, rows)?,
+            couplings: Vec::with_capacity(alloc, couplings)?,
+            open: 0,
+        })
+    }
+
     pub fn len(&self) -> usize {
         self.rows.len()
     }
@@ -80,7 +109,7 @@ impl Matrix {
     /// Adds a coupling to the open row, and returns its place.
     pub fn couple(&mut self, other: u32, weight: i64) -> Result<usize, AllocError> {
         let place = self.couplings.len();
-        self.couplings.push(Coupling { other, weight })?;
+        self.couplings.push(Coupling::new(other, weight))?;
         Ok(place)
     }
 
@@ -93,7 +122,8 @@ impl Matrix {
     ) -> Result<usize, AllocError> {
         match self.couplings.as_mut_slice().get_mut(place) {
             Some(coupling) if place >= self.open && coupling.other == other => {
-                coupling.weight = coupling.weight.saturating_add(weight);
+                let sum = coupling.weight().saturating_add(weight);
+                *coupling = Coupling::new(other, sum);
                 Ok(place)
             }
             _ => self.couple(other, weight),
@@ -104,8 +134,8 @@ impl Matrix {
     pub fn close_row(&mut self, diagonal: i64) -> Result<(), AllocError> {
         let end = self.couplings.len();
         self.rows.push(Row {
-            first: self.open,
-            end,
+            first: label(self.open),
+            end: label(end),
             pivot: Pivot::new(diagonal),
         })?;
         self.open = end;
@@ -114,7 +144,9 @@ impl Matrix {
 
     /// The couplings of a row.
     pub fn couplings(&self, row: &Row) -> &[Coupling] {
-        self.couplings.get(row.first..row.end).unwrap_or(&[])
+        self.couplings
+            .get(row.first as usize..row.end as usize)
+            .unwrap_or(&[])
     }
 
     /// The sum of the other unknowns by the weights of a row's couplings.
@@ -122,7 +154,7 @@ impl Matrix {
         let mut sum = 0_i128;
         for coupling in self.couplings(row) {
             let other = at(unknowns, coupling.other as usize);
-            sum = sum.wrapping_add(coupling.weight as i128 * other as i128);
+            sum = sum.wrapping_add(coupling.weight() as i128 * other as i128);
         }
         sum
     }

@@ -76,10 +76,10 @@ impl Elimination<'_> {
         let row = matrix.row(self.pattern.unknown(column));
         let mut ground = row.pivot.weight;
         for coupling in matrix.couplings(&row) {
-            ground = ground.saturating_sub(coupling.weight);
+            ground = ground.saturating_sub(coupling.weight());
             let place = self.pattern.place(coupling.other) as usize;
             if place > column {
-                let weight = coupling.weight.max(0).unsigned_abs();
+                let weight = coupling.weight().max(0).unsigned_abs();
                 add(
                     self.weights.as_mut_slice(),
                     place,
