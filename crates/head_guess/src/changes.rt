@@ -1,5 +1,6 @@
 // How the shares of all cells change.
 use crate::branch::product;
+use crate::share::Share;
 use multigrid::numbers::list_of;
 use std::alloc::{AllocError, Global};
 
@@ -46,16 +47,16 @@ impl Changes {
     /// The longest step of all.
     pub const LONGEST: i64 = 1 << 26;
 
-    /// Each share becomes this one, in units of 2^-20.
+    /// Each share becomes this one.
     pub fn new(
         memory: &mut Result<(), AllocError>,
         alloc: Global,
         cells: usize,
-        share: i64,
+        share: Share,
     ) -> Changes {
         Changes {
             steps: list_of(memory, alloc, 0, cells),
-            changes: list_of(memory, alloc, share.saturating_mul(1 << 10), cells),
+            changes: list_of(memory, alloc, share.long(), cells),
             longest: 0,
         }
     }

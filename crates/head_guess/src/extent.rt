@@ -1,12 +1,7 @@
 // How wide the room of a problem is, and what the turns in which heads settle say of it.
 use crate::links::Links;
-use multigrid::numbers::{clamp_long, greatest};
-
-/// The places of a share.
-pub const PLACES_OF_WHOLE: u32 = 20;
-
-/// The whole of a room or of a slope, as a share.
-pub const WHOLE: i64 = 1_048_576;
+use crate::share::{Room, Share};
+use multigrid::numbers::clamp_long;
 
 // The number of turns at each cell that a trial may take, at least: heads that are settled or a little too low settle in fewer.
 const TURNS_OF_TRIAL: u64 = 16;
@@ -15,7 +10,7 @@ const TURNS_OF_TRIAL: u64 = 16;
 const MOST_TURNS_OF_TRIAL: u64 = 48;
 
 // A step up, where turns say nothing of the next share.
-const STEP: i64 = WHOLE / 64;
+const STEP: Share = Share(16_384);
 
 // Heads that start a part of 1 / n of the whole room above the lowest that settle take about n / PARTS turns of each cell more than one.
 const PARTS: i128 = 200;
@@ -53,11 +48,11 @@ pub struct Extent {
 }
 
 impl Extent {
-    /// The extent of the room at each cell, in units of 2^-10.
-    pub fn new(links: &Links, room: &[i64]) -> Extent {
+    /// The extent of a room.
+    pub fn new(links: &Links, room: &Room) -> Extent {
         let links_per_cell = links.links_per_cell().max(100) as i128;
         Extent {
-            room: greatest(room) as i128 >> 10,
+            room: room.greatest() as i128,
             cells: links.len() as u64,
             parts: EVEN_PARTS * links_per_cell / 100,
             is_plain: links.are_even() && links.are_nearly_straight(),
@@ -115,8 +110,8 @@ impl Extent {
     }
 
     /// Whether heads whose shares differ by this step are near each other.
-    pub fn are_near(&self, step: i64) -> bool {
-        let units = (step as i128).wrapping_mul(self.room).wrapping_shr(20);
+    pub fn are_near(&self, step: Share) -> bool {
+        let units = step.of(clamp_long(self.room));
         let near = if self.room >= WIDE && !self.is_widest() {
             self.room >> NEAR_BITS
         } else {
@@ -127,12 +122,12 @@ impl Extent {
 
     /// How far up a share can go that settled in these turns, a little less than these promise. Where the room is wide they promise too little:
     /// if it is not to be sure, four times as far.
-    pub fn promised_step(&self, turns: u64, is_sure: bool) -> i64 {
+    pub fn promised_step(&self, turns: u64, is_sure: bool) -> Share {
         let (turns, cells) = (turns as i128, self.cells as i128);
-        let whole = (WHOLE as i128).wrapping_mul(cells);
+        let whole = (Share::WHOLE.0 as i128).wrapping_mul(cells);
         if self.is_even() {
             let parts = turns.saturating_mul(self.parts);
-            return clamp_long(whole.checked_div(parts).unwrap_or(WHOLE as i128));
+            return Share(clamp_long(whole.checked_div(parts).unwrap_or(Share::WHOLE.0 as i128)));
         }
         let more = turns.saturating_sub(cells);
         if more <= 0 || !self.is_low(self.most_turns(true)) {
@@ -140,10 +135,10 @@ impl Extent {
         }
         let step = whole / 4 * 3;
         let sure = clamp_long(step.checked_div(more.saturating_mul(PARTS)).unwrap_or(0));
-        if is_sure {
+        Share(if is_sure {
             sure
         } else {
             sure.saturating_mul(4)
-        }
+        })
     }
 }

@@ -4,9 +4,10 @@ use crate::lower::{Lowest, lowest_below, lowest_by_rests, lowest_from};
 use crate::newton::{Until, find_balanced};
 use crate::one_side::{OneSide, Step};
 use crate::raise::raise_within;
+use crate::share::Share;
 use crate::steps::LastStep;
 use crate::work::{Work, on_side};
-use multigrid::numbers::{at, greatest};
+use multigrid::numbers::at;
 use std::alloc::AllocError;
 use step_problem::Side;
 
@@ -76,7 +77,7 @@ fn lowest_near(
 fn lowest_of(
     work: &mut Work,
     balanced: &[i64],
-    share: i64,
+    share: Share,
     last: Option<&HalfGuess>,
     kept: &mut Option<Linear>,
 ) -> Result<Option<Lowest>, AllocError> {
@@ -89,7 +90,7 @@ fn lowest_of(
         return Ok(None);
     };
     let room = linear.room(work)?;
-    let units = greatest(room).unsigned_abs() >> 10;
+    let units = room.greatest().unsigned_abs();
     let visits = units.max(VISITS_OF_DESCENT).min(MOST_VISITS_OF_DESCENT);
     let mut work = Work::new(work.side, visits);
     match lowest_below(&mut work, balanced, room, share)? {
@@ -104,7 +105,7 @@ pub fn half_guess(
     step: &Step,
     side: Side,
     start: Vec<i64>,
-    share: i64,
+    share: Share,
     last: &Option<LastStep>,
     kept: &mut Option<Linear>,
 ) -> Result<HalfGuess, AllocError> {

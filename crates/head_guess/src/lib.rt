@@ -22,6 +22,7 @@ mod raise;
 mod ramp;
 mod rest;
 mod search;
+mod share;
 mod shares;
 mod sink;
 mod slopes;

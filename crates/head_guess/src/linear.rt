@@ -1,10 +1,11 @@
 // The linear system of a round of Newton's method, with a method to solve it: conjugate gradients or elimination. It is kept while its slopes
 // hardly change, from one side to the other too.
 use crate::links::Links;
+use crate::share::Room;
 use crate::system::{matrix_of, scale_of, slack_of, visits_of_factor, visits_of_solution};
 use crate::work::Work;
 use multigrid::Levels;
-use multigrid::numbers::{greatest, shift, width};
+use multigrid::numbers::{shift, width};
 use star_mesh::{Factor, Pattern};
 use std::alloc::AllocError;
 use std::mem;
@@ -78,7 +79,7 @@ pub struct Linear {
     slack: Vec<u64>,
     // Weights are conductances over 2^scale, so that the sum of all of them fits.
     scale: u32,
-    room: Option<Vec<i64>>,
+    room: Option<Room>,
     // The visits that cycles took for its solutions.
     visits: u64,
     /// Whether cycles have left it, or one before it, unsolved.
@@ -224,7 +225,7 @@ impl Linear {
         let Some(room) = &self.room else {
             return LEAST_BITS;
         };
-        let units = width((greatest(room.as_slice()) >> 10) as i128) as i64;
+        let units = width(room.greatest() as i128) as i64;
         let bits = places.saturating_sub(units).saturating_sub(1);
         u32::try_from(bits)
             .unwrap_or(0)
@@ -244,8 +245,8 @@ impl Linear {
         is_solved
     }
 
-    // Solves for the room. Its visits say nothing of those for other solutions.
-    fn solve_room(&mut self, work: &mut Work, rounds: u32) -> Result<(), AllocError> {
+    // The room, by a solution. Its visits say nothing of those for other solutions.
+    fn solved_room(&mut self, work: &mut Work, rounds: u32) -> Result<Room, AllocError> {
         let (scale, visits) = (self.scale, self.visits);
         let rights = self.method.right_side().iter_mut();
         for (right, slope) in rights.zip(self.slopes.as_slice()) {
@@ -256,42 +257,39 @@ impl Linear {
             .map(|unknown| (*unknown >> 10).max(0))
             .collect(work.side.alloc)?;
         self.visits = visits;
-        self.room = Some(room);
-        Ok(())
+        Ok(Room(room))
     }
 
-    // Finds the room, by elimination where cycles do not solve it.
-    fn find_room(&mut self, work: &mut Work) -> Result<(), AllocError> {
+    // The room, by elimination where cycles do not solve it.
+    fn found_room(&mut self, work: &mut Work) -> Result<Room, AllocError> {
         let pattern = work.side.pattern;
         if pattern.is_none() {
-            return self.solve_room(work, FEW_ROUNDS_OF_ROOM);
+            return self.solved_room(work, FEW_ROUNDS_OF_ROOM);
         }
-        self.solve_room(work, ROUNDS_OF_ROOM)?;
+        let room = self.solved_room(work, ROUNDS_OF_ROOM)?;
         if !self.method.is_by_cycles() || self.is_solved(BITS_OF_ROOM) {
-            return Ok(());
+            return Ok(room);
         }
+        drop(room);
         let linear = Linear::new(work, self.slopes.clone()?, pattern, true)?;
         drop(mem::replace(self, linear));
-        self.solve_room(work, ROUNDS_OF_ROOM)
+        self.solved_room(work, ROUNDS_OF_ROOM)
     }
 
-    /// The room at each cell, in units of 2^-10: how far all heads move together when each cell's balance changes by its slope. It is not
-    /// negative, and is kept.
-    pub fn room(&mut self, work: &mut Work) -> Result<&[i64], AllocError> {
-        if self.room.is_none() {
-            self.find_room(work)?;
-        }
-        Ok(match &self.room {
-            Some(room) => room.as_slice(),
-            None => &[],
-        })
+    /// The room of the system, which is kept.
+    pub fn room(&mut self, work: &mut Work) -> Result<&Room, AllocError> {
+        let room = match self.room.take() {
+            Some(room) => room,
+            None => self.found_room(work)?,
+        };
+        Ok(self.room.insert(room))
     }
 
     /// Takes the room of another system, if its slopes are near.
     pub fn take_room(&mut self, other: &Linear) -> Result<(), AllocError> {
         if let (None, Some(room)) = (&self.room, &other.room) {
             if other.is_near(self.slopes.as_slice()) {
-                self.room = Some(room.clone()?);
+                self.room = Some(room.copied()?);
             }
         }
         Ok(())

@@ -1,10 +1,11 @@
 // From balanced heads down to the first settled ones.
 use crate::descend::descend;
-use crate::extent::{Extent, WHOLE};
+use crate::extent::Extent;
 use crate::linear::Linear;
 use crate::raise::raise_within;
 use crate::rest::leave_rest;
 use crate::search::{Settled, settled_below};
+use crate::share::{Room, Share};
 use crate::shares::{settled_by_shares, visits_of_cycle};
 use crate::work::Work;
 use std::alloc::AllocError;
@@ -14,11 +15,15 @@ use std::alloc::AllocError;
 pub struct Lowest {
     pub heads: Vec<i64>,
     pub order: Vec<u32>,
-    pub share: i64,
+    pub share: Share,
 }
 
 /// The first settled heads below settled ones.
-pub fn lowest_from(work: &mut Work, mut heads: Vec<i64>, share: i64) -> Result<Lowest, AllocError> {
+pub fn lowest_from(
+    work: &mut Work,
+    mut heads: Vec<i64>,
+    share: Share,
+) -> Result<Lowest, AllocError> {
     let order = descend(work, &mut heads, false, 0)?;
     Ok(Lowest {
         heads,
@@ -51,13 +56,13 @@ fn lowest_after(
     lowest_from(work, lower.unwrap_or(heads), share)
 }
 
-/// The first settled heads below balanced ones, from a share of the room, which is in units of 2^-10. They are searched for by one share for all
+/// The first settled heads below balanced ones, from a share of the room. They are searched for by one share for all
 /// cells. Where the room is one of the widest, and links have a pattern, each cell has a share of its own from the start. None where nothing settles.
 pub fn lowest_below(
     work: &mut Work,
     balanced: &[i64],
-    room: &[i64],
-    share: i64,
+    room: &Room,
+    share: Share,
 ) -> Result<Option<Lowest>, AllocError> {
     let extent = Extent::new(work.side.links, room);
     if work.side.pattern.is_some() && extent.is_widest() {
@@ -72,9 +77,9 @@ pub fn lowest_below(
 }
 
 // The share of slopes that is tried first, how much less each later one is, and how many are tried.
-const FIRST_REST: i64 = WHOLE / 4 * 3;
+const FIRST_REST: Share = Share(786_432);
 
-const STEP_OF_RESTS: i64 = WHOLE / 8;
+const STEP_OF_RESTS: Share = Share(131_072);
 
 const TRIALS_OF_RESTS: u32 = 8;
 
@@ -87,7 +92,7 @@ const TURNS_OF_REST: u64 = 48;
 fn rest_below(
     work: &mut Work,
     balanced: &[i64],
-    share: i64,
+    share: Share,
     kept: &mut Option<Linear>,
 ) -> Result<Vec<i64>, AllocError> {
     let mut heads = leave_rest(work, balanced, share, kept)?;
@@ -112,7 +117,7 @@ pub fn lowest_by_rests(
             return Ok(Some(lowest_from(work, heads, share)?));
         }
         drop(heads);
-        share = share.saturating_sub(STEP_OF_RESTS);
+        share = share.minus(STEP_OF_RESTS);
     }
     Ok(None)
 }

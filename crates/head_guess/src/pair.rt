@@ -4,13 +4,13 @@ ghost use Rattle.cell_relax.specs.{AreWords};
 
 use crate::branch::head_on;
 use crate::eliminable::MANY_CELLS;
-use crate::extent::WHOLE;
 use crate::guess::bounds_of;
 use crate::linear::{FEW_CELLS, Linear};
 use crate::links::Links;
 use crate::newton::{Until, find_balanced};
 use crate::one_side::{OneSide, Step};
 use crate::rest::leave_rest;
+use crate::share::Share;
 use crate::steps::{Kept, high_start, low_start};
 use crate::work::{Work, on_side};
 use star_mesh::Pattern;
@@ -53,7 +53,7 @@ fn is_straight_to(
 fn half_from(
     work: &mut Work,
     near: Vec<i64>,
-    share: i64,
+    share: Share,
     kept: &mut Option<Linear>,
 ) -> Result<HalfPair, AllocError> {
     let lower = leave_rest(work, near.as_slice(), share, kept)?;
@@ -67,14 +67,14 @@ fn half_pair(
     kept: &mut Option<Linear>,
 ) -> Result<HalfPair, AllocError> {
     let near = find_balanced(work, Until::Straight, start, kept)?;
-    let half = half_from(work, near, WHOLE, kept)?;
+    let half = half_from(work, near, Share::WHOLE, kept)?;
     if is_straight_to(work.side, half.lower.as_slice(), kept)? {
         return Ok(half);
     }
     let HalfPair { near, lower } = half;
     drop(lower);
     let near = find_balanced(work, Until::Balanced, near, kept)?;
-    half_from(work, near, WHOLE, kept)
+    half_from(work, near, Share::WHOLE, kept)
 }
 
 // The upper side: from the lower heads, where balances are straight between the two sides, else from heads near the balanced ones.
@@ -86,7 +86,7 @@ fn high_half(
 ) -> Result<HalfPair, AllocError> {
     let start = high_start(step, low.lower.as_slice(), &None)?;
     if is_straight_to(work.side, start.as_slice(), kept)? {
-        let half = half_from(work, start, WHOLE, kept)?;
+        let half = half_from(work, start, Share::WHOLE, kept)?;
         if is_straight_to(work.side, half.lower.as_slice(), kept)? {
             return Ok(half);
         }
@@ -113,9 +113,9 @@ fn next_half(
         .iter()
         .map(|bound| head_on(side.side, bound.low, bound.high));
     let share = if failed.tries <= TRIES_AS_NARROW {
-        WHOLE
+        Share::WHOLE
     } else {
-        2 * WHOLE
+        Share::WHOLE.plus(Share::WHOLE)
     };
     half_from(work, heads.collect(side.alloc)?, share, kept)
 }

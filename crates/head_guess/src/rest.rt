@@ -1,8 +1,7 @@
 // Heads at which a part of each slope is left as a balance.
-use crate::branch::product;
-use crate::extent::PLACES_OF_WHOLE;
 use crate::linear::Linear;
 use crate::one_side::OneSide;
+use crate::share::Share;
 use crate::work::Work;
 use multigrid::numbers::at;
 use std::alloc::AllocError;
@@ -20,9 +19,8 @@ const FEW_BITS: u32 = 0;
 
 // What is left as a balance: this share of the slope, and the part of it by which the solution may be off. Rounding changes a balance by at most
 // its slope, so that the sign of what is left is sure where balances are straight and the share is at least the whole.
-fn rest_of(slope: i64, share: i64) -> i128 {
-    let rest = product(share, slope).wrapping_shr(PLACES_OF_WHOLE);
-    rest.wrapping_add((slope >> PLACES_OF_REST.saturating_sub(BITS_OF_REST)) as i128)
+fn rest_of(slope: i64, share: Share) -> i128 {
+    share.of(slope).wrapping_add((slope >> PLACES_OF_REST.saturating_sub(BITS_OF_REST)) as i128)
 }
 
 // Heads that are moved by the correction of these balances, rounded down.
@@ -44,7 +42,7 @@ fn excess_balances(
     side: &OneSide,
     heads: &[i64],
     slopes: &mut [i64],
-    share: i64,
+    share: Share,
 ) -> Result<Vec<i128>, AllocError> {
     let mut balances = Vec::with_capacity(side.alloc, slopes.len())?;
     for (cell, slope) in slopes.iter_mut().enumerate() {
@@ -83,7 +81,7 @@ fn solved_heads(
 pub fn leave_rest(
     work: &mut Work,
     heads: &[i64],
-    share: i64,
+    share: Share,
     kept: &mut Option<Linear>,
 ) -> Result<Vec<i64>, AllocError> {
     let mut slopes = work.side.slopes(heads)?;

@@ -1,16 +1,16 @@
 // A search for settled heads below balanced ones.
-use crate::extent::{Extent, WHOLE};
+use crate::extent::Extent;
 use crate::links::Links;
 use crate::raise::raise_within;
+use crate::share::{Room, Share};
 use crate::work::Work;
-use multigrid::numbers::at;
 use std::alloc::AllocError;
 
-/// Settled heads, and how far below the balanced ones the search started: by this share of the room, in units of 2^-20.
+/// Settled heads, and how far below the balanced ones the search started: by this share of the room.
 #[derive(Drop)]
 pub struct Settled {
     pub heads: Vec<i64>,
-    pub share: i64,
+    pub share: Share,
     // The turns in which they settled.
     turns: u64,
 }
@@ -21,36 +21,38 @@ const SHARE_OF_FOUR: i64 = 686_080;
 const SHARE_OF_SIX: i64 = 660_600;
 
 /// The share to try first.
-pub fn first_share(links: &Links) -> i64 {
+pub fn first_share(links: &Links) -> Share {
     let more = links.links_per_cell().clamp(400, 600) as i64 - 400;
-    SHARE_OF_FOUR - (SHARE_OF_FOUR - SHARE_OF_SIX) * more / 200
+    Share(SHARE_OF_FOUR - (SHARE_OF_FOUR - SHARE_OF_SIX) * more / 200)
 }
+
+// The least share to try, and a 4th of the first step down, where nothing has settled.
+const LEAST: Share = Share(-262_144);
+
+const FIRST_STEP_DOWN: i64 = 4_096;
 
 const MOST_TRIALS: u32 = 60;
 
 // Trials that go up by what the turns of the last one promise; the next ones go four times as far.
 const SURE_TRIALS: u32 = 4;
 
-// A search below balanced heads, where the room is in units of 2^-10.
+// A search below balanced heads.
 #[derive(Drop)]
 struct Search<'a> {
     balanced: &'a [i64],
-    room: &'a [i64],
+    room: &'a Room,
     extent: &'a Extent,
     // The shares between which the search continues: one that settled, or the least, and one that did not, or the whole.
-    low: i64,
-    high: i64,
+    low: Share,
+    high: Share,
     trials: u32,
     found: Option<Settled>,
 }
 
 impl Search<'_> {
     // One more trial, from this share.
-    fn try_share(&mut self, work: &mut Work, share: i64) -> Result<(), AllocError> {
-        let way = |cell| {
-            let room = at(self.room, cell) as i128;
-            (share as i128).wrapping_mul(room).wrapping_shr(30)
-        };
+    fn try_share(&mut self, work: &mut Work, share: Share) -> Result<(), AllocError> {
+        let way = |cell| self.room.part(cell, share);
         let mut heads = work.side.heads_below(self.balanced, way)?;
         let most = self.extent.most_turns(self.found.is_some());
         let raised = raise_within(work, &mut heads, None, most)?;
@@ -70,26 +72,33 @@ impl Search<'_> {
     }
 
     // The next share: up in steps that the turns promise, until one share does not settle; down in steps that grow, until one settles; then the middle.
-    fn next_share(&self) -> i64 {
-        let middle = self.high.saturating_sub(self.low) / 2;
+    fn next_share(&self) -> Share {
+        let middle = self.width().0 / 2;
         let step = match &self.found {
-            Some(found) if self.high == WHOLE => {
+            Some(found) if self.high.0 == Share::WHOLE.0 => {
                 let is_sure = self.trials <= SURE_TRIALS;
-                self.extent.promised_step(found.turns, is_sure).min(middle)
+                self.extent
+                    .promised_step(found.turns, is_sure)
+                    .0
+                    .min(middle)
             }
             None if self.trials <= 3 => {
-                let step = (WHOLE / 256).wrapping_shl(self.trials.saturating_mul(2));
-                return self.high.saturating_sub(step);
+                let step = FIRST_STEP_DOWN.wrapping_shl(self.trials.saturating_mul(2));
+                return self.high.minus(Share(step));
             }
             _ => middle,
         };
-        self.low.saturating_add(step.max(1))
+        self.low.plus(Share(step.max(1)))
+    }
+
+    fn width(&self) -> Share {
+        self.high.minus(self.low)
     }
 
     // Whether the heads at both shares are near each other, or the settled ones are so low that falls by a unit cost less than one more trial.
     fn is_done(&self) -> bool {
-        let width = self.high.saturating_sub(self.low);
-        let is_near = width <= 1 || self.extent.are_near(width);
+        let width = self.width();
+        let is_near = width.0 <= 1 || self.extent.are_near(width);
         match &self.found {
             Some(found) => is_near || self.extent.is_low(found.turns),
             None => is_near && self.trials > 9,
@@ -101,16 +110,16 @@ impl Search<'_> {
 pub fn settled_below(
     work: &mut Work,
     balanced: &[i64],
-    room: &[i64],
+    room: &Room,
     extent: &Extent,
-    first: i64,
+    first: Share,
 ) -> Result<Option<Settled>, AllocError> {
     let mut search = Search {
         balanced,
         room,
         extent,
-        low: -WHOLE / 4,
-        high: WHOLE,
+        low: LEAST,
+        high: Share::WHOLE,
         trials: 0,
         found: None,
     };

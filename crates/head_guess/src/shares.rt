@@ -2,6 +2,7 @@
 use crate::changes::Changes;
 use crate::linear::Linear;
 use crate::raise::{raise_counted, raise_within};
+use crate::share::Share;
 use crate::system::visits_of_solution;
 use crate::work::Work;
 use multigrid::numbers::{at, filled_value};
@@ -53,8 +54,8 @@ struct Shares {
 }
 
 impl Shares {
-    // Balanced heads lowered by the same share for all cells, in units of 2^-20. A cell at its floor is held.
-    fn new(work: &mut Work, balanced: &[i64], share: i64) -> Result<Shares, AllocError> {
+    // Balanced heads lowered by the same share for all cells. A cell at its floor is held.
+    fn new(work: &mut Work, balanced: &[i64], share: Share) -> Result<Shares, AllocError> {
         let side = work.side;
         let mut slopes = side.slopes(balanced)?;
         for (cell, slope) in slopes.iter_mut().enumerate() {
@@ -142,11 +143,11 @@ impl Shares {
     }
 }
 
-/// Settled heads below balanced ones, by a share for each cell, which is at first the same for all, in units of 2^-20. None where they do not settle.
+/// Settled heads below balanced ones, by a share for each cell, which is at first the same for all. None where they do not settle.
 pub fn settled_by_shares(
     work: &mut Work,
     balanced: &[i64],
-    share: i64,
+    share: Share,
 ) -> Result<Option<Vec<i64>>, AllocError> {
     let mut shares = Shares::new(work, balanced, share)?;
     let is_settled = shares.settle_by_cycles(work);
