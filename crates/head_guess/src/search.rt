@@ -1,10 +1,12 @@
 // A search for settled heads below balanced ones.
 use crate::extent::Extent;
 use crate::links::Links;
+use crate::one_side::OneSide;
 use crate::raise::raise_within;
 use crate::share::{Room, Share};
 use crate::work::Work;
 use std::alloc::AllocError;
+use step_problem::Side;
 
 /// Settled heads, and how far below the balanced ones the search started: by this share of the room.
 #[derive(Drop)]
@@ -50,11 +52,21 @@ struct Search<'a> {
 }
 
 impl Search<'_> {
+    // Whether this is the first trial of the upper side: its share has settled on the lower side, unless both sides go on at once.
+    fn is_above(&self, side: &OneSide) -> bool {
+        match side.side {
+            Side::Low => false,
+            Side::High => self.trials == 0,
+        }
+    }
+
     // One more trial, from this share.
     fn try_share(&mut self, work: &mut Work, share: Share) -> Result<(), AllocError> {
         let way = |cell| self.room.part(cell, share);
         let mut heads = work.side.heads_below(self.balanced, way)?;
-        let most = self.extent.most_turns(self.found.is_some());
+        let most = self
+            .extent
+            .most_turns(self.found.is_some() || self.is_above(work.side));
         let raised = raise_within(work, &mut heads, None, most)?;
         let turns = raised.turns;
         self.trials = self.trials.saturating_add(1);
