@@ -1,0 +1,5 @@
+mod Common
+pub mod Cells
+pub mod TermSums
+pub mod Limits
+pub mod Totals
