@@ -145,3 +145,21 @@ def test_an_exhibit_has_the_plan_its_rechecks_and_the_sentence_for_a_permit(with
     assert "lowers the head at layer 1 row 1 column 2" in text and "isn't proved by machine" not in text
     for file in "recheck.py recheck_plan.py deck/plan.wel deck/h.nam look/index.html look/source.csv".split():
         assert (tmp_path / "exhibit" / file).is_file(), file
+
+
+@pytest.mark.program
+@pytest.mark.parametrize("listing, said", [("one.heads", "of another model"), ("cut.heads", "isn't whole")])
+def test_a_listing_of_another_model_and_one_that_was_cut_are_refused(listing, said, with_plans, tool, tmp_path):
+    (with_plans / "cut.heads").write_text("".join((with_plans / "one.heads").read_text().partition("STEP 2")[0]))
+    if listing == "one.heads":
+        (with_plans / "m.bas").write_text((with_plans / "m.bas").read_text().replace("1 1 1 1 -1", "1 1 0 1 -1"))
+    words = "look", with_plans / listing, tmp_path / "out", "--name", with_plans / "m.nam"
+    status, out, err = tool(*words, "--plan", with_plans / "plan.wel")
+    assert status == 2 and said in err and not (tmp_path / "out").exists(), out + err
+
+
+@pytest.mark.program
+def test_a_run_with_a_plan_has_a_listing_of_its_own_name(with_plans, tool):
+    status, out, err = tool("run", with_plans / "m.nam", "--to", "h.nam", "--plan", "plan.wel")
+    assert status == 0 and "m-h-plan.heads" in out and "drawdown: 3 steps of 5 cells" in out, out + err
+    assert is_plan_listing(with_plans / "m-h-plan.heads") and not (with_plans / "m.heads").exists()

@@ -36,7 +36,8 @@ OPTIONS = {
     "inside": ["--most x", "--heads FILE"],
     "plain": ["--dry FILE", "--as-confined", "--foo"],
     "between": ["--wells 1", "--wells 2..1", "--package FILE", "--recharge x..y", "--stage -1..1 --package LISTING"],
-    "look": ["--cell 1", "--cell 9,9,9", "--given FILE", "--minus FILE", "--zones FILE", "--name FILE", "--to NAM"],
+    "look": ["--cell 1", "--cell 9,9,9", "--given FILE", "--minus FILE", "--zones FILE", "--name FILE", "--to NAM",
+             "--name NAM --plan FILE", "--name NAM --plan plan.wel"],
     "compare": ["--csv FOLDER", "--map FILE", "--name FILE", "--zones FILE", "--csv m.wel"],
     "drawdown": ["--cell 0,0,0", "--any", "--to FILE", "--at here", "--hk 1", "--name NAM", "--base-name FILE"],
     "plans": ["--base nothing", "--cell 7,7,7"],
@@ -48,10 +49,11 @@ OPTIONS = {
     "template": ["--foo"],
     "ensemble": ["--tpl FILE --cell 1,1,1", "--tpl TPL --cell 1,1,1", "--tpl TPL --points FILE", "", "--tpl TPL"],
     "zonebudget": ["--name NAM", "--name FILE", ""],
-    "exhibit": ["--digits 99", "--to FILE"],
+    "exhibit": ["--digits 99", "--to FILE", "--plan FILE"],
     "batch": ["--jobs x", "--slurm --parallel", "--write-only --parallel"],
 }
 COUNT = 330
+PLAN = TOP / "tools" / "tests" / "plan_listing" / "one.heads"
 
 
 @pytest.fixture(scope="module")
@@ -80,6 +82,9 @@ def place(tmp_path_factory):
         "m.zon": b"INTERNAL 1 (FREE) -1\n1 2 2\n",
         "short.zon": b"INTERNAL 1 (FREE) -1\n1\n",
         "mfsim.nam": b"BEGIN TIMING\n TDIS6 x.tdis\nEND TIMING\n",
+        "plan.wel": b"1 0\n1 0\n1 1 2 -1\n",
+        "plan.heads": PLAN.read_bytes(),
+        "cut_plan.heads": PLAN.read_bytes()[:900],
     }
     for name, content in made.items():
         (folder / name).write_bytes(content)
@@ -92,7 +97,7 @@ def chosen(rng, kind):
     right = dict(nam="a.nam", listing="m.heads", hds="heads.csv", folder="out", new="new.hds", file="m.zon")
     wrong = (
         "cut.heads nan.heads refused.heads empty noise words table.csv layer.csv other.nam loop.nam m.list m.zon"
-        " short.zon mfsim.nam sub nothing a.nam m.heads a.dis a.lpf.tpl"
+        " short.zon mfsim.nam sub nothing a.nam m.heads a.dis a.lpf.tpl plan.wel plan.heads cut_plan.heads"
     )
     return right[kind] if rng.random() < 0.65 else rng.choice(wrong.split())
 

@@ -25,7 +25,7 @@ from ..deck.packages import read_deck
 from ..listing.below_top import ALL_FULL, BelowTop
 from ..listing.listing import read_listing
 from ..listing.made_by import is_quick, keep_words, kind_of
-from ..listing.spans import second_deck, target_of
+from ..listing.spans import plan_file, second_deck, target_of
 from ..listing.what_is_said import NOT_THE_MOST, words_of
 from ..listing.zones import read_zones
 from ..pages.look import look
@@ -39,7 +39,6 @@ from .exhibit_parts import (
     RECHECK_PLAN,
     Exhibit,
     add_recheck,
-    plan_file,
     shell,
     to_options,
     zone_file,
@@ -96,8 +95,8 @@ def exhibit(nam: Path, folder: Path, options: list[str], out: IO[str]) -> int:
 
 def fill(folder: Path, name: str, options: list[str], known: Version) -> tuple[int, Exhibit]:
     """Runs, checks, rechecks and draws in the exhibit's folder."""
-    listing, plan = target_of(Path(name), to_options(options)).name, plan_file(options)
-    listing = f"{Path(listing).stem}-{Path(plan[0]).stem}.heads" if plan else listing
+    plan = plan_file(options)
+    listing = target_of(Path(name), to_options(options), plan).name
     deck = f"cd deck && ../heads run {shlex.join([name, *options])}"
     ended = shell(folder, f"({deck}) > {shlex.quote(listing)}")
     ended.last = last_line(folder / listing)

@@ -8,6 +8,7 @@ import time
 from dataclasses import dataclass, field
 from pathlib import Path
 
+from ..listing.spans import value_of
 from ..listing.what_is_said import Words
 from ..pages.templates import rendered
 from ..program.program import Ended
@@ -78,14 +79,3 @@ def to_options(options: list[str]) -> list[str]:
 
 def zone_file(options: list[str]) -> list[str]:
     return value_of(options, "--zones")
-
-
-def plan_file(options: list[str]) -> list[str]:
-    """The file of a plan's wells, if the options name one."""
-    return value_of(options, "--plan")
-
-
-def value_of(options: list[str], word: str) -> list[str]:
-    return [options[n + 1] for n, each in enumerate(options[:-1]) if each == word] + [
-        each[len(word) + 1 :] for each in options if each.startswith(f"{word}=")
-    ]

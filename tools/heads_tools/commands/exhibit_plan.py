@@ -8,13 +8,14 @@ from ..common.limits import is_wide, wide_words
 from ..common.text import sha256
 from ..listing.below_top import ALL_FULL
 from ..listing.plan_listing import read_plan_listing
+from ..listing.spans import plan_file
 from ..listing.what_is_said import NOT_THE_GROUND, WHY_NOT, WHY_NOT_BETWEEN, Words
 from ..pages.weather_page import draw_plan
 from ..planning.drawdown_weather import Asked, looked_at
 from ..planning.weather_words import permit, promised, tops_of
 from ..program.program import Version, program_file
 from ..program.verdict import Verdict, has_zones
-from .exhibit_parts import RECHECK_PLAN, Exhibit, add_recheck, plan_file, shell, to_options, zone_file
+from .exhibit_parts import RECHECK_PLAN, Exhibit, add_recheck, shell, to_options, zone_file
 
 TESTS = (
     "Two tests of the listing that search for nothing and only test what is listed: one by the program, one by the "

@@ -102,8 +102,6 @@ def do_plan(args: argparse.Namespace, out: IO[str]) -> int:
     if args.given or args.minus or args.page or args.every or args.svg:
         raise Problem("--given, --minus, --page, --every and --svg go with a listing of heads")
     nam, plan, listing = existing(args.name), existing(args.plan), read_plan_listing(existing(args.listing))
-    if not listing.sources:
-        raise Problem(f"{args.listing} has no whole step: it ends with {listing.drawdown.end or 'a part of one'}")
     zones, to = existing(args.zones) if args.zones else None, second_deck(nam, args.to)
     verdict = check_listing(nam, listing.drawdown, zones, to, args.wide, plan)
     asked = Asked(nam, plan, args.to, cells={each: "" for each in args.cell}, has_wide=args.wide)

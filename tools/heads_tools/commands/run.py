@@ -11,7 +11,7 @@ from ..deck.looks import careful
 from ..deck.sizes import size_of
 from ..listing.below_top import lines_below_top
 from ..listing.made_by import made_by
-from ..listing.spans import second_deck, target_of
+from ..listing.spans import plan_file, second_deck, target_of
 from ..program import follow
 from ..program.explain import Meaning, explain
 from ..program.program import Ended, digits_of, run, with_wide
@@ -39,7 +39,8 @@ def ran(args: argparse.Namespace, options: list[str], out: IO[str]) -> Ran:
     options = [*options, *to, *flags_of(args)]
     for warning in dict.fromkeys(w for deck in (nam, *(nam.with_name(name) for name in to[1:])) for w in careful(deck)):
         print(f"CAREFUL: {warning}", file=sys.stderr)
-    target = (args.out or target_of(nam, to)).resolve()
+    plan = plan_file(options)
+    target = (args.out or target_of(nam, to, plan)).resolve()
     digits, tried, (steps, cells) = digits_of(options), [], size_of(nam)
     is_followed = steps is not None and cells * steps <= follow.MOST_WATCHED
     ended = run(nam, options, target, steps, not args.quiet, is_followed)
@@ -61,6 +62,12 @@ def ran(args: argparse.Namespace, options: list[str], out: IO[str]) -> Ran:
     meaning = explain(ended.last, nam.parent, digits, ended.steps > 0, options)
     if ended.status != 0 or not meaning.is_good:
         return without_listing(ended, meaning, target, out)
+    if plan:
+        drawdown = ended.plan_listing().drawdown
+        seconds = f"{ended.seconds:.1f} s"
+        lines = [*meaning.lines, f"drawdown: {drawdown.summary()}", f"listing {target} ({seconds}): `look` draws it"]
+        say(lines, out)
+        return Ran(0, ended.last, lines, drawdown)
     listing = ended.listing()
     for line in lines_below_top(nam, listing):
         print(f"CAREFUL: {line}", file=sys.stderr)

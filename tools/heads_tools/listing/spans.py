@@ -25,9 +25,23 @@ def second_deck(nam: Path, to: Path | None) -> list[str]:
     return ["--to", found.name]
 
 
-def target_of(nam: Path, to: list[str]) -> Path:
-    """The listing's file where none is named: that of two decks has both names."""
-    return nam.with_name(f"{nam.stem}-{Path(to[1]).stem}.heads") if to else nam.with_suffix(".heads")
+def target_of(nam: Path, to: list[str], plan: list[str] | None = None) -> Path:
+    """The listing's file where none is named: that of two decks has both names, that of a plan the name of its wells,
+    too."""
+    stems = [nam.stem, *(Path(name).stem for name in [*to[1:], *(plan or [])])]
+    return nam.with_name("-".join(stems) + ".heads") if len(stems) > 1 else nam.with_suffix(".heads")
+
+
+def plan_file(options: list[str]) -> list[str]:
+    """The file of a plan's wells, if the options of a run name one."""
+    return value_of(options, "--plan")
+
+
+def value_of(options: list[str], word: str) -> list[str]:
+    """The value that options give a word, if they have it."""
+    return [options[n + 1] for n, each in enumerate(options[:-1]) if each == word] + [
+        each[len(word) + 1 :] for each in options if each.startswith(f"{word}=")
+    ]
 
 
 def demand_decks(listing: Listing, to: list[str]) -> None:

@@ -16,6 +16,7 @@ from ..deck.differences import what_differs
 from ..deck.model import Model, model_of, read_model
 from ..deck.packages import read_deck
 from ..deck.places import Place, named_place
+from ..listing.fitting import demand_fit
 from ..listing.listing import Listing, read_listing
 from ..listing.made_by import QUICK
 from ..listing.plan_listing import PlanListing, read_plan_listing
@@ -192,6 +193,8 @@ def by_listing(
 ) -> Weathered:
     """What a plan does as the program lists it. The tighter of the listed bounds and those of the listed heads,
     subtracted, is taken: both are proved."""
+    model = read_model(folder / f"{PLAN}.nam")
+    demand_fit(listing.drawdown, model)
     weather, effects, branches = Weather(base, high), list[Effect](), []
     for n, step in enumerate(listing.drawdown.steps):
         one, two = listing.base.steps[n], listing.planned.steps[n]
@@ -200,11 +203,8 @@ def by_listing(
         effects.append(Effect(step.period, step.step, low, high_, sources))
         heads = heads_of(listing.base, listing.planned, step.period, (step.step,))
         branches.append(weather.branches(step.period - 1, heads))
-    model, heads_listed = read_model(folder / f"{PLAN}.nam"), [listing.base, listing.planned]
-    ramps = ramps_of(branches)
-    return Weathered(
-        asked, base, high, plan, listing.drawdown, heads_listed, [verdict], effects, model, ramps, is_listed=True
-    )
+    both, ramps = [listing.base, listing.planned], ramps_of(branches)
+    return Weathered(asked, base, high, plan, listing.drawdown, both, [verdict], effects, model, ramps, is_listed=True)
 
 
 def find_cells(asked: Asked, base: Spelled) -> None:
