@@ -15,8 +15,8 @@ from heads_tools.listing.plan_listing import is_plan_listing, read_plan_listing
 DECKS = TOOLS / "tests" / "plan_listing"
 SCRIPT = """#!/bin/sh
 case "$1 $*" in
-  "run "*--plan*--to*) cat '{decks}/two.heads' ;;
-  "run "*--plan*) grep -v ^ZONE '{decks}/one.heads' ;;
+  "run "*--plan*--to*) cat '{decks}/two.txt' ;;
+  "run "*--plan*) grep -v ^ZONE '{decks}/one.txt' ;;
   "check "*--plan*) echo CERTIFIED ;;
   *) exec '{program}' "$@" ;;
 esac
@@ -44,7 +44,7 @@ def rows(path):
 
 
 def test_it_is_read():
-    listing = read_plan_listing(DECKS / "two.heads")
+    listing = read_plan_listing(DECKS / "two.txt")
     assert listing.drawdown.is_span and listing.drawdown.end == "END" and len(listing.drawdown.steps) == 3
     last = listing.drawdown.steps[-1]
     at = listing.drawdown.at((1, 1, 2))
@@ -57,12 +57,12 @@ def test_it_is_read():
 
 
 def test_flows_between_zones_are_read():
-    last = read_plan_listing(DECKS / "one.heads").drawdown.steps[-1]
+    last = read_plan_listing(DECKS / "one.txt").drawdown.steps[-1]
     assert last.zones[0] == (1, 2, -4367802316666754022713, -4367802099999825287916)
 
 
 def test_one_that_ended_early_is_read_as_far_as_its_steps_are_whole(decks):
-    lines = (decks / "one.heads").read_text().split("\n")
+    lines = (decks / "one.txt").read_text().split("\n")
     at = max(n for n, line in enumerate(lines) if line.startswith("STEP"))
     (decks / "part.heads").write_text("\n".join(lines[: at + 5]))
     assert len(read_plan_listing(decks / "part.heads").sources) == 2
@@ -78,22 +78,22 @@ def test_one_that_ended_early_is_read_as_far_as_its_steps_are_whole(decks):
     ],
 )
 def test_a_spoilt_line_is_named(old, new, said, decks):
-    (decks / "spoilt.heads").write_text((decks / "one.heads").read_text().replace(old, new, 1))
+    (decks / "spoilt.heads").write_text((decks / "one.txt").read_text().replace(old, new, 1))
     with pytest.raises(Problem, match=said):
         read_plan_listing(decks / "spoilt.heads")
 
 
 def test_it_is_no_listing_of_heads():
-    assert is_plan_listing(DECKS / "one.heads")
+    assert is_plan_listing(DECKS / "one.txt")
     with pytest.raises(Problem, match="what a plan does"):
-        read_listing(DECKS / "one.heads")
+        read_listing(DECKS / "one.txt")
 
 
 @pytest.mark.program
 def test_look_draws_it_with_its_own_numbers(with_plans, tool, tmp_path):
-    words = "look", with_plans / "two.heads", tmp_path / "out", "--name", with_plans / "m.nam"
+    words = "look", with_plans / "two.txt", tmp_path / "out", "--name", with_plans / "m.nam"
     status, out, err = tool(*words, "--plan", with_plans / "plan.wel", "--to", "h.nam", "--cell", "1,1,4")
-    assert status == 0 and "CERTIFIED (two.heads)" in out and "isn't proved" not in out, out + err
+    assert status == 0 and "CERTIFIED (two.txt)" in out and "isn't proved" not in out, out + err
     assert "DRAWDOWN 1 1 4 0.100407018 0.240664253" in out
     assert "SOURCE 3.012210539999899592982 7.219927590000240664253 CONSTANT HEAD" in out
     last = rows(tmp_path / "out" / "drawdown.csv")[-4]
@@ -103,7 +103,7 @@ def test_look_draws_it_with_its_own_numbers(with_plans, tool, tmp_path):
 
 @pytest.mark.program
 def test_look_shows_what_flows_more_between_zones(with_plans, tool, tmp_path):
-    words = "look", with_plans / "one.heads", tmp_path / "out", "--name", with_plans / "m.nam"
+    words = "look", with_plans / "one.txt", tmp_path / "out", "--name", with_plans / "m.nam"
     status, out, err = tool(*words, "--plan", with_plans / "plan.wel", "--zones", with_plans / "m.zon")
     page = (tmp_path / "out" / "index.html").read_text()
     assert status == 0 and "What flows more between zones" in page and "-4.368" in page, out + err
@@ -111,7 +111,7 @@ def test_look_shows_what_flows_more_between_zones(with_plans, tool, tmp_path):
 
 @pytest.mark.program
 def test_look_asks_for_the_deck_and_the_wells(with_plans, tool, tmp_path):
-    status, out, err = tool("look", with_plans / "one.heads", tmp_path / "out")
+    status, out, err = tool("look", with_plans / "one.txt", tmp_path / "out")
     assert status == 2 and "--name and --plan" in err and not (tmp_path / "out").exists(), out + err
 
 
@@ -148,10 +148,10 @@ def test_an_exhibit_has_the_plan_its_rechecks_and_the_sentence_for_a_permit(with
 
 
 @pytest.mark.program
-@pytest.mark.parametrize("listing, said", [("one.heads", "of another model"), ("cut.heads", "isn't whole")])
+@pytest.mark.parametrize("listing, said", [("one.txt", "of another model"), ("cut.heads", "isn't whole")])
 def test_a_listing_of_another_model_and_one_that_was_cut_are_refused(listing, said, with_plans, tool, tmp_path):
-    (with_plans / "cut.heads").write_text("".join((with_plans / "one.heads").read_text().partition("STEP 2")[0]))
-    if listing == "one.heads":
+    (with_plans / "cut.heads").write_text("".join((with_plans / "one.txt").read_text().partition("STEP 2")[0]))
+    if listing == "one.txt":
         (with_plans / "m.bas").write_text((with_plans / "m.bas").read_text().replace("1 1 1 1 -1", "1 1 0 1 -1"))
     words = "look", with_plans / listing, tmp_path / "out", "--name", with_plans / "m.nam"
     status, out, err = tool(*words, "--plan", with_plans / "plan.wel")

@@ -1,7 +1,7 @@
 """recheck_plan.py: it holds what an independent program listed of a plan, and names what was spoilt.
 
 The decks of plan_listing/ have a river that the plan leaves dry in one weather and not in the other, a drain,
-evapotranspiration between its elevations, a general head, a constant one and storage. one.heads is of m.nam, two.heads
+evapotranspiration between its elevations, a general head, a constant one and storage. one.txt is of m.nam, two.txt
 of m.nam and h.nam: both made in whole numbers by a program in Python that shares no code with `heads` or these tools.
 """
 import re
@@ -13,7 +13,7 @@ import pytest
 from conftest import TOOLS
 
 SCRIPT, DECKS = TOOLS / "recheck_plan.py", TOOLS / "tests" / "plan_listing"
-ONE, TWO = ("one.heads", "m.zon"), ("two.heads", "--to", "h.nam")
+ONE, TWO = ("one.txt", "m.zon"), ("two.txt", "--to", "h.nam")
 
 
 @pytest.fixture
@@ -90,7 +90,7 @@ def test_ends_of_a_drawdown_that_are_exchanged_are_noticed(decks):
         words = line.split(" ")
         return " ".join([*words[:4], words[5], words[4]]) if line.startswith("DRAWDOWN 1 1 2") else line
 
-    spoilt(decks, "two.heads", exchanged)
+    spoilt(decks, "two.txt", exchanged)
     assert recheck(decks, *TWO)[0] == 1
 
 
@@ -101,9 +101,9 @@ def test_wells_that_are_taken_off_in_place_of_added_are_noticed(decks):
 
 
 def test_a_listing_of_two_decks_is_none_of_one(decks):
-    assert recheck(decks, "two.heads")[0] == 1 and recheck(decks, "one.heads", "--to", "h.nam")[0] == 1
+    assert recheck(decks, "two.txt")[0] == 1 and recheck(decks, "one.txt", "--to", "h.nam")[0] == 1
 
 
 def test_other_words_and_what_cannot_be_read_have_their_status(decks):
-    assert recheck(decks, "one.heads", "m.zon", "and", "more")[0] == 3
-    assert recheck(decks, "one.heads", "m.zon", wells="none.wel")[0] == 2
+    assert recheck(decks, "one.txt", "m.zon", "and", "more")[0] == 3
+    assert recheck(decks, "one.txt", "m.zon", wells="none.wel")[0] == 2

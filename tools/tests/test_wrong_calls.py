@@ -53,7 +53,7 @@ OPTIONS = {
     "batch": ["--jobs x", "--slurm --parallel", "--write-only --parallel"],
 }
 COUNT = 330
-PLAN = TOP / "tools" / "tests" / "plan_listing" / "one.heads"
+PLAN = TOP / "tools" / "tests" / "plan_listing" / "one.txt"
 
 
 @pytest.fixture(scope="module")
