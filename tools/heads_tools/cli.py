@@ -35,6 +35,7 @@ def parser(loaded: Iterable[str] = HELP) -> Parser:
     commands = top.add_subparsers(dest="command", metavar="COMMAND", required=True)
     for name, text in HELP.items():
         sub = commands.add_parser(name, help=text, description=text)
+        sub.set_defaults(own=sub)
         if name in loaded:
             command(name).add(sub)
     return top
@@ -93,7 +94,7 @@ def main(words: list[str] | None = None) -> int:
         args, rest = top.parse_known_args(joined(given))
         take_folder(args, rest)
         if rest and args.command not in PASSING:
-            top.error(f"unknown words: {' '.join(rest)}")
+            args.own.error(f"unknown words: {' '.join(rest)}")
         if threading.current_thread() is threading.main_thread():
             signal.signal(signal.SIGTERM, stop)
             if signal.getsignal(signal.SIGINT) is signal.SIG_DFL:

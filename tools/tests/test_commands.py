@@ -311,3 +311,8 @@ def test_each_command_stands_in_the_man_page_and_in_the_readme():
 def test_the_version_is_told(tool):
     status, out, err = tool("--version")
     assert status == 0 and out == "heads-tools 0.1.0\n" and "version: 0.1.0" in (TOP / "CITATION.cff").read_text()
+
+
+def test_an_unknown_word_shows_the_words_of_its_own_command(tool):
+    status, out, err = tool("observe", "a", "b", "--name", "m.nam", "--csv", "c")
+    assert status == 2 and "usage: heads-tools observe" in err and "unknown words: --csv c" in err, out + err

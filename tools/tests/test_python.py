@@ -116,6 +116,8 @@ def test_what_is_shown_of_an_object_is_one_line(tide, tmp_path):
     for text, due in shown.items():
         assert "\n" not in text and len(text) < 100
         assert text.split(":")[0].split(" of ")[0] == due.split(":")[0].split(" of ")[0], text
+    assert repr(model) == "<model m.nam: 1 x 1 x 60 cells, 48 time steps>"
+    assert repr(heads_tools.check(nam, listing)) == f"<{listing.path.name}: CERTIFIED>"
 
 
 def test_an_editable_install_gives_the_package_and_its_commands(tmp_path):

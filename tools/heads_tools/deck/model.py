@@ -7,7 +7,7 @@ from pathlib import Path
 
 import numpy as np
 
-from ..common.text import LENGTHS, TIMES, Problem
+from ..common.text import LENGTHS, TIMES, Problem, counted
 from .deck import Deck
 from .packages import read_deck
 
@@ -36,7 +36,7 @@ class Model:
 
     def __repr__(self) -> str:
         nlay, nrow, ncol = self.shape
-        return f"<model {self.deck.path.name}: {nlay} x {nrow} x {ncol} cells, {len(self.times)} time steps>"
+        return f"<model {self.deck.path.name}: {nlay} x {nrow} x {ncol} cells, {counted(len(self.times), 'time step')}>"
 
     @property
     def shape(self) -> tuple[int, int, int]:

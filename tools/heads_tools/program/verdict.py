@@ -29,7 +29,7 @@ UNCHECKED_ZONES = "The flows between zones weren't checked: no zone file was nam
 MOST_NAME = 255
 
 
-@dataclass(frozen=True)
+@dataclass(frozen=True, repr=False)
 class Verdict:
     """`status`: that of `heads check`, None where it wasn't called; `last`: its last line, or why it wasn't called;
     `name`: the listing's file; `has_zones`: whether the listing has lines ZONE; `is_zoned`: whether the check was given
@@ -48,6 +48,9 @@ class Verdict:
     model: str = ""
     program: str = ""
     is_plan: bool = False
+
+    def __repr__(self) -> str:
+        return f"<{self.name}: {'not checked' if self.status is None else self.last}>"
 
     @property
     def is_certified(self) -> bool:
