@@ -99,6 +99,8 @@ def test_look_draws_it_with_its_own_numbers(with_plans, tool, tmp_path):
     last = rows(tmp_path / "out" / "drawdown.csv")[-4]
     assert (last["drawdown_lower"], last["drawdown_upper"]) == ("0.456001505", "0.979309253")
     assert "sums_lower" not in rows(tmp_path / "out" / "source.csv")[0]
+    page = (tmp_path / "out" / "index.html").read_text()
+    assert "m.nam: 1 x 1 x 5 cells" in page and page.count(read_plan_listing(DECKS / "two.txt").drawdown.sha256) == 1
 
 
 @pytest.mark.program

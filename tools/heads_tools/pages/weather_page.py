@@ -36,7 +36,7 @@ from .drawdown_page import MOST_MAPS, scale_of
 from .looking import plan_for
 from .map_page import NAME, write_weather_map
 from .page import Page, write_page
-from .page_facts import facts_of, facts_of_making
+from .page_facts import Facts, facts_of, facts_of_making
 from .pictures import Album
 
 NOTES = "drawdown.txt"
@@ -160,15 +160,22 @@ def spelled_as(it: Weathered) -> str:
     return f"base.nam is {it.base.name}{other}, as `heads write` puts it.{wells}{steps}"
 
 
+def facts_of_listings(it: Weathered) -> Facts:
+    """What the listings are: one of all three, or that of the difference decks and those of both plans' heads."""
+    if it.is_listed:
+        size = " x ".join(map(str, it.model.shape))
+        model = f"{it.base.name}: {size} cells (layers, rows, columns)"
+        return [*facts_of(it.listing, unit(it), None, "Drawdown"), ("Drawdown's model", model)]
+    both = (fact for name, each in zip(("Base", "Plan"), it.heads) for fact in facts_of(each, unit(it), None, name))
+    return [*facts_of(it.listing, unit(it), it.model, "Difference"), *both]
+
+
 def draw(it: Weathered, folder: Path, files: list[str], at_well: list[str], again: list[str]) -> None:
     """The page. `again`: how the listings are made once more."""
     page = Page(f"{it.asked.base.name}: what {it.plan.name} does, {it.weather}", files=files)
-    page.verdict, page.is_good = verdict_of(it), None if it.is_certified else False
-    page.facts = [
-        *facts_of(it.listing, unit(it), it.model, "Drawdown" if it.is_listed else "Difference"),
-        *(fact for name, each in zip(("Base", "Plan"), it.heads) for fact in facts_of(each, unit(it), None, name)),
-        *facts_of_making(it.verdicts),
-    ]
+    page.verdict = verdict_of(it)
+    page.is_good = False if not it.is_certified else True if it.is_listed else None
+    page.facts = [*facts_of_listings(it), *facts_of_making(it.verdicts)]
     for text in sentences(it)[1:]:
         page.say(text)
     for text in may_be_said(it):

@@ -106,8 +106,8 @@ def sentences(it: Weathered) -> list[str]:
     shown = int(((last.low > 0) | (last.high < 0)).sum())
     out.append(f"At {counted(shown, 'cell')} of {len(last.low)} the bounds show that the plan changes the head.")
     for cell, name in it.asked.cells.items():
-        head = f"{name}: " if name else ""
-        out.append(f"{head}at the end of {when(it, last)} {change_at(it, last, it.listing.at(cell))}.")
+        begin = f"{name}: at" if name else "At"
+        out.append(f"{begin} the end of {when(it, last)} {change_at(it, last, it.listing.at(cell))}.")
     return [*out, *tops_of(it)]
 
 
