@@ -9,6 +9,7 @@ from pathlib import Path
 
 import numpy as np
 
+from ..common.marks import plain
 from ..common.text import Problem, counted
 from .listing import PLAN_FIRST, Listing, Step, bad_line, flow_of, forms_of, listing_bytes, steps_in
 
@@ -44,7 +45,8 @@ class PlanListing:
 
 def is_plan_listing(path: Path) -> bool:
     """Whether a file begins as a plan's listing does."""
-    return listing_bytes(path).startswith(f"{PLAN_FIRST} ".encode())
+    with open(path, "rb") as file:
+        return plain(file.read(64))[0].startswith(f"{PLAN_FIRST} ".encode())
 
 
 def read_plan_listing(path: str | Path) -> PlanListing:
