@@ -11,7 +11,7 @@ import numpy as np
 from .answers import Answer, Cells, Span, arguments, call, cells_of, made, span_of
 from .commands.shared import existing, guarded, listing_of
 from .deck.model import Model
-from .listing.listing import Listing, read_listing
+from .listing.listing import Listing
 from .listing.spans import second_deck
 from .planning.drawdown_weather import written_by
 from .program.verdict import Verdict, check_listing
