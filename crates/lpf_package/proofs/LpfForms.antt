@@ -1,8 +1,8 @@
 -- What a file of the layer-property flow package gives.
 use Rattle.lpf_package.proofs.Common.{◌≡◌, ℕ, ◌*◌, Bool, true, false, cond, List, length, All, Ok, refl, arith, ◌+◌, not, [], replicate, FileSet, Left}
 use Rattle.lpf_package.proofs.Common.{left_from, without_comments, zero_list, real_layer, is_transient, contents_of, with_contents, lpf_of, SameBut, layers_of}
-use Rattle.lpf_package.proofs.Common.{storage_layer, properties_of, nth_layer, layer_at, settings_of, HasFlow, option_line, if◌then◌else◌, ok_gives_only}
-use Rattle.lpf_package.proofs.Common.{goes_on, then_, gives_only_less, GivesOnly, counted_gives}
+use Rattle.lpf_package.proofs.Common.{storage_layer, properties_of, joined_properties, nth_layer, layer_at, settings_of, HasFlow, option_line, if◌then◌else◌}
+use Rattle.lpf_package.proofs.Common.{ok_gives_only, goes_on, then_, gives_only_less, GivesOnly, counted_gives}
 use Rattle.decimal_input.specs.{IsDec}
 use Rattle.model_types.specs.declared.grid.Grid.{Grid}
 use Rattle.model_types.specs.declared.model.FlowModel.{FlowModel}
@@ -21,7 +21,7 @@ use Rattle.lpf_package.specs.declared.layer.Layer.{Layer}
 
 -- What is read of the properties of layers.
 -- the properties of one layer of this many cells
-record IsLayer (cells : ℕ) (x : Layer) (p : Properties) : Type 0 where
+pub record IsLayer (cells : ℕ) (x : Layer) (p : Properties) : Type 0 where
   pub hk : (length p.hk ≡ cells) × All IsDec p.hk
   pub hani : (length p.hani ≡ cells) × All IsDec p.hani
   pub vka : (length p.vka ≡ cells) × All IsDec p.vka
@@ -39,7 +39,7 @@ module _ (files : FileSet) (file : List ℕ) where
   unfolding storage_layer
   storage_is x left = storage_by x.stores x.rows x.cols left
 
-  properties_are : (x : Layer) (left : Left) → IsDec x.chani → GivesOnly (λ y. IsLayer (x.rows * x.cols) x y.0) (properties_of files file x left)
+  pub properties_are : (x : Layer) (left : Left) → IsDec x.chani → GivesOnly (λ y. IsLayer (x.rows * x.cols) x y.0) (properties_of files file x left)
   unfolding properties_of
   properties_are x left chani =
       then_ _ (layer_is files file x.rows x.cols left) (λ hk a. then_ _ (layer_or_is files file x.rows x.cols (not (is_positive x.chani)) x.chani hk.1 chani)
@@ -55,6 +55,30 @@ pub record AreProperties (g : Grid) (stores : Bool) (i : ℕ) (p : Properties) :
   pub vkcb : All IsDec p.vkcb
   pub beds : AreLayers (layer_size g) (IsBedLayer g.laycbd (layer_size g)) i p.vkcb
 
+module _ (g : Grid) (stores : Bool) where
+  -- before the first layer
+  pub no_properties : AreProperties g stores 0 (record { hk = []; hani = []; vka = []; ss = []; vkcb = [] })
+  no_properties = record {
+    hk = (omega arith, All-nil IsDec);
+    hani = (omega arith, All-nil IsDec);
+    vka = (omega arith, All-nil IsDec);
+    ss = (omega arith, All-nil IsDec);
+    vkcb = All-nil IsDec;
+    beds = no_layers (layer_size g) (IsBedLayer g.laycbd (layer_size g));
+  }
+
+  -- one more layer
+  pub joined_are : (chani : List Dec) (i : ℕ) (above p : Properties) → AreProperties g stores i above → IsLayer (layer_size g) (nth_layer g chani stores i) p →
+      AreProperties g stores (i + 1) (joined_properties above p)
+  joined_are chani i above p so more = record {
+    hk = one_more IsDec (layer_size g) i above.hk p.hk so.hk more.hk;
+    hani = one_more IsDec (layer_size g) i above.hani p.hani so.hani more.hani;
+    vka = one_more IsDec (layer_size g) i above.vka p.vka so.vka more.vka;
+    ss = one_more IsDec (cond stores (layer_size g) 0) i above.ss p.ss so.ss more.ss;
+    vkcb = All-append IsDec above.vkcb p.vkcb so.vkcb more.vkcb.1;
+    beds = one_more_layer (layer_size g) (IsBedLayer g.laycbd (layer_size g)) i above.vkcb p.vkcb so.beds more.vkcb.0 more.bed;
+  }
+
 module _ (files : FileSet) (file : List ℕ) (g : Grid) (chani : List Dec) (stores : Bool) (decimals : All IsDec chani) where
   abbrev Are : ℕ → Properties × Left → Type 0
   Are i s = AreProperties g stores i s.0
@@ -62,31 +86,18 @@ module _ (files : FileSet) (file : List ℕ) (g : Grid) (chani : List Dec) (stor
   one_layer : (i : ℕ) (s : Properties × Left) → Are i s → GivesOnly (Are (i + 1)) (layer_at files file g chani stores i s)
   unfolding layer_at
   one_layer i s so =
-      then_ _ (properties_are files file (nth_layer g chani stores i) s.1 (dec_at_is chani i decimals)) (λ x p. ok_gives_only (record {
-        hk = one_more IsDec (layer_size g) i s.0.hk x.0.hk so.hk p.hk;
-        hani = one_more IsDec (layer_size g) i s.0.hani x.0.hani so.hani p.hani;
-        vka = one_more IsDec (layer_size g) i s.0.vka x.0.vka so.vka p.vka;
-        ss = one_more IsDec (cond stores (layer_size g) 0) i s.0.ss x.0.ss so.ss p.ss;
-        vkcb = All-append IsDec s.0.vkcb x.0.vkcb so.vkcb p.vkcb.1;
-        beds = one_more_layer (layer_size g) (IsBedLayer g.laycbd (layer_size g)) i s.0.vkcb x.0.vkcb so.beds p.vkcb.0 p.bed;
-      }))
+      then_ _ (properties_are files file (nth_layer g chani stores i) s.1 (dec_at_is chani i decimals))
+      (λ x p. ok_gives_only (joined_are g stores chani i s.0 x.0 so p))
 
   pub layers_are : (count : ℕ) (left : Left) → GivesOnly (Are count) (layers_of files file g chani stores count left)
   unfolding layers_of
   layers_are count left =
-      counted_gives (layer_at files file g chani stores) Are one_layer count _ (record {
-        hk = (omega arith, All-nil IsDec);
-        hani = (omega arith, All-nil IsDec);
-        vka = (omega arith, All-nil IsDec);
-        ss = (omega arith, All-nil IsDec);
-        vkcb = All-nil IsDec;
-        beds = no_layers (layer_size g) (IsBedLayer g.laycbd (layer_size g));
-      })
+      counted_gives (layer_at files file g chani stores) Are one_layer count _ (no_properties g stores)
 
 -- where there is storage, as many as there are cells
-stored : (g : Grid) (stores : Bool) (n : ℕ) → n ≡ g.layers * cond stores (layer_size g) 0 → n ≡ cond stores (cell_count g) 0
-stored g true n h = h
-stored g false n h = omega (arith, h)
+pub cells_stored : (g : Grid) (stores : Bool) (n : ℕ) → n ≡ g.layers * cond stores (layer_size g) 0 → n ≡ cond stores (cell_count g) 0
+cells_stored g true n h = h
+cells_stored g false n h = omega (arith, h)
 
 module _ (files : FileSet) (file : List ℕ) where
   settings_are : (layers : ℕ) (left : Left) → GivesOnly (λ x. All IsDec x.0.chani × ((length x.0.layvka ≡ layers) × All IsShort x.0.layvka)) (settings_of file layers left)
@@ -103,14 +114,14 @@ module _ (files : FileSet) (file : List ℕ) where
       goes_on (option_line file (without_comments (left_from 1 bytes))) _ (λ coefficient e. then_ _ (settings_are g.layers coefficient.1)
       (λ settings s. then_ _ (layers_are files file g settings.0.chani stores s.0 g.layers settings.1) (λ layers p. ok_gives_only (s.1, p))))
 
-  has_flow : (m : FlowModel) (c : Contents) → (length c.layvka ≡ m.grid.layers) × All IsShort c.layvka →
+  pub has_flow : (m : FlowModel) (c : Contents) → (length c.layvka ≡ m.grid.layers) × All IsShort c.layvka →
       AreProperties m.grid (is_transient m.periods) m.grid.layers c.properties → HasFlow (with_contents m c)
   has_flow m c layvka are = record {
     layvka = layvka;
     hk = are.hk;
     hani = are.hani;
     vka = are.vka;
-    ss = (stored m.grid (is_transient m.periods) (length c.properties.ss) are.ss.0, are.ss.1);
+    ss = (cells_stored m.grid (is_transient m.periods) (length c.properties.ss) are.ss.0, are.ss.1);
     vkcb = (are.beds.count, are.vkcb);
     beds = are.beds.each;
   }

@@ -5,6 +5,6 @@ mod layer;
 mod model;
 mod settings;
 
-pub use layer::Properties;
+pub use layer::{Layer, Properties, add_layer, properties_of};
 pub use model::{Contents, is_transient, read_lpf};
 pub use settings::Settings;

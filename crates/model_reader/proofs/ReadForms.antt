@@ -1,7 +1,8 @@
 -- A model that is read, in reading order.
 use Rattle.model_reader.proofs.Common.{All, List, Ok, subst, sym, ℕ, ◌≡◌, All-weaker, ok_gives_only, goes_on, then_, gives_only_less, GivesOnly, HasBasics}
 use Rattle.model_reader.proofs.Common.{check_result, StartHead, Thickness, IsStarted, dis_is, HasFlow, SameBut, bas_in, basics_tested, dis_in, lpf_in, model_of}
-use Rattle.model_reader.proofs.Common.{names_in, needed_file, reads, IsTimed, Limits, FlowModel, Pairs, Bas, Dis, Lpf, FileSet, file_at}
+use Rattle.model_reader.proofs.Common.{names_in, needed_file, reads, stresses, with_stresses, IsTimed, Limits, FlowModel, Pairs, Bas, Dis, Lpf, FileSet}
+use Rattle.model_reader.proofs.Common.{file_at}
 use Rattle.bas_package.proofs.BasForms.{bas_is}
 use Rattle.number_limits.specs.declared.passing.Check.TheVariants.{Properties as PropertyCheck}
 use Rattle.lpf_package.proofs.LpfForms.{lpf_is}
@@ -10,7 +11,7 @@ use Rattle.model_reader.proofs.PeriodForms.{IsKnown, IsOption}
 use Rattle.model_reader.proofs.StageForms.{IsStressed, first_stage, stresses_are}
 
 -- a model with IBOUND and STRT that passed the tests of thickness and of starting heads
-record IsTested (dis bas : List ℕ) (begun basic : FlowModel) : Type 0 where
+pub record IsTested (dis bas : List ℕ) (begun basic : FlowModel) : Type 0 where
   pub basics : HasBasics begun basic
   pub thick : check_result basic dis Thickness ≡ Ok tt
   pub heads : check_result basic bas StartHead ≡ Ok tt
@@ -28,7 +29,7 @@ read_with limits core m f s =
     (record { sound = sound_again limits core s.nrchop s.nevtop m.periods s.stage.same times f.sound; options = s.options; each = s.stage.each })
 
 module _ (limits : Limits) (files : FileSet) where
-  begun_is : (dis : List ℕ) → GivesOnly (IsStarted limits) (dis_in limits files dis)
+  pub begun_is : (dis : List ℕ) → GivesOnly (IsStarted limits) (dis_in limits files dis)
   unfolding dis_in
   begun_is dis = goes_on (file_at files dis) _ (λ bytes e. dis_is limits files dis bytes)
 
@@ -36,7 +37,7 @@ module _ (limits : Limits) (files : FileSet) where
   unfolding basics_tested
   both_tested dis bas basic = goes_on (check_result basic dis Thickness) _ (λ thick a. record { gives = λ u b. (a, b) })
 
-  basic_is : (dis bas : List ℕ) (begun : FlowModel) → GivesOnly (IsTested dis bas begun) (bas_in files dis bas begun)
+  pub basic_is : (dis bas : List ℕ) (begun : FlowModel) → GivesOnly (IsTested dis bas begun) (bas_in files dis bas begun)
   unfolding bas_in
   basic_is dis bas begun =
       goes_on (file_at files bas) _ (λ bytes e. then_ _ (bas_is files bas bytes begun) (λ basic is. then_ _ (both_tested dis bas basic)
@@ -47,15 +48,22 @@ module _ (limits : Limits) (files : FileSet) where
   lpf_read lpf basic =
       goes_on (file_at files lpf) _ (λ bytes a. then_ _ (lpf_is files lpf bytes basic) (λ flow is. goes_on (check_result flow lpf PropertyCheck) _ (λ good b. ok_gives_only (is.0, is.1, b))))
 
+  -- what the packages of stresses make of a model whose properties were read and passed their tests
+  pub stressed_is : (names : Pairs) (dis bas lpf : List ℕ) (begun basic flow : FlowModel) → IsStarted limits begun → IsTested dis bas begun basic → HasFlow flow →
+      SameBut basic flow → check_result flow lpf PropertyCheck ≡ Ok tt →
+      GivesOnly (λ m. IsRead limits m × IsStressed limits flow m) (with_stresses limits files names stresses flow)
+  stressed_is names dis bas lpf begun basic flow a b has same good =
+      let f = flow_is limits begun basic flow dis bas lpf a b.basics has same b.thick b.heads good in
+      gives_only_less (stresses_are limits flow f.sound.discretized.grid.size files names (first_stage limits flow f.options.0 f.options.1 f.new)) (λ m s. (read_with limits flow m f s, s))
+
   pub model_is : (names : Pairs) → GivesOnly (IsRead limits) (model_of limits files names)
   unfolding model_of
   model_is names =
       let dis = needed_file Dis names in
       let bas = needed_file Bas names in
       let lpf = needed_file Lpf names in
-      then_ _ (begun_is dis) (λ begun a. then_ _ (basic_is dis bas begun) (λ basic b. then_ _ (lpf_read lpf basic) (λ flow c.
-      let f = flow_is limits begun basic flow dis bas lpf a b.basics c.0 c.1 b.thick b.heads c.2 in
-      gives_only_less (stresses_are limits flow f.sound.discretized.grid.size files names (first_stage limits flow f.options.0 f.options.1 f.new)) (λ m s. read_with limits flow m f s))))
+      then_ _ (begun_is dis) (λ begun a. then_ _ (basic_is dis bas begun) (λ basic b. then_ _ (lpf_read lpf basic)
+      (λ flow c. gives_only_less (stressed_is names dis bas lpf begun basic flow a b c.0 c.1 c.2) (λ m r. r.0))))
 
   pub read_is : (name : List ℕ) → GivesOnly (IsRead limits) (reads limits files name)
   unfolding reads

@@ -35,7 +35,7 @@ pub fn dis_in<F: Folder>(
 }
 
 /// The model, if its cells pass a check.
-fn check_model(
+pub fn check_model(
     alloc: Global,
     model: FlowModel,
     file: &str,
