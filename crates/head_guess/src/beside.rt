@@ -97,7 +97,7 @@ pub fn guess_in_two_threads<'a, R: Threads>(
 ) -> Result<Guess, AllocError>
     ensures { IfOk result (λ g. AreWords p.now (Guess.bounds g).items) }
 {
-    let links = Links::of(alloc, p)?;
+    let links = Links::copied(alloc, p)?;
     let pattern = pattern_of(alloc, &links, &mut kept.eliminable)?;
     let step = Step {
         alloc,

@@ -1,5 +1,5 @@
 // Branches of a turned side, to other cells and to known heads. Flows are in their least bounds.
-use step_problem::Side;
+use step_problem::{Link, Side};
 
 /// The bounds of a branch's conductance.
 #[derive(Clone, Copy)]
@@ -36,6 +36,11 @@ fn to_signed(number: u64) -> i64 {
 }
 
 impl Branch {
+    /// The branch that a link is.
+    pub fn of(link: &Link) -> Branch {
+        Branch::new(link.lo, link.hi)
+    }
+
     pub fn new(lo: u64, hi: u64) -> Branch {
         Branch {
             lo: to_signed(lo),

@@ -27,8 +27,8 @@ pub enum Eliminable {
 // Couples each cell with those that it is linked with.
 fn couple_cells(matrix: &mut Matrix, links: &Links) -> Result<(), AllocError> {
     for cell in 0..links.len() {
-        for edge in links.edges_at(cell) {
-            matrix.couple(edge.other, 1)?;
+        for link in links.at(cell) {
+            matrix.couple(link.cell, 1)?;
         }
         matrix.close_row(1)?;
     }

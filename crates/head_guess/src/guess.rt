@@ -104,7 +104,7 @@ pub fn guess_heads<'a>(
 ) -> Result<Guess, AllocError>
     ensures { IfOk result (λ g. AreWords p.now (Guess.bounds g).items) }
 {
-    let links = Links::of(alloc, p)?;
+    let links = Links::copied(alloc, p)?;
     let pattern = pattern_of(alloc, &links, &mut kept.eliminable)?;
     let step = Step {
         alloc,

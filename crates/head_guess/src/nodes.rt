@@ -1,9 +1,11 @@
 // Cells with their balances, while heads are raised.
-use crate::links::{Edge, Row};
+use crate::branch::Branch;
+use crate::links::Row;
 use crate::marks::Marks;
 use crate::one_side::OneSide;
 use multigrid::numbers::{at, clamp_long, put, width};
 use std::alloc::AllocError;
+use step_problem::Link;
 use step_problem::problem::HEAD_LIMIT;
 
 /// How far a cell's balance at its head exceeds the least one at which it can rise, and the head that it may reach. Half a line of a
@@ -123,14 +125,15 @@ impl Nodes {
 
     // Changes the balances of the cells that a cell is linked with for its rise, and marks those that may rise. Returns what the links take
     // from the cell's balance.
-    fn spread(&mut self, edges: &[Edge], head: i64, units: i64, marks: &mut Marks) -> i128 {
+    fn spread(&mut self, links: &[Link], head: i64, units: i64, marks: &mut Marks) -> i128 {
         let mut taken = 0_i128;
-        for edge in edges {
-            let other = edge.other as usize;
+        for link in links {
+            let other = link.cell as usize;
             if let Some(node) = self.nodes.as_mut_slice().get_mut(other) {
                 let above = head.wrapping_sub(node.head);
-                taken = taken.wrapping_add(edge.branch.loss(above, units));
-                let gain = edge.branch.gain(above, units);
+                let branch = Branch::of(link);
+                taken = taken.wrapping_add(branch.loss(above, units));
+                let gain = branch.gain(above, units);
                 node.excess = node.excess.wrapping_add(gain);
                 marks.set_if(other, node.can_rise());
             }
@@ -139,14 +142,15 @@ impl Nodes {
     }
 
     // The same where the cell rises by one unit.
-    fn spread_unit(&mut self, edges: &[Edge], head: i64, marks: &mut Marks) -> i64 {
+    fn spread_unit(&mut self, links: &[Link], head: i64, marks: &mut Marks) -> i64 {
         let mut taken = 0_i64;
-        for edge in edges {
-            let other = edge.other as usize;
+        for link in links {
+            let other = link.cell as usize;
             if let Some(node) = self.nodes.as_mut_slice().get_mut(other) {
                 let above = head.wrapping_sub(node.head);
-                taken = taken.wrapping_add(edge.branch.unit_loss(above));
-                let gain = edge.branch.unit_gain(above);
+                let branch = Branch::of(link);
+                taken = taken.wrapping_add(branch.unit_loss(above));
+                let gain = branch.unit_gain(above);
                 node.excess = node.excess.wrapping_add(gain as i128);
                 marks.set_if(other, node.can_rise());
             }
@@ -176,11 +180,10 @@ impl Nodes {
         if units <= 0 {
             return false;
         }
-        let edges = side.links.edges(&row);
         let taken = if units == 1 {
-            self.spread_unit(edges, node.head, marks) as i128
+            self.spread_unit(row.links, node.head, marks) as i128
         } else {
-            self.spread(edges, node.head, units, marks)
+            self.spread(row.links, node.head, units, marks)
         };
         let fall = taken.wrapping_add(side.fall_beside_links(&row, node.head, units));
         let is_last = self.count_rise(cell);

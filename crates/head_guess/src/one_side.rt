@@ -18,7 +18,7 @@ pub struct Step<'a> {
     pub alloc: Global,
     pub problem: &'a Problem,
     pub barrier: &'a Barrier,
-    pub links: &'a Links,
+    pub links: &'a Links<'a>,
     /// The pattern of the links, if elimination pays.
     pub pattern: Option<&'a Pattern>,
 }
@@ -29,13 +29,14 @@ pub struct Step<'a> {
 pub struct OneSide<'a> {
     pub alloc: Global,
     pub side: Side,
-    pub links: &'a Links,
+    pub links: &'a Links<'a>,
     /// The pattern of the links, if elimination pays.
     pub pattern: Option<&'a Pattern>,
+    problem: &'a Problem,
     floor: Vec<i64>,
     knowns: Vec<Known>,
     ramps: Vec<Ramp>,
-    // The constant flows into each cell.
+    // The constant flows into each cell, where they are copied as the links are.
     inflows: Vec<i128>,
 }
 
@@ -62,7 +63,7 @@ fn add_knowns(knowns: &mut Vec<Known>, side: Side, cell: &Cell) -> Result<(), Al
 }
 
 // The constant flows into a cell.
-fn inflow(side: Side, cell: &Cell) -> i128 {
+fn inflow_of(side: Side, cell: &Cell) -> i128 {
     let flows = cell.flows.iter();
     match side {
         Side::Low => flows.fold(0_i128, |sum, flow| sum.wrapping_add(flow.lo)),
@@ -79,6 +80,7 @@ impl OneSide<'_> {
             side,
             links: step.links,
             pattern: step.pattern,
+            problem: step.problem,
             floor: Vec::with_capacity(alloc, step.problem.len())?,
             knowns: Vec::new(alloc),
             ramps: Vec::new(alloc),
@@ -100,13 +102,24 @@ impl OneSide<'_> {
             let cell = problem.cell(cell);
             add_knowns(&mut self.knowns, side, cell)?;
             add_ramps(&mut self.ramps, side, cell)?;
-            self.inflows.push(inflow(side, cell))?;
+            if self.links.are_copied() {
+                self.inflows.push(inflow_of(side, cell))?;
+            }
         }
         Ok(())
     }
 
     pub fn len(&self) -> usize {
         self.links.len()
+    }
+
+    // The constant flows into a cell.
+    fn inflow(&self, cell: usize) -> i128 {
+        match self.inflows.get(cell) {
+            Some(inflow) => *inflow,
+            None if cell < self.problem.len() => inflow_of(self.side, self.problem.cell(cell)),
+            None => 0,
+        }
     }
 
     /// A cell's branches to known heads.
@@ -121,10 +134,10 @@ impl OneSide<'_> {
 
     /// The balance of a cell at its own head and the heads of the cells that it is linked with, without its ramps.
     pub fn straight_balance(&self, cell: usize, row: &Row, own: i64, heads: &[i64]) -> i128 {
-        let mut sum = at(self.inflows.as_slice(), cell);
-        for edge in self.links.edges(row) {
-            let rise = at(heads, edge.other as usize).wrapping_sub(own);
-            sum = sum.wrapping_add(edge.branch.inflow(rise));
+        let mut sum = self.inflow(cell);
+        for link in row.links {
+            let rise = at(heads, link.cell as usize).wrapping_sub(own);
+            sum = sum.wrapping_add(Branch::of(link).inflow(rise));
         }
         for known in self.knowns(row) {
             sum = sum.wrapping_add(known.branch.inflow(known.head.wrapping_sub(own)));

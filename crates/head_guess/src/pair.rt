@@ -141,7 +141,7 @@ fn pair_of<'a>(
     alloc: Global,
     p: &'a Problem,
     b: &'a Barrier,
-    links: &'a Links,
+    links: &'a Links<'a>,
     pattern: Option<&'a Pattern>,
     failed: Option<Failed>,
     visits: u64,

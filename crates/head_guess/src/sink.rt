@@ -1,5 +1,6 @@
 // A set of cells that falls as one, unit by unit. Only cells at its edge are visited: some leave it, since they would rise again, and stay
 // where they are; others join it.
+use crate::branch::Branch;
 use crate::marks::{CELLS, Marks, Sweep};
 use crate::one_side::OneSide;
 use crate::spot::{Depth, NEVER, Spot};
@@ -119,9 +120,9 @@ impl Sink {
                 spot.add_rate(fall, 0);
             }
         }
-        for edge in side.links.edges(&row) {
-            let other = self.spot(edge.other as usize);
-            self.depth.add_flow(edge.branch, spot, &other);
+        for link in row.links {
+            let other = self.spot(link.cell as usize);
+            self.depth.add_flow(Branch::of(link), spot, &other);
         }
     }
 
@@ -162,11 +163,11 @@ impl Sink {
         spot.head = spot.head.wrapping_add(self.depth.units as i64);
         spot.burnt_at = NEVER;
         spot.until = 0;
-        for edge in side.links.edges_at(cell) {
-            let mut near = self.spot(edge.other as usize);
+        for link in side.links.at(cell) {
+            let mut near = self.spot(link.cell as usize);
             self.depth
-                .join_beside(edge.branch, &mut spot, then, &mut near);
-            self.write(edge.other, near)?;
+                .join_beside(Branch::of(link), &mut spot, then, &mut near);
+            self.write(link.cell, near)?;
         }
         self.members = self.members.saturating_add(1);
         self.visits = self.visits.saturating_add(1);
@@ -184,10 +185,10 @@ impl Sink {
         spot.head = own;
         spot.burnt_at = label(self.order.len());
         spot.until = 0;
-        for edge in side.links.edges_at(cell) {
-            let mut near = self.spot(edge.other as usize);
-            self.depth.leave_beside(edge.branch, &spot, &mut near);
-            self.write(edge.other, near)?;
+        for link in side.links.at(cell) {
+            let mut near = self.spot(link.cell as usize);
+            self.depth.leave_beside(Branch::of(link), &spot, &mut near);
+            self.write(link.cell, near)?;
         }
         self.members = self.members.saturating_sub(1);
         self.visits = self.visits.saturating_add(1);

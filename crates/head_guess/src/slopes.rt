@@ -1,4 +1,5 @@
 // Slopes of the cells' balances in their own heads.
+use crate::branch::Branch;
 use crate::links::Row;
 use crate::one_side::OneSide;
 use crate::ramp::Bends;
@@ -12,10 +13,11 @@ impl OneSide<'_> {
             return row.greatest;
         }
         let (mut left, mut right) = (0_i64, 0_i64);
-        for edge in self.links.edges(row) {
-            let above = own.wrapping_sub(at(heads, edge.other as usize));
-            left = left.saturating_add(edge.branch.unit_loss(above.wrapping_sub(1)));
-            right = right.saturating_add(edge.branch.unit_loss(above));
+        for link in row.links {
+            let branch = Branch::of(link);
+            let above = own.wrapping_sub(at(heads, link.cell as usize));
+            left = left.saturating_add(branch.unit_loss(above.wrapping_sub(1)));
+            right = right.saturating_add(branch.unit_loss(above));
         }
         for known in self.knowns(row) {
             let above = own.wrapping_sub(known.head);
@@ -30,9 +32,9 @@ impl OneSide<'_> {
         requires { F.IsAlwaysCallable around }
     {
         let mut sum = 0_i64;
-        for edge in self.links.edges(row) {
-            let above = own.wrapping_sub(around(edge.other as usize));
-            sum = sum.saturating_add(edge.branch.unit_loss(above));
+        for link in row.links {
+            let above = own.wrapping_sub(around(link.cell as usize));
+            sum = sum.saturating_add(Branch::of(link).unit_loss(above));
         }
         for known in self.knowns(row) {
             sum = sum.saturating_add(known.branch.unit_loss(own.wrapping_sub(known.head)));

@@ -1,4 +1,5 @@
 // The matrix of a system of slopes, and what its solutions take.
+use crate::branch::Branch;
 use crate::links::Links;
 use crate::one_side::OneSide;
 use multigrid::Matrix;
@@ -44,11 +45,11 @@ fn add_cell(
         return matrix.close_row(1);
     }
     let mut sum = 0_i64;
-    for edge in links.edges_at(cell) {
-        let weight = edge.branch.lo.wrapping_shr(scale);
+    for link in links.at(cell) {
+        let weight = Branch::of(link).lo.wrapping_shr(scale);
         sum = sum.saturating_add(weight);
-        if weight > 0 && at(slopes, edge.other as usize) > 0 {
-            matrix.couple(edge.other, weight)?;
+        if weight > 0 && at(slopes, link.cell as usize) > 0 {
+            matrix.couple(link.cell, weight)?;
         }
     }
     matrix.close_row(slope.wrapping_shr(scale).max(sum))
@@ -57,7 +58,7 @@ fn add_cell(
 /// The matrix of these slopes, over 2^scale. A cell whose slope is 0 has no couplings.
 pub fn matrix_of(side: &OneSide, slopes: &[i64], scale: u32) -> Result<Matrix, AllocError> {
     let (links, alloc) = (side.links, side.alloc);
-    let mut matrix = Matrix::with_capacity(alloc, links.len(), links.edge_count())?;
+    let mut matrix = Matrix::with_capacity(alloc, links.len(), links.count())?;
     for cell in 0..side.len() {
         add_cell(&mut matrix, links, slopes, scale, cell)?;
     }
@@ -68,8 +69,11 @@ pub fn matrix_of(side: &OneSide, slopes: &[i64], scale: u32) -> Result<Matrix, A
 pub fn slack_of(side: &OneSide, slopes: &[i64]) -> Result<Vec<u64>, AllocError> {
     let mut slack = Vec::with_capacity(side.alloc, slopes.len())?;
     for (cell, slope) in slopes.iter().enumerate() {
-        let edges = side.links.edges_at(cell).iter();
-        let excess = edges.fold(*slope, |excess, edge| excess.saturating_sub(edge.branch.lo));
+        let links = side.links.at(cell).iter();
+        let excess = links.fold(
+            *slope,
+            |excess, link| excess.saturating_sub(Branch::of(link).lo),
+        );
         slack.push(16_u64.saturating_add(excess.max(0).unsigned_abs() >> 20))?;
     }
     Ok(slack)

@@ -20,11 +20,12 @@ impl Levels {
     /// The levels over a matrix. Making them takes about as long as 20 visits at each unknown.
     pub fn new(alloc: Global, matrix: Matrix) -> Result<Levels, AllocError> {
         let mut levels = Levels {
-            finest: Level::new(alloc, matrix, Vec::new(alloc))?,
+            finest: Level::new(alloc, matrix, Vec::new(alloc)),
             coarser: Vec::new(alloc),
         };
         let added = levels.add_coarser(alloc);
-        filled_value(levels, added)
+        let levels = filled_value(levels, added)?;
+        levels.with_vectors(alloc)
     }
 
     fn add_coarser(&mut self, alloc: Global) -> Result<(), AllocError> {
@@ -33,10 +34,20 @@ impl Levels {
             let Some(next) = coarser(alloc, &last.matrix)? else {
                 break;
             };
-            let next = Level::new(alloc, next.matrix, next.aggregates)?;
-            self.coarser.push(next)?;
+            self.coarser
+                .push(Level::new(alloc, next.matrix, next.aggregates))?;
         }
         Ok(())
+    }
+
+    // The vectors come after all matrices, whose making takes memory of its own.
+    fn with_vectors(mut self, alloc: Global) -> Result<Levels, AllocError> {
+        let mut memory = Ok(());
+        self.finest.add_vectors(&mut memory, alloc);
+        for level in self.coarser.iter_mut() {
+            level.add_vectors(&mut memory, alloc);
+        }
+        filled_value(self, memory)
     }
 
     /// The right side of the system, which `solve` uses up.
@@ -70,19 +81,27 @@ pub struct Level {
 }
 
 impl Level {
-    fn new(alloc: Global, matrix: Matrix, aggregates: Vec<u32>) -> Result<Level, AllocError> {
-        let (mut memory, count) = (Ok(()), matrix.len());
-        let level = Level {
+    // A level whose vectors are still to be made.
+    fn new(alloc: Global, matrix: Matrix, aggregates: Vec<u32>) -> Level {
+        Level {
             matrix,
             aggregates,
-            solution: list_of(&mut memory, alloc, 0, count),
-            residual: list_of(&mut memory, alloc, 0, count),
-            correction: list_of(&mut memory, alloc, 0, count),
-            direction: list_of(&mut memory, alloc, 0, count),
-            image: list_of(&mut memory, alloc, 0, count),
+            solution: Vec::new(alloc),
+            residual: Vec::new(alloc),
+            correction: Vec::new(alloc),
+            direction: Vec::new(alloc),
+            image: Vec::new(alloc),
             energy: Scaled::ZERO,
-        };
-        filled_value(level, memory)
+        }
+    }
+
+    fn add_vectors(&mut self, memory: &mut Result<(), AllocError>, alloc: Global) {
+        let count = self.matrix.len();
+        self.solution = list_of(memory, alloc, 0, count);
+        self.residual = list_of(memory, alloc, 0, count);
+        self.correction = list_of(memory, alloc, 0, count);
+        self.direction = list_of(memory, alloc, 0, count);
+        self.image = list_of(memory, alloc, 0, count);
     }
 }
 
