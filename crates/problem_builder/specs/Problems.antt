@@ -1,6 +1,5 @@
 -- The problem of a time step, and the refusal of a step that has none.
 use Rattle.std.specs.Prelude.{◌≡◌, ℕ, ◌<◌, true, List, [], ◌∷◌, Result, Ok, Err, Some, None, ◌^◌, ◌&&◌, ◌||◌, ◌==◌, nat_le, Bool, false, cond, map, Option}
-use Rattle.std.specs.Prelude.{IfSome}
 use Rattle.std.specs.List.{list_any, filter_map}
 use Rattle.std.specs.Option.{option_map}
 use Rattle.step_problem.specs.declared.heads.Bound.{Bound}
@@ -10,7 +9,6 @@ use Rattle.step_problem.specs.declared.place.Place.TheVariants.{Cell}
 use Rattle.step_problem.specs.Entries.{Entries}
 use Rattle.model_types.specs.declared.model.FlowModel.{FlowModel}
 use Rattle.model_types.specs.declared.time_steps.TimeStep.{TimeStep}
-use Rattle.model_types.specs.declared.grid.Grid.{Grid}
 use Rattle.model_types.specs.{cell_count, is_variable, variable_cells, period_at}
 use Rattle.decimal_input.specs.{Fraction}
 use Rattle.cell_balance.specs.{EnclosesStep}
@@ -23,7 +21,6 @@ use Rattle.step_problem.specs.declared.entry.FixedKind.{FixedKind}
 use Rattle.step_problem.specs.declared.entry.FixedKind.TheVariants.{Constant, General, Storage}
 use Rattle.step_problem.specs.declared.refusal.StepRefusal.TheVariants.{ConductanceTooSmall, ConductanceTooLarge, FlowTooLarge}
 use Rattle.step_problem.specs.{number_of, conductance_of, flow_magnitude}
-use Rattle.model_types.specs.declared.face.Face.{Face}
 use Rattle.problem_builder.specs.Tables.{Inputs, branches_of}
 
 -- The refusals of a cell, in their order.

@@ -2,7 +2,7 @@
 pub use Rattle.std.proofs.Common.{Bool, Err, List, None, Ok, Option, Result, Some, [], ap, append_assoc, arith, codes, drop, false, filter, get_or}
 pub use Rattle.std.proofs.Common.{if◌then◌else◌, inl, inr, length, map, pos, refl, rules, subst, suc, sym, take, true, unsigned_abs, ℕ, ℤ, ◌++◌, ◌+◌, ◌-◌, ◌<◌}
 pub use Rattle.std.proofs.Common.{◌==◌, ◌||◌, ◌∙◌, ◌∷◌, ◌≡◌, ◌≤◌}
-pub use Rattle.std.proofs.lemmas.List.{append-nil, append_cancel_left, append_cancel_right, drop_all, length-append, take-append-drop, take_all}
+pub use Rattle.std.proofs.lemmas.List.{append-nil, append_cancel_left, append_cancel_right, drop_all, length-append, take-append-drop}
 pub use Rattle.std.proofs.lemmas.Result.{err_from_is_err_and}
 pub use Rattle.std.proofs.lemmas.Slice.Eq.{bytes_eq-Decides}
 pub use Rattle.std.specs.List.{All, AllByRecursion, flat_map, list_any}
@@ -27,10 +27,10 @@ unfoldable pub use Rattle.outside.specs.{lines}
 pub use Rattle.outside.specs.declared.inputs.Refusal.{Refusal}
 pub use Rattle.outside.specs.declared.inputs.TextFault.{TextFault}
 pub use Rattle.record_lines.specs.{GivesOnly, Has, HasText, StopsText, next_number, ◌>>=◌}
-pub use Rattle.stated_text.specs.{AreJoined, AreReadBack, CanBeRead, CutsAreJoined, DecksAreCut, DecksAreReadBack, DifferFirst, FirstDifferences, IsLaterFault}
-pub use Rattle.stated_text.specs.{IsMovedFault, ListingIsReadBack, ListingsAreReadBack, OneTextOneModel, StandsIn, TextFile, after_byte, at_lines, begins_part}
-pub use Rattle.stated_text.specs.{cut_after, cut_at, file_of, files_of, first_is, has_zones, is_current, is_file_line, joined, last_of, later_by, line_of}
-pub use Rattle.stated_text.specs.{opened, or_bad, part_of, second_at, zoned_model, zones_in}
+pub use Rattle.stated_text.specs.{AreJoined, AreReadBack, CanBeRead, CutsAreJoined, DecksAreCut, DecksAreReadBack, DifferFirst, FirstDifferences}
+pub use Rattle.stated_text.specs.{ListingIsReadBack, ListingsAreReadBack, OneTextOneModel, StandsIn, TextFile, after_byte, at_lines, begins_part, cut_after}
+pub use Rattle.stated_text.specs.{cut_at, file_of, files_of, first_is, has_zones, is_current, is_file_line, joined, last_of, later_by, line_of, opened, or_bad}
+pub use Rattle.stated_text.specs.{part_of, second_at, zoned_model, zones_in}
 unfoldable pub use Rattle.stated_text.specs.{after_due, line_after, part_at, parts_in, pieces}
 pub use Rattle.stated_text.specs.declared.part.Part.{Part}
 pub use Rattle.zone_pairs.specs.declared.pair.ZonePair.{ZonePair}

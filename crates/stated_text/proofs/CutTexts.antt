@@ -1,7 +1,7 @@
 -- How lines are cut into files, line by line.
-use Rattle.stated_text.proofs.Common.{◌≡◌, ◌<◌, ℕ, Bool, true, false, List, [], ◌∷◌, ◌++◌, None, Option, Some, Result, Ok, Err, refl, sym, ap, ◌∙◌, arith}
-use Rattle.stated_text.proofs.Common.{length, take, drop, codes, append_assoc, append-nil, bytes_eq, is_good_name, next_number, ◌>>=◌, TextFile, is_file_line}
-use Rattle.stated_text.proofs.Common.{joined, pieces, bytes_eq-Decides, take_all, suc, lines, IsGoodName, MatchOption, Line, ended_line}
+use Rattle.stated_text.proofs.Common.{◌≡◌, ℕ, Bool, true, false, List, [], ◌∷◌, ◌++◌, None, Option, Some, Result, Ok, Err, refl, sym, ap, ◌∙◌, arith, length}
+use Rattle.stated_text.proofs.Common.{take, drop, codes, append_assoc, append-nil, bytes_eq, is_good_name, next_number, ◌>>=◌, TextFile, is_file_line, joined}
+use Rattle.stated_text.proofs.Common.{pieces, suc, lines, IsGoodName, MatchOption, Line, ended_line}
 use Rattle.outside.proofs.NameTests.{is_taken, is_good}
 
 -- Readings in a row.
@@ -64,17 +64,6 @@ no_lines (b ∷ text) e = absurd (let some : suc (length text) ≡ 0 = e in omeg
 
 -- Lines FILE.
 module _ (line : Line) where
-  pub short_line : length line < 5 → is_file_line line ≡ false
-  short_line few =
-      let whole : take 5 line ≡ line = take_all 5 line (omega arith) in
-      let some : length (take 5 line) < 5 = rw whole few in
-      let apart : take 5 line ≡ codes "FILE " → ⊥ = λ e. (let five : length (take 5 line) ≡ 5 = ap length e in omega (arith, some, five)) in
-      let other : bytes_eq (take 5 line) (codes "FILE ") ≡ false = grind (arith, bytes_eq-Decides) in
-      rw other refl
-
-  pub other_line : (word : List ℕ) → word ≡ take 5 line → bytes_eq word (codes "FILE ") ≡ false → is_file_line line ≡ false
-  other_line word is e = let first : bytes_eq (take 5 line) (codes "FILE ") ≡ false = rw is at e in rw first refl
-
   pub bad_name : (name : List ℕ) → name ≡ drop 5 line → (IsGoodName name → ⊥) → is_file_line line ≡ false
   bad_name name is bad = by_test (is_good_name (drop 5 line)) (bytes_eq (take 5 line) (codes "FILE ")) refl refl
     where

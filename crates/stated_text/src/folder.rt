@@ -1,6 +1,5 @@
 // The files of a text as a folder in memory.
-ghost use Rattle.std.specs.Prelude.{◌≡◌, [], map, option_map, IfOk};
-ghost use Rattle.std.specs.List.{list_any};
+ghost use Rattle.std.specs.Prelude.{◌≡◌, [], map, IfOk};
 ghost use Rattle.outside.specs.{with_limit};
 ghost use Rattle.record_lines.specs.{Has};
 ghost use Rattle.model_types.specs.{most_bytes, IsModel};
