@@ -22,7 +22,7 @@ use Rattle.step_chain.proofs.Limits.{held_by, uncut_by}
 use Rattle.plan_step.proofs.Fits.{is_problem}
 use Rattle.plan_chain.proofs.Members.{MemberMove, member_cells, member_move}
 use Rattle.plan_chain.proofs.Settling.{times_planned}
-use Rattle.plan_step.specs.{IsPlannedStep, SolutionsBoundPlans}
+use Rattle.plan_step.specs.{IsPlannedStep, SolutionsBoundPlans, AreTwoPlans}
 
 -- a member of the decks, with the plan's wells, is a member of the decks with them
 module _ (lies : PlannedLieBetween) (plan : List (List Entry)) where
@@ -66,7 +66,7 @@ one_over d f g x y same p q =
 module _ (problem_fits : ProblemFits) (step_encloses : StepEncloses) (certificate_encloses : CertificateEncloses) (lies : PlannedLieBetween) (planned_steps : PlannedSteps)
     (apart : MembersKeepWellsApart) (solutions_bound : SolutionsBoundPlans) (k : PlanTask) (at : TimeStep) (old : PlanHeads) (v : PlanSolved) (task : IsPlanTask k)
     (time : Contains (times k.base.first) at) (fit : ArePlanHeads k old) (step : IsPlanStep k at old v) where
-  base_before : IsBefore k.base at old.base
+  pub base_before : IsBefore k.base at old.base
   base_before = record { decks = task.base; time = time; heads = fit.base }
 
   planned_before : IsBefore k.planned at old.planned
@@ -90,11 +90,11 @@ module _ (problem_fits : ProblemFits) (step_encloses : StepEncloses) (certificat
     abbrev f : List ExactCell
     f = exact_step M p at.step after
 
-    cells : HasCellsOf k.base.first m
-    cells = member_cells k.base m member
+    pub member_has_cells : HasCellsOf k.base.first m
+    member_has_cells = member_cells k.base m member
 
-    long : length k.plan ≡ length m.periods
-    long = task.long ∙ sym (same_periods k.base.first k.base.second m member)
+    pub plan_is_long : length k.plan ≡ length m.periods
+    plan_is_long = task.long ∙ sym (same_periods k.base.first k.base.second m member)
 
     of_planned : (c : ℕ) → IsActive M c → IsActive m c
     of_planned c a = record { within = a.within; active = a.active }
@@ -102,7 +102,7 @@ module _ (problem_fits : ProblemFits) (step_encloses : StepEncloses) (certificat
     to_planned : (c : ℕ) → IsActive m c → IsActive M c
     to_planned c a = record { within = a.within; active = a.active }
 
-    base_move : MemberMove m k.digits at v.base before d X
+    pub base_move : MemberMove m k.digits at v.base before d X
     base_move =
         member_move step_encloses k.limits k.base k.digits at old.base (plan_pairs k) v.base base_before step.base m member before d X b.base some base
 
@@ -113,7 +113,7 @@ module _ (problem_fits : ProblemFits) (step_encloses : StepEncloses) (certificat
 
     apart_by : IsPlannedStep old.differences (plan_flows m k.plan p at.step before) e f
     apart_by =
-        planned_steps m k.plan p at.step before after old.differences long (subst (λ (n : ℕ). All (All (IsWell n)) k.plan) (sym cells.count) task.wells)
+        planned_steps m k.plan p at.step before after old.differences plan_is_long (subst (λ (n : ℕ). All (All (IsWell n)) k.plan) (sym member_has_cells.count) task.wells)
         (apart k.base m p task.apart member)
         (λ c i. let (is, lt) = variable-In m p (cell_count m.grid) c (In-Contains (variable_cells m p) c i) in
         b.differences c (record { within = lt; active = variable_active m p c is }))
@@ -127,8 +127,8 @@ module _ (problem_fits : ProblemFits) (step_encloses : StepEncloses) (certificat
     count_d : length v.differences.problem ≡ length v.base.problem
     count_d = step.differences.problem.as_many
 
-    fits : IsProblem v.differences.problem
-    fits =
+    pub differences_fit : IsProblem v.differences.problem
+    differences_fit =
         is_problem v.base.problem v.planned.problem v.base.bounds v.planned.bounds old.differences v.differences.problem
         (problem_fits k.base k.digits at old.base v.base.problem base_before step.base.posed.problem)
         (problem_fits k.planned k.digits at old.planned v.planned.problem planned_before step.planned.posed.problem) fit.differences.range as_many step.differences.problem
@@ -136,21 +136,26 @@ module _ (problem_fits : ProblemFits) (step_encloses : StepEncloses) (certificat
     encloses : EnclosesSolutions v.differences.problem (lower_at v.differences.bounds) (upper_at v.differences.bounds)
     encloses =
         let z = step.differences in
-        certificate_encloses v.differences.problem z.barrier v.differences.bounds fits
+        certificate_encloses v.differences.problem z.barrier v.differences.bounds differences_fit
         (pair_words (plan_pairs k) v.differences.problem (edges_by k.limits z.barrier) v.differences.bounds z.pair) (held_by k.limits v.differences.problem z.barrier z.of_problem)
-        z.certificate (uncut_by k.limits v.differences.problem z.barrier fits z.of_problem)
+        z.certificate (uncut_by k.limits v.differences.problem z.barrier differences_fit z.of_problem)
 
-    between : LiesBetween (length v.differences.problem) d (λ c. variable_heads e X c -ℤ variable_heads f Y c) (lower_at v.differences.bounds) (upper_at v.differences.bounds)
-    between =
+    pub two_plans : AreTwoPlans k.digits v.base.problem v.planned.problem v.base.bounds v.planned.bounds old.differences (plan_flows m k.plan p at.step before) e f d
+        (variable_heads e X) (variable_heads f Y)
+    two_plans = record {
+      base = base_move.step;
+      planned = planned_move.step;
+      step = apart_by;
+      some = some;
+      first = base_move.variables;
+      second = subst (λ (n : ℕ). LiesBetween n d (variable_heads f Y) (lower_at v.planned.bounds) (upper_at v.planned.bounds)) as_many planned_move.variables;
+    }
+
+    pub differences_between : LiesBetween (length v.differences.problem) d (λ c. variable_heads e X c -ℤ variable_heads f Y c) (lower_at v.differences.bounds) (upper_at v.differences.bounds)
+    differences_between =
         solutions_bound k.digits v.base.problem v.planned.problem v.differences.problem v.base.bounds v.planned.bounds old.differences (plan_flows m k.plan p at.step before) e f d
-        (variable_heads e X) (variable_heads f Y) (lower_at v.differences.bounds) (upper_at v.differences.bounds) step.differences.problem (record {
-          base = base_move.step;
-          planned = planned_move.step;
-          step = apart_by;
-          some = some;
-          first = base_move.variables;
-          second = subst (λ (n : ℕ). LiesBetween n d (variable_heads f Y) (lower_at v.planned.bounds) (upper_at v.planned.bounds)) as_many planned_move.variables;
-        }) base.balances planned.balances encloses
+        (variable_heads e X) (variable_heads f Y) (lower_at v.differences.bounds) (upper_at v.differences.bounds) step.differences.problem two_plans base.balances
+        planned.balances encloses
 
     -- the number of the cell of an index
     id_of : (i : ℕ) → i < length e → (cell_at e i).id ≡ get_or (variable_cells m p) i 0
@@ -159,7 +164,7 @@ module _ (problem_fits : ProblemFits) (step_encloses : StepEncloses) (certificat
     id_of_planned : (i : ℕ) → i < length e → (cell_at f i).id ≡ (cell_at e i).id
     id_of_planned i lt =
         sym (get_or-map (λ (x : ExactCell). x.id) f i no_cell 0 (omega (arith, lt, apart_by.as_many)))
-        ∙ ap (λ (xs : List ℕ). get_or xs i 0) (ids_are M p at.step after ∙ cells_same m k.plan long p at.step (cell_count m.grid)) ∙ sym (id_of i lt)
+        ∙ ap (λ (xs : List ℕ). get_or xs i 0) (ids_are M p at.step after ∙ cells_same m k.plan plan_is_long p at.step (cell_count m.grid)) ∙ sym (id_of i lt)
 
     id_in_problem : (i : ℕ) → i < length e → (entries_at v.differences.problem i).id ≡ (cell_at e i).id
     id_in_problem i lt =
@@ -178,7 +183,7 @@ module _ (problem_fits : ProblemFits) (step_encloses : StepEncloses) (certificat
         let B : Bound → Type 0 = λ x. Holds x d (X c -ℤ Y c) in
         let P : ℕ → Type 0 = λ j. Holds (bound_at v.differences.bounds i) d (X j -ℤ Y (cell_at f i).id) in
         let Q : ℕ → Type 0 = λ j. Holds (bound_at v.differences.bounds i) d (X c -ℤ Y j) in
-        subst B (sym here) (subst Q (id_of_planned i inside ∙ number) (subst P number (record { low = between.low i within; high = between.high i within })))
+        subst B (sym here) (subst Q (id_of_planned i inside ∙ number) (subst P number (record { low = differences_between.low i within; high = differences_between.high i within })))
 
     -- a cell of the problem is variable
     none_constant : (c : ℕ) → is_constant m p c ≡ true → (i : ℕ) → i < length v.differences.problem → c ≡ (entries_at v.differences.problem i).id → ⊥
@@ -190,12 +195,12 @@ module _ (problem_fits : ProblemFits) (step_encloses : StepEncloses) (certificat
         true≢false (sym (variable-In m p (cell_count m.grid) c listed).0 ∙ constant_not_variable m p c is)
 
     planned_constant : (c : ℕ) → is_constant m p c ≡ true → is_constant M p c ≡ true
-    planned_constant c is = ap (λ q. is_active m c && not q) (variable_same m k.plan long p at.step c) ∙ is
+    planned_constant c is = ap (λ q. is_active m c && not q) (variable_same m k.plan plan_is_long p at.step c) ∙ is
 
     constant_holds : (c : ℕ) → c < cell_count m.grid → is_constant m p c ≡ true → Holds (bound_at v.differences.heads c) d (X c -ℤ Y c)
     constant_holds c lt is =
         let same : X c ≡ Y c =
-        one_over d (constant_head m p at.step c) (constant_head M p at.step c) (X c) (Y c) (head_same m k.plan long p at.step c) (base.constant c lt is)
+        one_over d (constant_head m p at.step c) (constant_head M p at.step c) (X c) (Y c) (head_same m k.plan plan_is_long p at.step c) (base.constant c lt is)
         (planned.constant c lt (planned_constant c is)) in
         let B : Bound → Type 0 = λ x. Holds x d (X c -ℤ Y c) in
         subst B (sym (step.differences.heads.other c (none_constant c is))) (none_apart d (X c) (Y c) same)

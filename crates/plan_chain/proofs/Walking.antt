@@ -60,7 +60,7 @@ pub zeros_fit : (count : ℕ) → All AreHeads (replicate count no_bound)
 zeros_fit count i b lt = subst AreHeads (get_or_default (replicate count no_bound) i no_bound b lt) (subst AreHeads (sym (zeros_are_placed count i)) zero_heads)
 
 -- the difference of two shares lies within bounds of the difference
-apart_within : (m : FlowModel) (all : List Bound) (d : ℕ) (X Y : ℕ → ℤ) → 0 < d → LiesWithin m all d (λ c. X c -ℤ Y c) → HeadsEnclose m all (λ c. minus (heads_of d X c) (heads_of d Y c))
+pub apart_within : (m : FlowModel) (all : List Bound) (d : ℕ) (X Y : ℕ → ℤ) → 0 < d → LiesWithin m all d (λ c. X c -ℤ Y c) → HeadsEnclose m all (λ c. minus (heads_of d X c) (heads_of d Y c))
 apart_within m all d X Y some h c a =
     let n : ℕ = 10 ^ 9 in
     let over = IsOver-minus (d * n) (share d (X c)) (share d (Y c)) (X c *ℤ pos n) (Y c *ℤ pos n) (share_is d n (X c) some) (share_is d n (Y c) some) in
@@ -122,7 +122,7 @@ pub zeros_are_heads : (m : FlowModel) (all : List Bound) → all ≡ replicate (
 zeros_are_heads m all e = subst (λ (xs : List Bound). AreGridHeads m xs) (sym e) (record { whole = length-replicate (cell_count m.grid) no_bound; range = zeros_fit (cell_count m.grid) })
 
 -- the heads before the first step: STRT of both plans
-starts_are_heads : StartHeadsFit → (k : PlanTask) → IsPlanTask k → (old : PlanHeads) → AreStartsOf k old → ArePlanHeads k old
+pub starts_are_heads : StartHeadsFit → (k : PlanTask) → IsPlanTask k → (old : PlanHeads) → AreStartsOf k old → ArePlanHeads k old
 starts_are_heads starts_fit k task old start = record {
   base = starts_fit k.base old.base task.base start.base;
   planned = starts_fit k.planned old.planned task.planned start.planned;

@@ -33,9 +33,9 @@ pub(crate) fn no_differences(alloc: Global, count: usize) -> Result<Vec<Bound>, 
     Ok(all)
 }
 
-// One bound for each of `count` cells, by cell number.
+/// One bound for each of `count` cells, by cell number: a variable cell of the problem has that of its index, any other cell zeros.
 #[tactic(auto, using(crate::proofs::ByCell::none_placed, crate::proofs::ByCell::one_placed, crate::proofs::ByCell::all_placed))]
-fn by_cell(
+pub fn by_cell(
     alloc: Global,
     count: usize,
     problem: &Problem,

@@ -7,6 +7,6 @@ pub mod laws;
 pub mod step;
 mod walk;
 
-pub use differences::next_differences;
+pub use differences::{by_cell, next_differences};
 pub use step::{PlanFault, PlanHeads, PlanPart, PlanSolved, PlanTask, next_plan_step};
-pub use walk::{PlanEnd, PlanStop, PlanWalk};
+pub use walk::{PlanEnd, PlanStop, PlanWalk, start_heads};

@@ -58,8 +58,8 @@ fn heads_of(solved: Solved) -> Listed<Bound>
     solved.heads
 }
 
-// STRT of both plans, and differences of 0.
-fn start_heads(alloc: Global, task: &PlanTask) -> Result<PlanHeads, AllocError>
+/// STRT of both plans, and differences of 0.
+pub fn start_heads(alloc: Global, task: &PlanTask) -> Result<PlanHeads, AllocError>
     requires { IsPlanTask task.now }
     ensures start { IfOk result (AreStartsOf task.now) }
     ensures fit { IfOk result (ArePlanHeads task.now) }

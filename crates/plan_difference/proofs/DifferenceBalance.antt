@@ -9,7 +9,7 @@ use Rattle.decimal_input.specs.Ratios.{den as ratio_den}
 use Rattle.plan_difference.proofs.Sames.{difference_of_sums, difference_of_totals, nothing_after, same_is_over, same_self, sums_same, total_of_both}
 
 -- one conductance: the difference of two flows is the flow over the difference of the heads
-branch_difference : (r : Ratio) (m : ℕ) → 0 < m → (p q u w s t : Fraction) (a b x y : ℤ) → IsOver m p a → IsOver m q b → IsOver m u x → IsOver m w y →
+pub branch_difference : (r : Ratio) (m : ℕ) → 0 < m → (p q u w s t : Fraction) (a b x y : ℤ) → IsOver m p a → IsOver m q b → IsOver m u x → IsOver m w y →
     IsOver m s (a -ℤ x) → IsOver m t (b -ℤ y) →
     Same (minus (times (as_fraction r) (minus p q)) (times (as_fraction r) (minus u w))) (times (as_fraction r) (minus s t))
 branch_difference r m some p q u w s t a b x y op oq ou ow os ot =
@@ -52,7 +52,7 @@ module _ (d : ℕ) (some : 0 < d) (X Y : ℕ → ℤ) (c : ℕ) where
       own : (k : ℤ) → IsOver d (share d k) k
       own k = record { is = ap (λ (n : ℕ). k *ℤ pos n) (omega arith) }
 
-  known_differ : (p q : ExactFixed) → q.conductance ≡ p.conductance → Same (minus (fixed_flow v p) (fixed_flow w q)) (fixed_flow z (known_difference p q))
+  pub known_differ : (p q : ExactFixed) → q.conductance ≡ p.conductance → Same (minus (fixed_flow v p) (fixed_flow w q)) (fixed_flow z (known_difference p q))
   known_differ p q e =
       let m = den p.head * den q.head in
       let (a, over_a) = fraction_over m d p.head (Goes-first (den p.head) (den q.head)) in

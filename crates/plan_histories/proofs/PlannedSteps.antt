@@ -40,7 +40,7 @@ nothing_apart f =
     high : (n : ℕ) (z : ℤ) → (z -ℤ z) ≤ℤ (pos 0 *ℤ pos n)
     high n z = rw (zero-*ℤ (pos n)) (omega (arith, ints))
 
-zip_images : {X A B : Type 0} (R : A → B → Type 0) (f : X → A) (g : X → B) → ((x : X) → R (f x) (g x)) → (xs : List X) → AllZip R (map f xs) (map g xs)
+pub zip_images : {X A B : Type 0} (R : A → B → Type 0) (f : X → A) (g : X → B) → ((x : X) → R (f x) (g x)) → (xs : List X) → AllZip R (map f xs) (map g xs)
 zip_images R f g each [] = tt
 zip_images R f g each (x ∷ xs) = (each x, zip_images R f g each xs)
 
@@ -179,7 +179,7 @@ module _ (m : FlowModel) (plan : List (List Entry)) (long : length plan ≡ leng
           ((ap (λ (xs : List Entry). picked as_well c xs) entries_are ∙ added as_well c P.stresses.wells w others no_wells) i)))
           ∙ ap (λ (xs : List FlowSource). map (exact_flow m p n old c) xs) (sym (append_assoc r own more)) ∙ map-append (exact_flow m p n old c) (r ++ own) more
 
-      fixed_same : (c : ℕ) → fixed_sources M p c ≡ fixed_sources m p c
+      pub fixed_same : (c : ℕ) → fixed_sources M p c ≡ fixed_sources m p c
       fixed_same c =
           λ i. option_to_list ((ap (λ (q : Period). cond q.steady None (Some FromStorage)) here) i) ++ map ToConstant ((constant_faces_same c) i) ++
           ((sources_same as_general (no_general (cell_count m.grid)) c) i)
@@ -212,7 +212,7 @@ module _ (m : FlowModel) (plan : List (List Entry)) (long : length plan ≡ leng
         flows = flows_are c;
       }
 
-well_list : (cells : ℕ) (plan : List (List Entry)) (i : ℕ) → All (All (IsWell cells)) plan → All (IsWell cells) (get_or plan i [])
+pub well_list : (cells : ℕ) (plan : List (List Entry)) (i : ℕ) → All (All (IsWell cells)) plan → All (IsWell cells) (get_or plan i [])
 well_list cells plan i all = elim (cases_lt i (length plan)) [
   | inl inside ↦ all i [] inside
   | inr past ↦ subst (λ (xs : List Entry). All (IsWell cells) xs) (sym (get_or_past plan i [] past)) (All-nil (IsWell cells))

@@ -167,7 +167,7 @@ differences_have_a_step s base planned p xs ys olds added e f d X Y is plans =
         (subst (λ (id : ℕ). IsPlannedCell (bound_at olds id) (added c) (cell_at e c) (cell_at f c)) (sym first.id) (plans.step.cells c h))
 
 -- the plan's flows, turned round, are what the base plan has more
-flows_apart : (xs added : List ExactFlow) → Same (fraction_total (λ q. q.flow) (are_turned added)) (minus (fraction_total (λ q. q.flow) xs) (fraction_total (λ q. q.flow) (xs ++ added)))
+pub flows_apart : (xs added : List ExactFlow) → Same (fraction_total (λ q. q.flow) (are_turned added)) (minus (fraction_total (λ q. q.flow) xs) (fraction_total (λ q. q.flow) (xs ++ added)))
 flows_apart xs added = Same-sym (apart xs added)
   where
     none : (added : List ExactFlow) → Same (minus (whole (pos 0)) (fraction_total (λ q. q.flow) added)) (fraction_total (λ q. q.flow) (are_turned added))
