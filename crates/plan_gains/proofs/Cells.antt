@@ -1,9 +1,9 @@
 -- What a term's branches in a cell are, and that they are in range.
 use Rattle.plan_gains.proofs.Common.{All, List, [], ap, arith, drop, filter, filter_all, get_or, length, map, refl, suc, zero, ℕ, ℤ, ◌^◌, ◌<◌, ◌∷◌, ◌≡◌, ◌≤◌}
 use Rattle.plan_gains.proofs.Common.{branch_gain, branches_of, counts, CellFits, Entries, Fixed, FixedFits, Term, conductance_of, of_drains, of_evaps}
-use Rattle.plan_gains.proofs.Common.{of_rivers, ramps, sum_by, well_gain, gains}
+use Rattle.plan_gains.proofs.Common.{of_rivers, ramps, sum_by, well_gain, gains, ConstantHead, Drains, Et, HeadDepBounds, Recharge, RiverLeakage, Storage}
+use Rattle.plan_gains.proofs.Common.{Wells}
 use Rattle.std.proofs.lemmas.List.Elements.{All-drop, All-from_get_or, All-take}
-use Rattle.step_problem.specs.declared.place.Term.TheVariants.{ConstantHead, Drains, Et, HeadDepBounds, Recharge, RiverLeakage, Storage, Wells}
 use Rattle.std.proofs.lemmas.List.Sums.{sum_by-cons}
 
 -- an item is at most the sum

@@ -3,3 +3,4 @@ pub mod Cells
 pub mod TermSums
 pub mod Limits
 pub mod Totals
+pub mod Values

@@ -1,2 +1,4 @@
 mod Common
 pub mod Steps
+pub mod Networks
+pub mod Enclosing

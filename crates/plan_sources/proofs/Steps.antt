@@ -1,32 +1,16 @@
 -- A step of a plan meets the conditions of its flows.
-use Rattle.plan_sources.proofs.Common.{Contains, List, None, Option, PlanStepsHaveFlows, Some, ap, arith, inl, inr, length, map, refl, rise, subst, sym, ℕ}
-use Rattle.plan_sources.proofs.Common.{◌++◌, ◌+◌, ◌<◌, ◌∙◌, ◌≡◌, neg_ℤ}
-use Rattle.problem_builder.specs.{AreGridHeads, IsActive, IsCellNamed, IsProblemOf, model_branches}
-use Rattle.step_problem.specs.declared.heads.Bound.{Bound}
+use Rattle.plan_sources.proofs.Common.{AreGridHeads, Bound, Contains, FlowModel, HasBranchesOf, HasCellsOf, IfSome, IsActive, IsCellNamed, IsDifferenceProblem}
+use Rattle.plan_sources.proofs.Common.{IsHead, IsModel, IsPlanStep, IsPlanTask, IsProblemBy, IsProblemOf, IsSecond, List, None, Option, PlanHeads, PlanSolved}
+use Rattle.plan_sources.proofs.Common.{PlanStepsHaveFlows, PlanTask, Some, TimeStep, All-map, ap, arith, bound_at, difference_cell, drain_branch, edges_by}
+use Rattle.plan_sources.proofs.Common.{entries_at, evap_branch, hull_parts, inl, inr, ints, known_branch, length, length-append, length-map, map, plan_pairs}
+use Rattle.plan_sources.proofs.Common.{refl, rise, river_branch, subst, sym, ℕ, ◌++◌, ◌+◌, ◌<◌, ◌∙◌, ◌≡◌, ◌⊎◌, neg_ℤ, model_branches}
 use Rattle.model_types.proofs.Members.{Contains-In, In, map-In}
 use Rattle.step_problem.specs.Entries.{Entries}
-use Rattle.model_types.specs.declared.model.FlowModel.{FlowModel}
 use Rattle.step_problem.specs.declared.entry.Fixed.{Fixed}
-use Rattle.plan_gains.specs.{HasBranchesOf}
-use Rattle.deck_problems.specs.{HasCellsOf, IsProblemBy, IsSecond}
-use Rattle.std.specs.Prelude.{IfSome, ◌⊎◌}
 use Rattle.problem_builder.proofs.Members.{In-Contains, In-append, named_active}
-use Rattle.plan_step.specs.{IsDifferenceProblem, bound_at, difference_cell, drain_branch, evap_branch, known_branch, river_branch}
-use Rattle.step_problem.specs.{IsHead, entries_at}
-use Rattle.model_types.specs.{IsModel}
-use Rattle.plan_chain.specs.{IsPlanStep, IsPlanTask, plan_pairs}
-use Rattle.plan_chain.specs.declared.step.PlanHeads.{PlanHeads}
-use Rattle.plan_chain.specs.declared.step.PlanSolved.{PlanSolved}
-use Rattle.plan_chain.specs.declared.step.PlanTask.{PlanTask}
-use Rattle.model_types.specs.declared.time_steps.TimeStep.{TimeStep}
-use Rattle.std.proofs.lemmas.List.Elements.{All-map}
 use Rattle.problem_builder.proofs.Steps.{cells_of}
-use Rattle.step_chain.specs.{edges_by}
 use Rattle.deck_problems.proofs.HullFor.{hull_cells}
-use Rattle.deck_problems.proofs.OneProblem.{hull_parts}
 use Rattle.problem_builder.proofs.CellEnclosed.{ids_are}
-use Rattle.std.proofs.lemmas.Int.{ints}
-use Rattle.std.proofs.lemmas.List.{length-append, length-map}
 use Rattle.step_chain.proofs.OneStep.{pair_words}
 use Rattle.problem_builder.proofs.CellFits.{model_has_branches}
 

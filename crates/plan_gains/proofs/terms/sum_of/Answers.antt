@@ -1,5 +1,4 @@
-use Rattle.plan_gains.proofs.Common.{lower_at, upper_at, ◌∙◌, sum_or_large, term_gain}
-use Rattle.step_problem.specs.declared.place.Dir.TheVariants.{In, Out}
+use Rattle.plan_gains.proofs.Common.{lower_at, upper_at, ◌∙◌, sum_or_large, term_gain, In, Out}
 use Rattle.plan_gains.proofs.Limits.{net_capped}
 use Rattle.plan_gains.proofs.terms.sum_of.Goals as goal
 
