@@ -4,12 +4,13 @@ pub use Rattle.std.proofs.Common.{nat_abs, negsuc, option_map, pos, refl, subst,
 pub use Rattle.std.proofs.Common.{◌==◌, ◌^◌, ◌∙◌, ◌∷◌, ◌≡◌, ◌≢◌, ◌≤ℤ◌, ◌≤◌, ◌⊎◌}
 pub use Rattle.std.proofs.lemmas.Bool.{and_from, and_parts, cases_Bool, cases_order, eqb-true, leb-true, lt-ltb}
 pub use Rattle.std.proofs.lemmas.Bool.Decides.{nat_tests}
-pub use Rattle.std.proofs.lemmas.Int.{ints}
+pub use Rattle.std.proofs.lemmas.Int.{clamps, ints}
 pub use Rattle.std.proofs.lemmas.List.{append-nil, append_assoc, drop_all, drop_more, get_or-map, get_or_default, length-map}
 pub use Rattle.std.proofs.lemmas.List.Elements.{All-contains_itself, All-head, All-tail, All-weaker}
 pub use Rattle.std.proofs.lemmas.Result.{IfErr-weaker, IfOk-weaker, err_from_is_err_and}
 pub use Rattle.std.specs.List.{AllZip, concat, filter_map, flat_map}
 pub use Rattle.std.specs.Prelude.{IfSome, filter, if◌then◌else◌, nat_lt, slice_index}
+pub use Rattle.barrier_vector.specs.{BarrierExcludesRefusal, CutBarrierExcludesRefusal, CutBarrierIsOne, CutRefusalIsOne, clamped_edges}
 pub use Rattle.budget_bounds.specs.{CoverEncloses, Covers, EnclosesBudgets, HeadsAreWithin, IsFirstUncovered, all_terms, is_small, line_of, no_pair, term_limit}
 pub use Rattle.budget_bounds.specs.{too_large}
 unfoldable pub use Rattle.budget_bounds.specs.{budget_of, parts, singles, term_of, term_pair, terms_of}
@@ -19,12 +20,13 @@ pub use Rattle.cell_balance.proofs.Zips.{AllZip-at, AllZip-length}
 pub use Rattle.cell_balance.specs.{EnclosesSolutions, ExactCell, sum_below}
 pub use Rattle.cell_relax.specs.{AreWords}
 pub use Rattle.certificate_check.specs.{HoldsAt, IsFirstFailing}
-pub use Rattle.check_run.specs.{AreNarrow, ArePosed, AreWide, Checks, ConstantsReach, CoversFlow, FailsAt, FailsBy, HeadsHold, IsConstantCell, IsCovered}
-pub use Rattle.check_run.specs.{IsFirstNarrow, IsFirstShort, IsReadable, IsRefused, IsUncovered, IsUnposed, IsVerdict, IsVerdictAt, ListingEncloses, Passes}
-pub use Rattle.check_run.specs.{ReachesAt, ReachesOn, RunIsCertified, RunIsReadAgain, StopsAt, TermsHold, VerdictIsOne, as_listed, at_constant, at_term}
-pub use Rattle.check_run.specs.{at_variable, at_zones, bounds, checked_task, heads_before, no_budget, no_flows, no_heads, of_bound, step_of, steps_of}
-pub use Rattle.check_run.specs.{variable_bounds}
+pub use Rattle.check_run.specs.{AllReach, AreChecked, AreNarrow, ArePosed, AreWide, CellFails, Checks, ConstantsReach, CoversFlow, FailAt, FailsAt, FailsBy}
+pub use Rattle.check_run.specs.{HeadsFailBy, HeadsHold, IsConstantCell, IsCovered, IsFirstNarrow, IsFirstShort, IsFirstUnreached, IsReadable, IsRefused}
+pub use Rattle.check_run.specs.{IsUncovered, IsUnposed, IsVerdict, IsVerdictAt, ListingEncloses, Passes, ReachesAt, ReachesOn, RunIsCertified, RunIsReadAgain}
+pub use Rattle.check_run.specs.{StopsAt, TermsHold, VerdictIsOne, as_listed, at_constant, at_term, at_variable, at_zones, bounds, checked_task, failing}
+pub use Rattle.check_run.specs.{heads_before, no_budget, no_flows, no_heads, of_bound, short, step_of, steps_of, variable_bounds}
 pub use Rattle.check_run.specs.declared.listing.CheckFault.{CheckFault}
+pub use Rattle.check_run.specs.declared.posed.Posed.{Posed}
 pub use Rattle.check_run.specs.declared.verdict.ListingVerdict.{ListingVerdict}
 pub use Rattle.check_run.specs.declared.verdict.ListingVerdict.TheVariants.{Certified, Fails, Refused}
 pub use Rattle.decimal_input.specs.{EnclosesSigned, Fraction}
@@ -55,16 +57,19 @@ pub use Rattle.model_types.specs.{storage_at, times, variable_cells, variable_fa
 pub use Rattle.model_types.specs.declared.limits.Limits.{Limits}
 pub use Rattle.model_types.specs.declared.model.FlowModel.{FlowModel}
 pub use Rattle.model_types.specs.declared.time_steps.TimeStep.{TimeStep}
+pub use Rattle.problem_builder.proofs.KindsOf.{constant_kind, variable_kind}
 pub use Rattle.problem_builder.proofs.Steps.{cells_of, same_problem}
 pub use Rattle.problem_builder.proofs.TimesOf.{flat-In, time_of}
 pub use Rattle.problem_builder.proofs.Zipped.{left_of, right_of, zip_image}
 pub use Rattle.problem_builder.specs.{AreGridHeads, HeadsEnclose, IsActive, IsCellNamed, IsProblemOf, bound_at, whole_cell, whole_evap, whole_fixed, whole_link}
 pub use Rattle.problem_hull.specs.{cell_hull, cell_shape, evap_hull, fixed_hull, fixed_shape, zip_with}
-pub use Rattle.step_chain.proofs.Assembled.{constant_not_variable, index_below}
+pub use Rattle.step_chain.proofs.Assembled.{IsPartly, active_constant, all_filled, constant_not_variable, index_below, kind_variable, partly_other}
+pub use Rattle.step_chain.proofs.Assembled.{partly_variable}
 pub use Rattle.step_chain.proofs.Histories.{first_in, lies_encloses}
 pub use Rattle.step_chain.proofs.Limits.{cut_by}
 pub use Rattle.step_chain.proofs.OneStep.{follows, pair_words, same_bound, same_bounds}
-pub use Rattle.step_chain.specs.{EnclosesMoves, HasNoPose, HeadsFit, IsBarrierBy, IsBarrierFault, IsPosed, IsStepBy, edges_by}
+pub use Rattle.step_chain.proofs.Refusals.{posed_excludes, poses_one}
+pub use Rattle.step_chain.specs.{AreHeadsOf, EnclosesMoves, HasNoPose, HeadsFit, IsBarrierBy, IsBarrierFault, IsPosed, IsStepBy, edges_by}
 pub use Rattle.step_chain.specs.declared.solved.Solved.{Solved}
 pub use Rattle.step_problem.specs.{Edges, IsCertificate, IsHead, IsProblem, PairKind, entries_at, lower_at, no_bound, no_entries, total, upper_at}
 pub use Rattle.step_problem.specs.Entries.{Entries}

@@ -12,3 +12,4 @@ pub mod RunSteps
 pub mod RunTerms
 pub mod RunListed
 pub mod RunText
+pub mod HeadsChecked

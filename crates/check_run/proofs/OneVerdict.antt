@@ -6,10 +6,11 @@ use Rattle.check_run.proofs.Common.{ListedStep, AreFlowsOf, HasLargeFlowOf, one_
 use Rattle.check_run.proofs.Common.{ListingVerdict, Certified, Fails, Refused, ConstantsReach, IsConstantCell, IsFirstShort, ReachesAt, CoversFlow}
 use Rattle.check_run.proofs.Common.{IsFirstNarrow, bounds, Passes, FailsAt, at_constant, at_variable, at_term, at_zones, IsRefused, no_heads, no_budget}
 use Rattle.check_run.proofs.Common.{no_flows, Checks, StopsAt, Decks, AreDecks, IsBefore, ProblemFits, StartHeadsAreOne, StartHeadsFit, IsBarrierBy, cut_by}
-use Rattle.check_run.proofs.Common.{VerdictIsOne, large_one, none_large, same_flows, same_problem}
+use Rattle.check_run.proofs.Common.{VerdictIsOne, large_one, none_large, same_flows, same_problem, BarrierExcludesRefusal, CutBarrierIsOne}
+use Rattle.check_run.proofs.Common.{CutBarrierExcludesRefusal, CutRefusalIsOne, poses_one}
 use Rattle.step_problem.specs.declared.place.Place.{Place}
-use Rattle.barrier_vector.specs.{BarrierExcludesRefusal, RefusalIsOne as BarrierRefusalIsOne, CutBarrierIsOne, CutBarrierExcludesRefusal, CutRefusalIsOne}
-use Rattle.step_chain.proofs.Refusals.{poses_one, posed_excludes as step_posed_excludes}
+use Rattle.barrier_vector.specs.{RefusalIsOne as BarrierRefusalIsOne}
+use Rattle.step_chain.proofs.Refusals.{posed_excludes as step_posed_excludes}
 use Rattle.check_run.specs.{budget_at}
 use Rattle.check_run.proofs.Firsts.{IsFirst, first_one, narrow_one, never_narrow, term_one}
 use Rattle.check_run.proofs.RunText.{grid_of}

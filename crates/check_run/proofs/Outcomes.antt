@@ -3,8 +3,7 @@ use Rattle.check_run.proofs.Common.{Limits, ◌≡◌, ℕ, ◌∙◌, List, Con
 use Rattle.check_run.proofs.Common.{lower_at, upper_at, IsCertificate, Budget, CoverEncloses, EnclosesBudgets, HeadsAreWithin, budget_of, EnclosesSolutions}
 use Rattle.check_run.proofs.Common.{IsFirstFailing, TimeStep, times, bound_at, BoundsMoves, CheckFault, AreNarrow, ArePosed, AreWide, FailsBy, IsCovered}
 use Rattle.check_run.proofs.Common.{IsUncovered, ConstantsReach, IsFirstShort, variable_bounds, HeadsHold, Passes, TermsHold, at_constant, at_variable, at_term}
-use Rattle.check_run.proofs.Common.{at_zones, no_budget, no_flows, checked_task, step_of, Decks, AreDecks, ConstantPairEncloses}
-use Rattle.check_run.specs.declared.posed.Posed.{Posed}
+use Rattle.check_run.proofs.Common.{at_zones, no_budget, no_flows, checked_task, step_of, Decks, AreDecks, ConstantPairEncloses, Posed}
 use Rattle.check_run.proofs.RunText.{bounds_are}
 use Rattle.check_run.proofs.Passing.{choice_moves}
 use Rattle.step_problem.specs.declared.place.Place.TheVariants as places

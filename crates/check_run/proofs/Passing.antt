@@ -13,7 +13,7 @@ use Rattle.listing_run.proofs.Moves.{flows_enclose, heads_named}
 use Rattle.check_run.proofs.RunText.{variable_listed}
 
 -- wider bounds enclose what narrower ones do
-wider : (lo hi l u : ℤ) (k : ℕ) (f : Fraction) → l ≤ℤ lo → hi ≤ℤ u → EnclosesSigned lo hi k f → EnclosesSigned l u k f
+pub wider : (lo hi l u : ℤ) (k : ℕ) (f : Fraction) → l ≤ℤ lo → hi ≤ℤ u → EnclosesSigned lo hi k f → EnclosesSigned l u k f
 wider lo hi l u k f low high h = record { lower = le_trans_z _ _ _ (mul_mono_right (den f) l lo low) h.lower; upper = le_trans_z _ _ _ h.upper (mul_mono_right (den f) hi u high) }
 
 -- a wider flow between the same zones encloses what the narrower one does

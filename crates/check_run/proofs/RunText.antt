@@ -75,7 +75,7 @@ AreHeads b = IsHead b.low × IsHead b.high
 
 -- A listed step has heads of all cells, in range.
 
-in_range : (m : FlowModel) (c : ℕ) (bs : List Bound) → AreCellBounds m c bs → (k : ℕ) (d : Bound) → k < length bs → AreHeads (get_or bs k d)
+pub in_range : (m : FlowModel) (c : ℕ) (bs : List Bound) → AreCellBounds m c bs → (k : ℕ) (d : Bound) → k < length bs → AreHeads (get_or bs k d)
 in_range m c [] h k d lt = absurd (omega (arith, lt))
 in_range m c (b ∷ bs) h zero d lt = (h.0.low, h.0.high)
 in_range m c (b ∷ bs) h (suc k) d lt = in_range m (c + 1) bs h.1 k d (omega (arith, lt))
@@ -96,7 +96,7 @@ module _ (ds : Decks) (at : TimeStep) (heads : List Bound) (p : List Entries) (c
   pub bounds_are : cell_bounds ≡ variable_bounds ds at heads
   bounds_are = mapped heads p ∙ ap (map (bound_at heads)) cells
 
-  id_is : (k : ℕ) → k < length p → (entries_at p k).id ≡ get_or (variable_cells ds.first at.period) k 0
+  pub id_is : (k : ℕ) → k < length p → (entries_at p k).id ≡ get_or (variable_cells ds.first at.period) k 0
   id_is k lt = sym (get_or-map (λ (e : Entries). e.id) p k no_entries 0 lt) ∙ ap (λ cs. get_or cs k 0) cells
 
   pub count_is : length p ≡ length (variable_cells ds.first at.period)

@@ -37,6 +37,17 @@ pub record IsConstantCell (d : Decks) (at : TimeStep) (c : ℕ) : Type 0 where
   pub within : c < cell_count d.first.grid
   pub constant : is_constant d.first at.period c ≡ true
 
+-- Of a time's constant cells, whether each reaches so far, on both sides; and the first cell and side that doesn't, the lower side first.
+module _ (d : Decks) (at : TimeStep) (Reaches : ℕ → Side → Type 0) where
+  abbrev pub AllReach : Type 0
+  AllReach = (c : ℕ) → IsConstantCell d at c → (side : Side) → Reaches c side
+
+  pub record IsFirstUnreached (c : ℕ) (side : Side) : Type 0 where
+    pub cell : IsConstantCell d at c
+    pub short : Reaches c side → ⊥
+    pub least : (e : ℕ) → e < c → IsConstantCell d at e → (other : Side) → Reaches e other
+    pub low_first : side ≡ High → Reaches c Low
+
 -- A time of decks, where `heads` are the listed heads of all cells.
 module _ (d : Decks) (at : TimeStep) (heads : List Bound) where
   -- the listed bounds of the variable cells, by ascending cell number
@@ -47,16 +58,12 @@ module _ (d : Decks) (at : TimeStep) (heads : List Bound) where
   abbrev pub ReachesAt : ℕ → Side → Type 0
   ReachesAt c side = (pair : Bound) → IsConstantPairFor d at c pair.low pair.high → ReachesOn side (bound_at heads c) pair
 
-  -- this holds at each constant cell, on both sides
+  -- this holds at each constant cell, on both sides; or this is the first cell and side where it doesn't
   abbrev pub ConstantsReach : Type 0
-  ConstantsReach = (c : ℕ) → IsConstantCell d at c → (side : Side) → ReachesAt c side
+  ConstantsReach = AllReach d at ReachesAt
 
-  -- the first constant cell and side where it doesn't, the lower side first
-  pub record IsFirstShort (c : ℕ) (side : Side) : Type 0 where
-    pub cell : IsConstantCell d at c
-    pub short : ReachesAt c side → ⊥
-    pub least : (e : ℕ) → e < c → IsConstantCell d at e → (other : Side) → ReachesAt e other
-    pub low_first : side ≡ High → ReachesAt c Low
+  abbrev pub IsFirstShort : ℕ → Side → Type 0
+  IsFirstShort = IsFirstUnreached d at ReachesAt
 
 -- Whether listed flows between zones are as wide as others, flow by flow.
 -- a listed flow is as wide as a computed one between the same zones: its lower value is at most, its upper value at least

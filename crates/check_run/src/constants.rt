@@ -14,9 +14,9 @@ use model_types::{Kind, TimeStep};
 use problem_builder::PeriodTables;
 use step_problem::{Bound, Side};
 
-// The side on which the listed bound of a cell of this kind is narrower than the pair of its constant head, the lower
-// one first.
-fn unreached_side(kind: Kind, listed: Bound, pair: Bound) -> Option<Side>
+/// The side on which the listed bound of a cell of this kind is narrower than the pair of its constant head, the lower
+/// one first.
+pub fn unreached_side(kind: Kind, listed: Bound, pair: Bound) -> Option<Side>
     ensures { MatchOption result
         (kind ≡ Constant → (side : Side) → ReachesOn side listed pair)
         (λ side. (kind ≡ Constant) × (ReachesOn side listed pair → ⊥) × (side ≡ Side.High → ReachesOn Low listed pair)) }

@@ -22,8 +22,8 @@ fn covers(listed: ZoneFlow, computed: ZoneFlow) -> bool
     listed.lo <= computed.lo && computed.hi <= listed.hi
 }
 
-// The zones of the first listed flow that isn't as wide as the computed one in its place.
-fn first_narrow(listed: &[ZoneFlow], computed: &[ZoneFlow]) -> Option<(u32, u32)>
+/// The zones of the first listed flow that isn't as wide as the computed one in its place.
+pub fn first_narrow(listed: &[ZoneFlow], computed: &[ZoneFlow]) -> Option<(u32, u32)>
     requires zones { map zones_of_flow listed.now ≡ map zones_of_flow computed.now }
     ensures { MatchOption result (AllZip CoversFlow listed.now computed.now) (λ f. IsFirstNarrow listed.now computed.now f.0 f.1) }
 {

@@ -3,6 +3,7 @@
 
 mod constants;
 mod flows;
+mod heads;
 pub mod laws;
 mod listing;
 mod posed;
@@ -11,5 +12,9 @@ mod terms;
 mod variables;
 pub mod verdict;
 
-pub use listing::check_listing;
+pub use constants::unreached_side;
+pub use flows::first_narrow;
+pub use heads::check_heads;
+pub use listing::{CheckFault, check_listing};
+pub use variables::{bounds_of, test_heads};
 pub use verdict::ListingVerdict;

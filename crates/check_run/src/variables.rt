@@ -17,7 +17,7 @@ use std::alloc::{AllocError, Global};
 use step_problem::{Barrier, Bound, Place, Problem};
 
 /// The listed bounds of a problem's cells.
-pub(crate) fn bounds_of(
+pub fn bounds_of(
     alloc: Global,
     problem: &Problem,
     heads: &[Bound],
@@ -33,11 +33,7 @@ pub(crate) fn bounds_of(
 }
 
 /// Tests the bounds of a problem's cells over its barrier. It takes no memory.
-pub(crate) fn test_heads(
-    problem: &Problem,
-    barrier: &Barrier,
-    bounds: &[Bound],
-) -> Result<(), CheckFault>
+pub fn test_heads(problem: &Problem, barrier: &Barrier, bounds: &[Bound]) -> Result<(), CheckFault>
     requires floors { length barrier.now.floor ≡ length problem.now }
     requires ceilings { length barrier.now.ceiling ≡ length problem.now }
     requires bounds { AreWords problem.now bounds.now }
