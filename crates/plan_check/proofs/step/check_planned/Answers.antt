@@ -1,0 +1,19 @@
+use Rattle.plan_check.proofs.Common.{List, subst, sym, Bound, AreGridHeads, HeadsFailBy, times_planned, lent_heads}
+use Rattle.plan_check.proofs.Holding.{planned_fails}
+use Rattle.plan_check.proofs.Listed.{listed_fit}
+use Rattle.plan_check.proofs.step.check_planned.Goals as goal
+
+pub check_deck-requires-clause-time : goal.check_deck-requires-clause-time
+check_deck-requires-clause-time c = times_planned c.args.task.now c.requires.task c.args.at c.requires.time
+
+pub check_deck-requires-clause-heads : goal.check_deck-requires-clause-heads
+check_deck-requires-clause-heads c =
+    let k = c.args.task.now in
+    subst (AreGridHeads k.planned.first) (sym c.as_slice-heads.ensures) (listed_fit k c.requires.task c.args.at c.args.listed.now _ c.requires.listed).planned
+
+pub returns-in-Err-clause-fault : goal.returns-in-Err-clause-fault
+returns-in-Err-clause-fault c =
+    let k = c.args.task.now in
+    let old = lent_heads c.args.old in
+    let F : List Bound → Type 0 = λ hs. HeadsFailBy k.limits k.planned k.digits c.args.at old.planned hs c.in-Err.fault in
+    rw c.in_part.ensures (planned_fails k c.args.at old c.args.listed.now c.args.base c.requires.base c.in-Err.fault (subst F c.as_slice-heads.ensures c.in-Err.ensures.fault))
