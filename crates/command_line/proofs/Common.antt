@@ -6,8 +6,9 @@ pub use Rattle.std.specs.Str.{bytes_eq}
 pub use Rattle.std.specs.Str.Parse.{ParsesUnsigned, digits_value}
 pub use Rattle.clap.specs.Words.{AddsArg, AddsSubcommand, App, HasKind, HasMatchesOf, IsAmong, Kinds, Row, Rule, Text, app_of, fault_of, first_of, found_of}
 pub use Rattle.clap.specs.Words.{is_simple, is_simple_and_free, kind_of, rule_of, subcommand_of, subcommand_rows_of, with_rule, with_subcommand}
-pub use Rattle.command_line.specs.{AskedCheck, AskedText, Check, CheckText, HasForm, Wanted, Words, batch_in, check_in, command_in, digits_in, flag_in}
-pub use Rattle.command_line.specs.{is_number, listing_check_in, make_in, number_in, number_or, omitted, order_of_words, quick_if_unwatched, rounds_in, run_in}
-pub use Rattle.command_line.specs.{text_check_in, wanted_if, watch_in, workers_in, write_in}
+pub use Rattle.command_line.specs.{AskedCheck, AskedText, Check, CheckPlan, CheckText, HasForm, Wanted, Words, batch_in, check_by, check_in, command_in}
+pub use Rattle.command_line.specs.{digits_in, file_check_in, flag_in, is_number, listed_in, listing_check_in, make_in, number_in, number_or, omitted}
+pub use Rattle.command_line.specs.{order_of_words, plan_check_in, plan_in, quick_if_unwatched, rounds_in, run_by, run_in, text_check_in, unset, wanted_if}
+pub use Rattle.command_line.specs.{watch_in, workers_in, write_in}
 unfoldable pub use Rattle.command_line.specs.{batch_app, check_app, heads_app, make_app, needing, run_app, settling, spanning, with_flag, with_last_word}
 unfoldable pub use Rattle.command_line.specs.{with_option, with_word, words_app, write_app}

@@ -2,8 +2,8 @@
 use Rattle.command_line.proofs.Common.{◌≡◌, ℕ, ◌≤◌, Bool, true, false, cond, List, [], ◌∷◌, Option, Some, None, codes, refl, subst, arith, bytes_eq}
 use Rattle.command_line.proofs.Common.{digits_value, leb-true, and_parts, Text, Row, Kinds, fault_of, subcommand_of, first_of, heads_app, is_number, number_in}
 use Rattle.command_line.proofs.Common.{number_or, Wanted, AskedCheck, Check, batch_in, write_in, check_in, command_in, digits_in, make_in, rounds_in, run_in}
-use Rattle.command_line.proofs.Common.{wanted_if, order_of_words, watch_in, workers_in, flag_in, quick_if_unwatched, AskedText, CheckText, Words}
-use Rattle.command_line.proofs.Common.{listing_check_in, omitted, text_check_in}
+use Rattle.command_line.proofs.Common.{wanted_if, order_of_words, watch_in, workers_in, flag_in, quick_if_unwatched, AskedText, CheckText, Words, listed_in}
+use Rattle.command_line.proofs.Common.{CheckPlan, check_by, file_check_in, listing_check_in, omitted, plan_check_in, plan_in, run_by, text_check_in, unset}
 use Rattle.std.specs.Prelude.{◌&&◌, if◌then◌else◌, decimal, nat_le, option_and_then}
 
 -- a number that was taken is one of its range
@@ -23,6 +23,7 @@ few (Some text) n e =
 -- a check has at most 18
 abbrev Fits : Option Wanted → Type 0
 Fits (Some (Check asked to)) = asked.digits ≤ 18
+Fits (Some (CheckPlan asked wells to)) = asked.digits ≤ 18
 Fits (Some (CheckText asked)) = asked.digits ≤ 18
 Fits other = Unit {0}
 
@@ -34,30 +35,58 @@ cond_fits : (test : Bool) (x y : Option Wanted) → Fits x → Fits y → Fits (
 cond_fits true x y h k = h
 cond_fits false x y h k = k
 
-run_fits : (rows : List Row) → Fits (run_in rows)
-run_fits rows =
+listed_fits : (rows : List Row) → Fits (listed_in rows)
+listed_fits rows =
     then_fits (first_of (codes "name") rows) _ (λ name a.
     then_fits (digits_in rows) _ (λ digits b.
     then_fits (workers_in rows) _ (λ workers c.
     then_fits (rounds_in rows) _ (λ rounds d.
     then_fits (watch_in rows) _ (λ turns e. then_fits (quick_if_unwatched turns (flag_in (codes "quick") rows)) _ (λ quick f. tt))))))
 
+plan_fits : (wells : Text) (rows : List Row) → Fits (plan_in wells rows)
+plan_fits wells rows =
+    then_fits (first_of (codes "name") rows) _ (λ name a.
+    then_fits (digits_in rows) _ (λ digits b.
+    then_fits (workers_in rows) _ (λ workers c.
+    then_fits (rounds_in rows) _ (λ rounds d.
+    then_fits (omitted (first_of (codes "watch") rows)) _ (λ watch e. then_fits (unset (flag_in (codes "deck") rows)) _ (λ deck f. tt))))))
+
+run_fits : (rows : List Row) → Fits (run_in rows)
+run_fits rows = by_wells (first_of (codes "plan") rows)
+  where
+    by_wells : (wells : Option Text) → Fits (run_by wells rows)
+    by_wells None = listed_fits rows
+    by_wells (Some wells) = plan_fits wells rows
+
 listing_check_fits : (rows : List Row) → Fits (listing_check_in rows)
 listing_check_fits rows =
     then_fits (first_of (codes "name") rows) _ (λ name a.
     then_fits (first_of (codes "listing") rows) _ (λ listing b. then_fits (digits_in rows) _ (λ digits c. (few (first_of (codes "digits") rows) digits c))))
 
+plan_check_fits : (wells : Text) (rows : List Row) → Fits (plan_check_in wells rows)
+plan_check_fits wells rows =
+    then_fits (first_of (codes "name") rows) _ (λ name a.
+    then_fits (first_of (codes "listing") rows) _ (λ listing b. then_fits (digits_in rows) _ (λ digits c. (few (first_of (codes "digits") rows) digits c))))
+
+file_check_fits : (rows : List Row) → Fits (file_check_in rows)
+file_check_fits rows = by_wells (first_of (codes "plan") rows)
+  where
+    by_wells : (wells : Option Text) → Fits (check_by wells rows)
+    by_wells None = listing_check_fits rows
+    by_wells (Some wells) = plan_check_fits wells rows
+
 text_check_fits : (rows : List Row) → Fits (text_check_in rows)
 text_check_fits rows =
     then_fits (first_of (codes "name") rows) _ (λ text a. then_fits (omitted (first_of (codes "listing") rows)) _ (λ listing b. then_fits (omitted (first_of (codes "to") rows)) _
-    (λ to c. then_fits (omitted (first_of (codes "zones") rows)) _ (λ zones d. then_fits (digits_in rows) _ (λ digits e. (few (first_of (codes "digits") rows) digits e))))))
+    (λ to c. then_fits (omitted (first_of (codes "zones") rows)) _ (λ zones d. then_fits (omitted (first_of (codes "plan") rows)) _
+    (λ plan f. then_fits (digits_in rows) _ (λ digits e. (few (first_of (codes "digits") rows) digits e)))))))
 
 check_fits : (rows : List Row) → Fits (check_in rows)
 check_fits rows = by_flag (flag_in (codes "deck") rows)
   where
-    by_flag : (deck : Bool) → Fits (if deck then text_check_in rows else listing_check_in rows)
+    by_flag : (deck : Bool) → Fits (if deck then text_check_in rows else file_check_in rows)
     by_flag true = text_check_fits rows
-    by_flag false = listing_check_fits rows
+    by_flag false = file_check_fits rows
 
 make_fits : (rows : List Row) → Fits (make_in rows)
 make_fits rows =

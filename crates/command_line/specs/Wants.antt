@@ -8,6 +8,7 @@ use Rattle.command_line.specs.Commands.{heads_app}
 use Rattle.command_line.specs.declared.order.BatchOrder.{BatchOrder}
 use Rattle.command_line.specs.declared.order.CheckOrder.{CheckOrder}
 use Rattle.command_line.specs.declared.order.Order.{Order}
+use Rattle.command_line.specs.declared.order.PlanOrder.{PlanOrder}
 use Rattle.command_line.specs.declared.order.RunOrder.{RunOrder}
 use Rattle.command_line.specs.declared.order.TextOrder.{TextOrder}
 use Rattle.model_types.specs.declared.limits.Limits.{Limits}
@@ -48,6 +49,19 @@ pub record ListingOrder : Type 0 where
   pub quick : Bool
   pub deck : Bool
 
+-- What a plan's wells do, which the words ask for: the limits, the names of the name file and of the wells' file, the digits of conductances, the
+-- number of workers and of plain rounds in which each pair of a step must settle, the name of a zone file, if there is one, and whether a pair may
+-- be any that is a certificate.
+pub record AskedPlan : Type 0 where
+  pub limits : Limits
+  pub name : Text
+  pub wells : Text
+  pub digits : ℕ
+  pub workers : ℕ
+  pub rounds : ℕ
+  pub zones : Option Text
+  pub quick : Bool
+
 -- A check that the words ask for: the limits, the name of the name file, that of the listing, the digits of conductances, and the name
 -- of a zone file, if there is one.
 pub record AskedCheck : Type 0 where
@@ -73,12 +87,15 @@ pub record AskedBatch : Type 0 where
   pub rounds : ℕ
   pub quick : Bool
 
--- To list a model, or with the name of a second name file all models between two; to check a listing of a model, or of all between two,
--- or one that stands in one text with its decks; to make a model from this seed, with this many rows and columns, and sum it up; to list
--- the models of a batch; to write the deck of the model of this name file, by these limits; or to list the words of the program.
+-- To list a model, or with the name of a second name file all models between two; to list what a plan's wells do to either; to check a
+-- listing of a model, or of all between two, or with the name of a plan's wells one of what these do, or one that stands in one text with
+-- its decks; to make a model from this seed, with this many rows and columns, and sum it up; to list the models of a batch; to write the
+-- deck of the model of this name file, by these limits; or to list the words of the program.
 pub data Wanted : Type 0 where
   Run : ListingOrder → Option Text → Wanted
+  Plan : AskedPlan → Option Text → Wanted
   Check : AskedCheck → Option Text → Wanted
+  CheckPlan : AskedCheck → Text → Option Text → Wanted
   CheckText : AskedText → Wanted
   Make : ℕ → ℕ → Wanted
   Batch : AskedBatch → Wanted
@@ -120,8 +137,8 @@ quick_if_unwatched (Some turns) true = None
 quick_if_unwatched turns quick = Some quick
 
 -- what the words after a command ask for, by the values that they give to its arguments
-abbrev pub run_in : List Row → Option Wanted
-run_in rows = do
+abbrev pub listed_in : List Row → Option Wanted
+listed_in rows = do
   name ← first_of (codes "name") rows
   digits ← digits_in rows
   workers ← workers_in rows
@@ -140,6 +157,43 @@ run_in rows = do
     deck = flag_in (codes "deck") rows;
   }) (first_of (codes "to") rows))
 
+-- nothing, where an argument is omitted, or a flag isn't given
+abbrev pub omitted : Option Text → Option (Unit {0})
+omitted None = Some tt
+omitted (Some text) = None
+
+abbrev pub unset : Bool → Option (Unit {0})
+unset true = None
+unset false = Some tt
+
+-- What these wells do: neither watched, nor after the text of a deck.
+abbrev pub plan_in : Text → List Row → Option Wanted
+plan_in wells rows = do
+  name ← first_of (codes "name") rows
+  digits ← digits_in rows
+  workers ← workers_in rows
+  rounds ← rounds_in rows
+  watch ← omitted (first_of (codes "watch") rows)
+  deck ← unset (flag_in (codes "deck") rows)
+  Some (Plan (record {
+    limits = limits_in rows;
+    name = name;
+    wells = wells;
+    digits = digits;
+    workers = workers;
+    rounds = rounds;
+    zones = first_of (codes "zones") rows;
+    quick = flag_in (codes "quick") rows;
+  }) (first_of (codes "to") rows))
+
+-- a run is a listing, or with the name of a plan's wells what these do
+abbrev pub run_by : Option Text → List Row → Option Wanted
+run_by None rows = listed_in rows
+run_by (Some wells) rows = plan_in wells rows
+
+abbrev pub run_in : List Row → Option Wanted
+run_in rows = run_by (first_of (codes "plan") rows) rows
+
 abbrev pub listing_check_in : List Row → Option Wanted
 listing_check_in rows = do
   name ← first_of (codes "name") rows
@@ -148,12 +202,23 @@ listing_check_in rows = do
   Some (Check (record { limits = limits_in rows; name = name; listing = listing; digits = digits; zones = first_of (codes "zones") rows })
       (first_of (codes "to") rows))
 
--- nothing, where an argument is omitted
-abbrev pub omitted : Option Text → Option (Unit {0})
-omitted None = Some tt
-omitted (Some text) = None
+abbrev pub plan_check_in : Text → List Row → Option Wanted
+plan_check_in wells rows = do
+  name ← first_of (codes "name") rows
+  listing ← first_of (codes "listing") rows
+  digits ← digits_in rows
+  Some (CheckPlan (record { limits = limits_in rows; name = name; listing = listing; digits = digits; zones = first_of (codes "zones") rows })
+      wells (first_of (codes "to") rows))
 
--- the check of a text has one word, which is the text's name, and neither a second deck nor a zone file beside it
+-- with the name of a plan's wells the check is of a listing of what these do
+abbrev pub check_by : Option Text → List Row → Option Wanted
+check_by None rows = listing_check_in rows
+check_by (Some wells) rows = plan_check_in wells rows
+
+abbrev pub file_check_in : List Row → Option Wanted
+file_check_in rows = check_by (first_of (codes "plan") rows) rows
+
+-- the check of a text has one word, which is the text's name, and neither a second deck, nor a zone file, nor a plan's wells beside it
 
 abbrev pub text_check_in : List Row → Option Wanted
 text_check_in rows = do
@@ -161,11 +226,12 @@ text_check_in rows = do
   listing ← omitted (first_of (codes "listing") rows)
   to ← omitted (first_of (codes "to") rows)
   zones ← omitted (first_of (codes "zones") rows)
+  plan ← omitted (first_of (codes "plan") rows)
   digits ← digits_in rows
   Some (CheckText (record { limits = limits_in rows; text = text; digits = digits }))
 
 abbrev pub check_in : List Row → Option Wanted
-check_in rows = if flag_in (codes "deck") rows then text_check_in rows else listing_check_in rows
+check_in rows = if flag_in (codes "deck") rows then text_check_in rows else file_check_in rows
 
 abbrev pub make_in : List Row → Option Wanted
 make_in rows = do
@@ -230,6 +296,19 @@ asked_of a =
       deck = a.deck;
     }
 
+abbrev pub plan_asked : PlanOrder → AskedPlan
+plan_asked a =
+    record {
+      limits = a.limits;
+      name = a.name.now;
+      wells = a.wells.now;
+      digits = a.digits;
+      workers = a.workers;
+      rounds = a.rounds;
+      zones = text_if a.zones;
+      quick = a.quick;
+    }
+
 abbrev pub check_of : CheckOrder → AskedCheck
 check_of a = record { limits = a.limits; name = a.name.now; listing = a.listing.now; digits = a.digits; zones = text_if a.zones }
 
@@ -241,7 +320,9 @@ batch_of a = record { limits = a.limits; list = a.list.now; digits = a.digits; w
 
 abbrev pub wanted_by : Order → Wanted
 wanted_by (order.Run a) = Run (asked_of a) (text_if a.to)
+wanted_by (order.Plan a) = Plan (plan_asked a) (text_if a.to)
 wanted_by (order.Check a) = Check (check_of a) (text_if a.to)
+wanted_by (order.CheckPlan a) = CheckPlan (check_of a.check) a.wells.now (text_if a.check.to)
 wanted_by (order.CheckText a) = CheckText (asked_text a)
 wanted_by (order.Make a) = Make a.seed a.size
 wanted_by (order.Batch a) = Batch (batch_of a)

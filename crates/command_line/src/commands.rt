@@ -76,7 +76,8 @@ fn run_command<'a>(alloc: Global) -> Result<Command<'a>, AllocError>
     let command = with_settling(alloc, command)?;
     let command = with_span(alloc, command)?;
     let command = with_option(alloc, command, "watch")?;
-    with_flag(alloc, command, "deck")
+    let command = with_flag(alloc, command, "deck")?;
+    with_option(alloc, command, "plan")
 }
 
 fn check_command<'a>(alloc: Global) -> Result<Command<'a>, AllocError>
@@ -87,7 +88,8 @@ fn check_command<'a>(alloc: Global) -> Result<Command<'a>, AllocError>
     let command = with_option(alloc, command, "digits")?;
     let command = with_span(alloc, command)?;
     let command = with_flag(alloc, command, "wide")?;
-    with_flag(alloc, command, "deck")
+    let command = with_flag(alloc, command, "deck")?;
+    with_option(alloc, command, "plan")
 }
 
 #[tactic(auto, unfolding(crate::specs::Commands::make_app))]

@@ -6,5 +6,8 @@ mod numbers;
 mod order;
 mod orders;
 
-pub use order::{BatchOrder, CheckOrder, MakeOrder, Order, RunOrder, TextOrder, WordsFault};
+pub use order::{
+    BatchOrder, CheckOrder, MakeOrder, Order, PlanCheckOrder, PlanOrder, RunOrder, TextOrder,
+    WordsFault,
+};
 pub use orders::read_order;

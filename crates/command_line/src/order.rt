@@ -9,7 +9,9 @@ use model_types::Limits;
 #[derive(Clone, Copy)]
 pub enum Order<'a> {
     Run(RunOrder<'a>),
+    Plan(PlanOrder<'a>),
     Check(CheckOrder<'a>),
+    CheckPlan(PlanCheckOrder<'a>),
     CheckText(TextOrder<'a>),
     Make(MakeOrder),
     Batch(BatchOrder<'a>),
@@ -38,6 +40,22 @@ pub struct RunOrder<'a> {
     ghost watched: { IfSome watch (AreTurns quick) } by { Prim.hlevel props },
 }
 
+/// What the wells of a plan do to the heads of a model; with `to` to those of every model between two. Where it is `quick`, a step may
+/// have any pairs that are certificates.
+#[derive(Clone, Copy)]
+pub struct PlanOrder<'a> {
+    pub limits: Limits,
+    pub name: &'a str,
+    pub to: Option<&'a str>,
+    pub wells: &'a str,
+    pub digits: u32,
+    pub workers: u32,
+    pub rounds: u32,
+    pub zones: Option<&'a str>,
+    pub quick: bool,
+    ghost in_range: { (digits ≤ 18) × AreSettlersNumbers workers rounds },
+}
+
 /// Whether a listing is certified; with `to` one of every model between two.
 #[derive(Clone, Copy)]
 pub struct CheckOrder<'a> {
@@ -48,6 +66,13 @@ pub struct CheckOrder<'a> {
     pub digits: u32,
     pub zones: Option<&'a str>,
     ghost in_range: { digits ≤ 18 },
+}
+
+/// Whether a listing of what the wells of a plan do is certified.
+#[derive(Clone, Copy)]
+pub struct PlanCheckOrder<'a> {
+    pub check: CheckOrder<'a>,
+    pub wells: &'a str,
 }
 
 /// Whether a listing that stands in one text with its decks is certified.

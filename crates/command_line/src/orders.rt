@@ -1,14 +1,17 @@
 // What the words ask for, read from them.
 ghost use Rattle.std.specs.Prelude.{◌≡◌, map, option_map, option_and_then, IfOk, IfSome, IsErrOf, Some, None, false};
 ghost use Rattle.clap.specs.Words.{rows_of, found_of, first_of, subcommand_rows_of};
-ghost use Rattle.command_line.specs.{flag_in, limits_in, quick_if_unwatched, wanted_by, order_of_words, run_in, check_in, make_in, batch_in, omitted, write_in};
-ghost use Rattle.command_line.specs.{command_in, listing_check_in, text_check_in};
+ghost use Rattle.command_line.specs.{flag_in, limits_in, quick_if_unwatched, wanted_by, order_of_words, run_in, check_in, make_in, batch_in, omitted};
+ghost use Rattle.command_line.specs.{command_in, file_check_in, listed_in, listing_check_in, plan_check_in, plan_in, text_check_in, unset, write_in};
 
 use crate::commands::heads_command;
 use crate::numbers::{
     digits_or_given, read_number, rounds_or_given, turns_or_none, workers_or_given,
 };
-use crate::order::{BatchOrder, CheckOrder, MakeOrder, Order, RunOrder, TextOrder, WordsFault};
+use crate::order::{
+    BatchOrder, CheckOrder, MakeOrder, Order, PlanCheckOrder, PlanOrder, RunOrder, TextOrder,
+    WordsFault,
+};
 use clap::ArgMatches;
 use clap::error::ErrorKind;
 use model_types::Limits;
@@ -53,8 +56,9 @@ fn quick_unless_watched(watch: Option<u32>, quick: bool) -> Option<bool>
     }
 }
 
-fn run_order<'a>(found: &ArgMatches<'a>) -> Option<Order<'a>>
-    ensures { option_map wanted_by result ≡ run_in (rows_of (found_of found.now)) }
+// The listing of a model.
+fn listing_order<'a>(found: &ArgMatches<'a>) -> Option<Order<'a>>
+    ensures { option_map wanted_by result ≡ listed_in (rows_of (found_of found.now)) }
 {
     let name = text_of(found, "name")?;
     let digits = digits_or_given(text_of(found, "digits"))?;
@@ -76,6 +80,55 @@ fn run_order<'a>(found: &ArgMatches<'a>) -> Option<Order<'a>>
     }))
 }
 
+// Nothing, where an argument is omitted.
+fn omitted(text: Option<&str>) -> Option<()>
+    ensures { result ≡ omitted (option_map (λ s. s.now) text.entry) }
+{
+    match text {
+        None => Some(()),
+        Some(_) => None,
+    }
+}
+
+// Nothing, where a flag isn't given.
+fn unset(flag: bool) -> Option<()>
+    ensures { result ≡ unset flag }
+{
+    if flag { None } else { Some(()) }
+}
+
+// What these wells do.
+fn plan_order<'a>(found: &ArgMatches<'a>, wells: &'a str) -> Option<Order<'a>>
+    ensures { option_map wanted_by result ≡ plan_in wells.entry.now (rows_of (found_of found.now)) }
+{
+    let name = text_of(found, "name")?;
+    let digits = digits_or_given(text_of(found, "digits"))?;
+    let workers = workers_or_given(text_of(found, "workers"))?;
+    let rounds = rounds_or_given(text_of(found, "rounds"))?;
+    omitted(text_of(found, "watch"))?;
+    unset(has_flag(found, "deck"))?;
+    Some(Order::Plan(PlanOrder {
+        limits: limits_in(found),
+        name,
+        to: text_of(found, "to"),
+        wells,
+        digits,
+        workers,
+        rounds,
+        zones: text_of(found, "zones"),
+        quick: has_flag(found, "quick"),
+    }))
+}
+
+fn run_order<'a>(found: &ArgMatches<'a>) -> Option<Order<'a>>
+    ensures { option_map wanted_by result ≡ run_in (rows_of (found_of found.now)) }
+{
+    match text_of(found, "plan") {
+        None => listing_order(found),
+        Some(wells) => plan_order(found, wells),
+    }
+}
+
 // The check of a listing that is a file of its own.
 fn listing_check_order<'a>(found: &ArgMatches<'a>) -> Option<Order<'a>>
     ensures { option_map wanted_by result ≡ listing_check_in (rows_of (found_of found.now)) }
@@ -93,13 +146,30 @@ fn listing_check_order<'a>(found: &ArgMatches<'a>) -> Option<Order<'a>>
     }))
 }
 
-// Nothing, where an argument is omitted.
-fn omitted(text: Option<&str>) -> Option<()>
-    ensures { result ≡ omitted (option_map (λ s. s.now) text.entry) }
+// The check of a listing of what these wells do.
+fn plan_check_order<'a>(found: &ArgMatches<'a>, wells: &'a str) -> Option<Order<'a>>
+    ensures { option_map wanted_by result ≡ plan_check_in wells.entry.now (rows_of (found_of found.now)) }
 {
-    match text {
-        None => Some(()),
-        Some(_) => None,
+    let name = text_of(found, "name")?;
+    let listing = text_of(found, "listing")?;
+    let digits = digits_or_given(text_of(found, "digits"))?;
+    let check = CheckOrder {
+        limits: limits_in(found),
+        name,
+        to: text_of(found, "to"),
+        listing,
+        digits,
+        zones: text_of(found, "zones"),
+    };
+    Some(Order::CheckPlan(PlanCheckOrder { check, wells }))
+}
+
+fn file_check_order<'a>(found: &ArgMatches<'a>) -> Option<Order<'a>>
+    ensures { option_map wanted_by result ≡ file_check_in (rows_of (found_of found.now)) }
+{
+    match text_of(found, "plan") {
+        None => listing_check_order(found),
+        Some(wells) => plan_check_order(found, wells),
     }
 }
 
@@ -111,6 +181,7 @@ fn text_check_order<'a>(found: &ArgMatches<'a>) -> Option<Order<'a>>
     omitted(text_of(found, "listing"))?;
     omitted(text_of(found, "to"))?;
     omitted(text_of(found, "zones"))?;
+    omitted(text_of(found, "plan"))?;
     let digits = digits_or_given(text_of(found, "digits"))?;
     Some(Order::CheckText(TextOrder {
         limits: limits_in(found),
@@ -125,7 +196,7 @@ fn check_order<'a>(found: &ArgMatches<'a>) -> Option<Order<'a>>
     if has_flag(found, "deck") {
         text_check_order(found)
     } else {
-        listing_check_order(found)
+        file_check_order(found)
     }
 }
 

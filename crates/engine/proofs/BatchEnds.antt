@@ -1,9 +1,9 @@
 -- The ends of a batch, by its reading and its jobs.
 use Rattle.engine.proofs.Common.{[], Job, Text, ends_of_jobs, JobEnd, Wanted, AreDecks, AreTasks, Batch, IsJobEnd, IsRunText, defined, model_line, IsValidJob}
-use Rattle.engine.proofs.Common.{CheckText, Words, Run, Check, Write, Make, MayRead, files_of, files_if, refused_line, IsTask, Task, folder_name, WordsMay}
-use Rattle.engine.proofs.Common.{Refusal, Err, IfOk, List, None, Ok, Result, Some, ap, refl, subst, sym, ℕ, ◌++◌, ◌∙◌, ◌∷◌, ◌≡◌, Option, append-nil, All-weaker}
-use Rattle.engine.proofs.Common.{All-head, All-tail, AllZip, All, slice_get, option_to_list, Order, but_batch, wanted_by, IfOk-at_ok, IfOk-weaker, WordsFault}
-use Rattle.engine.proofs.Common.{IsOrder}
+use Rattle.engine.proofs.Common.{CheckPlan, CheckText, Plan, Words, Run, Check, Write, Make, MayRead, files_of, files_if, refused_line, IsTask, Task}
+use Rattle.engine.proofs.Common.{folder_name, WordsMay, Refusal, Err, IfOk, List, None, Ok, Result, Some, ap, refl, subst, sym, ℕ, ◌++◌, ◌∙◌, ◌∷◌, ◌≡◌, Option}
+use Rattle.engine.proofs.Common.{append-nil, All-weaker, All-head, All-tail, AllZip, All, slice_get, option_to_list, Order, but_batch, wanted_by, IfOk-at_ok}
+use Rattle.engine.proofs.Common.{IfOk-weaker, WordsFault, IsOrder}
 use Rattle.std.specs.Prelude.{IfSome, length}
 use Rattle.batch_book.specs.{AreJobEnds}
 use Rattle.command_line.specs.declared.order.BatchOrder.{BatchOrder}
@@ -50,6 +50,8 @@ module _ (may : List ℕ → Type 0) where
   -- the files of a command
   abbrev pub MayDo : Wanted → Type 0
   MayDo (Run a to) = MayRead may a.name to a.zones
+  MayDo (Plan a to) = MayRead may a.name to a.zones × May a.wells
+  MayDo (CheckPlan a wells to) = MayRead may a.name to a.zones × May wells × May a.listing
   MayDo (Make seed size) = Unit {0}
   MayDo (Check a to) = MayRead may a.name to a.zones × May a.listing
   MayDo (Batch b) = May b.list
@@ -71,6 +73,10 @@ module _ (may : List ℕ → Type 0) where
   files_may : (w : Wanted) → WordsMay may (files_of w) → MayDo w
   files_may (Run a to) h = (three_may a.name to a.zones [] (subst (λ (files : List Text). All May (a.name ∷ (option_to_list to ++ files))) (sym (append-nil (option_to_list a.zones))) h)).0
   files_may (Check a to) h = let p = three_may a.name to a.zones (a.listing ∷ []) h in (p.0, All-head May a.listing [] p.1)
+  files_may (Plan a to) h = let p = three_may a.name to a.zones (a.wells ∷ []) h in (p.0, All-head May a.wells [] p.1)
+  files_may (CheckPlan a wells to) h =
+      let p = three_may a.name to a.zones (wells ∷ (a.listing ∷ [])) h in
+      (p.0, All-head May wells (a.listing ∷ []) p.1, All-head May a.listing [] (All-tail May wells (a.listing ∷ []) p.1))
   files_may (Make seed size) h = tt
   files_may (Batch b) h = All-head May b.list [] h
   files_may (Write limits name) h = All-head May name [] h

@@ -15,8 +15,8 @@ pub use Rattle.check_run.specs.{IsReadable, IsVerdict, ListingEncloses, RunIsCer
 pub use Rattle.check_run.specs.declared.verdict.ListingVerdict.{ListingVerdict}
 pub use Rattle.check_run.specs.declared.verdict.ListingVerdict.TheVariants.{Certified, Fails}
 pub use Rattle.command_line.proofs.DigitLemmas.{check_digits, text_digits}
-pub use Rattle.command_line.specs.{AskedBatch, AskedCheck, AskedText, Batch, Check, CheckText, ListingOrder, Make, Run, Wanted, Words, Write, asked_of}
-pub use Rattle.command_line.specs.{asked_text, batch_of, check_of, order_of_words, text_if, usage_line, wanted_by}
+pub use Rattle.command_line.specs.{AskedBatch, AskedCheck, AskedPlan, AskedText, Batch, Check, CheckPlan, CheckText, ListingOrder, Make, Plan, Run, Wanted}
+pub use Rattle.command_line.specs.{Words, Write, asked_of, asked_text, batch_of, check_of, order_of_words, plan_asked, text_if, usage_line, wanted_by}
 pub use Rattle.command_line.specs.declared.order.Order.{Order}
 pub use Rattle.command_line.specs.declared.order.WordsFault.{WordsFault}
 pub use Rattle.deck_problems.proofs.OneProblem.{one_valid}
@@ -24,24 +24,27 @@ pub use Rattle.deck_problems.specs.{AreDecks, IsSecond, one_deck}
 pub use Rattle.deck_problems.specs.declared.decks.Decks.{Decks}
 pub use Rattle.deck_span.specs.{AreAlike, Choice, DifferenceIsOne, IsFirstDifference, step_from}
 pub use Rattle.deck_span.specs.declared.difference.Difference.{Difference}
-pub use Rattle.engine.specs.{After, Answers, AnswersBeside, AreDecksAs, AreDecksOf, AreItsSteps, ArePairOf, ArePutInTurn, AreTasks, AreText, AreViews}
-pub use Rattle.engine.specs.{AreWatched, ByDeck, Case, Checking, ChecksText, ChecksWritten, Comparing, CutOf, DeckAndListingAreStated, DeckHasSameListing}
-pub use Rattle.engine.specs.{DecksAndListingAreStated, Defines, Due, EndIsDefined, EndsOk, FolderUse, GoesThrough, GoesWell, HasEnded, HasNoList, HeadlineOf}
-pub use Rattle.engine.specs.{IsAsked, IsCheck, IsDecksRefusal, IsDue, IsFaultOf, IsFirstIf, IsFirstPut, IsJobEnd, IsJobListing, IsListed, IsListingOf, IsMade}
-pub use Rattle.engine.specs.{IsNoSecond, IsOrder, IsPlain, IsReadableText, IsReadingEnd, IsRefusedBy, IsRunOf, IsRunResult, IsRunText, IsSaid, IsStopNumber}
-pub use Rattle.engine.specs.{IsStopped, IsTaskRead, IsValid, IsValidJob, IsView, IsWatched, JobDefines, Jobs, Listing, ListsPairs, Making, MayRead, NoWords}
-pub use Rattle.engine.specs.{OneDeck, OneDeckListing, OneDeckSpan, OneOf, OneSpan, OneSpanTextIsCertified, OneSummary, OneTextIsCertified, OneTextVerdict}
-pub use Rattle.engine.specs.{OneVerdict, ReadsFolder, ReadsNothing, Refuses, RunHeadline, RunSpanHeadline, SameDeckHasSameModel, SameModelHasSameListing}
-pub use Rattle.engine.specs.{Saying, Second, Serves, Shows, SidePuts, SinkUse, SpanStated, SpanVerdict, StorageHolds, ViewsPut, Writing, WrittenIsCertified}
-pub use Rattle.engine.specs.{after_text, broken_off, but_batch, case_decks, case_listed, case_named, case_of, case_parts, case_read, case_rest, certified_line}
-pub use Rattle.engine.specs.{decks_task, decks_text, defined, failed_write, files_if, files_of, folder_use, job_of, job_task, jobs_read, lines_of, listing_read}
-pub use Rattle.engine.specs.{made_fault, made_model, made_task, model_line, names_read, not_alike, of_both, of_first, of_second, read_by_name, second_by}
-pub use Rattle.engine.specs.{sink_use, span_task_of, steps_read, summed_text, task_of, unread, verdict_line, verdict_status, views_in, words_text, zones_read}
+pub use Rattle.engine.specs.{After, Answers, AnswersBeside, AreDecksAs, AreDecksOf, AreItsSteps, ArePairOf, ArePutInTurn, AreReadAs, AreTasks, AreText}
+pub use Rattle.engine.specs.{AreViews, AreWatched, ByDeck, Case, Checking, ChecksText, ChecksWritten, Comparing, CutOf, DeckAndListingAreStated}
+pub use Rattle.engine.specs.{DeckHasSameListing, DecksAndListingAreStated, Defines, Due, EndIsDefined, EndsOk, FolderUse, GoesThrough, GoesWell, HasEnded}
+pub use Rattle.engine.specs.{HasNoList, HeadlineOf, IsAsked, IsCheck, IsDecksRefusal, IsDue, IsFaultOf, IsFirstIf, IsFirstPut, IsJobEnd, IsJobListing, IsListed}
+pub use Rattle.engine.specs.{IsListingOf, IsMade, IsNoSecond, IsOrder, IsPlain, IsPlanCheck, IsReadableText, IsReadingEnd, IsRefusedBy, IsRunOf, IsRunResult}
+pub use Rattle.engine.specs.{IsRunText, IsSaid, IsStopNumber, IsStopped, IsTaskRead, IsValid, IsValidJob, IsView, IsWatched, JobDefines, Jobs, Listing}
+pub use Rattle.engine.specs.{ListsPairs, Making, MayRead, NoWords, OneDeck, OneDeckListing, OneDeckSpan, OneOf, OnePlan, OneSpan, OneSpanTextIsCertified}
+pub use Rattle.engine.specs.{OneSummary, OneTextIsCertified, OneTextVerdict, OneVerdict, PlanChecking, PlanGoesThrough, PlanVerdict, Planning, ReadsFolder}
+pub use Rattle.engine.specs.{ReadsNothing, Refuses, RunHeadline, RunSpanHeadline, SameDeckHasSameModel, SameModelHasSameListing, Saying, Second, Serves, Shows}
+pub use Rattle.engine.specs.{SidePuts, SinkUse, SpanStated, SpanVerdict, StorageHolds, ViewsPut, Writing, WrittenIsCertified, after_text, as_plan, broken_off}
+pub use Rattle.engine.specs.{but_batch, case_decks, case_listed, case_named, case_of, case_parts, case_read, case_rest, certified_line, decks_task, decks_text}
+pub use Rattle.engine.specs.{defined, failed_write, files_if, files_of, folder_use, job_of, job_task, jobs_read, lines_of, listing_read, made_fault, made_model}
+pub use Rattle.engine.specs.{made_task, model_line, names_read, not_alike, of_both, of_first, of_second, parts_read, place_of_plan, plan_steps_read, plan_task}
+pub use Rattle.engine.specs.{plan_verdict_line, plan_verdict_status, planned_task, read_by_name, second_by, sink_use, span_task_of, steps_read, summed_text}
+pub use Rattle.engine.specs.{task_of, to_plan_check, unread, verdict_line, verdict_status, views_in, wells_read, words_text, zones_read}
 unfoldable pub use Rattle.engine.specs.{second_in}
 pub use Rattle.engine.specs.Batched.{Batched}
 pub use Rattle.engine.specs.OneListing.{OneListing}
 pub use Rattle.engine.specs.Stated.{Stated}
 pub use Rattle.engine.specs.declared.job.Job.{Job}
+pub use Rattle.engine.specs.declared.plan_parts.PlanParts.{PlanParts}
 pub use Rattle.engine.specs.declared.zoned.ZonedListing.{ZonedListing}
 pub use Rattle.exact_histories.proofs.WholeRuns.{have_one, history_exists, history_is_one}
 pub use Rattle.exact_histories.specs.{HaveOneHistory}
@@ -76,6 +79,16 @@ pub use Rattle.outside.specs.declared.inputs.InputFault.{InputFault}
 pub use Rattle.outside.specs.declared.inputs.Refusal.{Refusal}
 pub use Rattle.outside.specs.declared.inputs.TextFault.{TextFault}
 pub use Rattle.outside.specs.declared.traits.SinkError.{SinkError}
+pub use Rattle.plan_chain.specs.{IsPlanTask}
+pub use Rattle.plan_chain.specs.declared.step.PlanTask.{PlanTask}
+pub use Rattle.plan_check.specs.{IsPlanVerdict, PlanVerdictIsOne}
+pub use Rattle.plan_check.specs.declared.verdict.PlanListingVerdict.{PlanListingVerdict}
+pub use Rattle.plan_check.specs.declared.verdict.PlanListingVerdict.TheVariants.{Refused}
+pub use Rattle.plan_listing.specs.{AreListedPlan, plan_listing_in}
+pub use Rattle.plan_listing.specs.declared.listing.ListedPlanStep.{ListedPlanStep}
+pub use Rattle.plan_run.specs.{AllListedSteps, EnclosesPairs, IsDefinedEnd, IsPlanListing, ListingEndsAt, ListsMore, PlanListingIsOne, PlanListingsEnclose}
+pub use Rattle.plan_run.specs.{StepsThen, decks_planned, heads_listed, plan_listing, planned_in}
+pub use Rattle.plan_run.specs.declared.decks.PlannedDecks.{PlannedDecks}
 pub use Rattle.record_lines.specs.{Has, Stops, StopsText, ◌>>=◌}
 pub use Rattle.run_puts.proofs.Batches.{batch_run, batch_settles, batches_agree, ends_of_jobs}
 pub use Rattle.run_puts.proofs.Makes.{all_written, early_rose}

@@ -1,23 +1,32 @@
 -- The ends of a command that reads decks, one or two, and then lists them, checks a listing of them, or writes the first one.
 use Rattle.engine.proofs.Common.{subst, reads, [], ◌≡◌, ℕ, List, ◌∷◌, Ok, Err, Result, Option, None, Some, sym, ap, inl, inr, ◌∙◌, FileSet, Rose, InputCounts}
-use Rattle.engine.proofs.Common.{Put, InputFault, Refusal, FlowModel, refused_line, Text, IsRun, Status, Task, ListingOrder, AskedCheck, Case, Refuses}
-use Rattle.engine.proofs.Common.{Checking, Writing, read_by_name, Due, ReadsFolder, CutOf, AreDecksAs, Answers, IsReadingEnd, IsValid, defined, Decks}
-use Rattle.engine.proofs.Common.{Comparing, IsListingOf, Begins, all_due, cut, early, nothing, whole, Second, one_deck, Limits, of_both, of_first, of_second}
-use Rattle.engine.proofs.Common.{AreAlike, IfSome, option_map, is_some, unread, case_decks, IsDecksRefusal, listing_read, second_in, two, zones_read}
-use Rattle.engine.proofs.Common.{broken_off, case_named, case_read, case_listed, Defines, IsRunOf, IsFaultOf, refl}
+use Rattle.engine.proofs.Common.{Put, InputFault, Refusal, FlowModel, refused_line, IsRun, Status, Task, ListingOrder, AskedCheck, Case, Refuses, Checking}
+use Rattle.engine.proofs.Common.{Writing, read_by_name, Due, ReadsFolder, CutOf, AreDecksAs, Answers, IsReadingEnd, IsValid, defined, Decks, Comparing}
+use Rattle.engine.proofs.Common.{IsListingOf, Begins, all_due, cut, early, nothing, whole, Second, one_deck, Limits, of_both, of_first, of_second, AreAlike}
+use Rattle.engine.proofs.Common.{IfSome, option_map, is_some, unread, case_decks, IsDecksRefusal, listing_read, second_in, two, zones_read, AskedPlan, Bor}
+use Rattle.engine.proofs.Common.{PlanTask, Text, text_if, parts_read, planned_task, broken_off, case_named, case_read, case_listed, Defines, IsRunOf, IsFaultOf}
+use Rattle.engine.proofs.Common.{refl}
 use Rattle.engine.proofs.Ends.{fault_ends, of_case, read_reads}
 use Rattle.outside.specs.declared.inputs.InputFault.TheVariants as input
 use Rattle.run_puts.specs.declared.puts.Status.TheVariants as status
 
--- what decks come to: they are listed, a listing of them is checked, or the first one is written
+-- what decks come to: they are listed, what a plan does to them comes to a case, a listing of them is checked, or the first one is written
 abbrev pub to_list : FileSet → ListingOrder → Decks → Case
 to_list files asked d = case_read (zones_read files asked.zones d.first) (case_listed asked d)
 
 abbrev pub to_check : FileSet → AskedCheck → Option Text → Decks → Case
 to_check files asked to d = case_read (listing_read (is_some to) files asked d.first) (Checking asked.limits d asked.digits)
 
+abbrev pub to_plan : FileSet → AskedPlan → (PlanTask → Case) → Decks → Case
+to_plan files asked come d = case_read (parts_read files asked d) (λ p. come (planned_task asked d p))
+
 abbrev pub to_write : Decks → Case
 to_write d = Writing d.first
+
+-- a second deck in the form of the code
+pub is_second : (to : Option (Bor Text)) → is_some to ≡ is_some (text_if to)
+is_second None = refl
+is_second (Some last) = refl
 
 -- the folder is read
 decks_reads : (first : Result FlowModel Refusal) (second : Option (Result Second Refusal)) (come : Decks → Case) → ((d : Decks) → ReadsFolder (come d)) → ReadsFolder (case_decks first second come)

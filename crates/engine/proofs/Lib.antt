@@ -7,6 +7,8 @@ pub mod Afters
 pub mod Certifying
 pub mod Labels
 pub mod Spans
+pub mod Plans
+pub mod PlanChecks
 pub mod OkRuns
 pub mod Outcomes
 pub mod StoredSteps

@@ -9,14 +9,18 @@ use Rattle.engine.proofs.Common.{span_task_of, deck_text, deck_reads, summary_of
 use Rattle.engine.proofs.Common.{Decks, Batched, case_read, OneListing, false, DifferenceIsOne, Appends, Bool, CheckText, IsSaid, OneDeckListing, OneDeckSpan}
 use Rattle.engine.proofs.Common.{OneSpan, RunHeadline, RunSpanHeadline, Task, Words, after_text, case_listed, concat, decks_text, words_text, zoned_text, ◌++◌}
 use Rattle.engine.proofs.Common.{AreText, AskedText, ListingVerdict, OneTextVerdict, IsVerdict, case_parts, case_rest, certified_line, file_at, is_some}
-use Rattle.engine.proofs.Common.{option_map, pairs_in, sym, verdict_line, unwrap_or, StandsIn, parts_text, steps_after, unlike, Part, ByDeck}
+use Rattle.engine.proofs.Common.{option_map, pairs_in, sym, verdict_line, unwrap_or, StandsIn, parts_text, steps_after, unlike, Part, ByDeck, AreReadAs}
+use Rattle.engine.proofs.Common.{AskedCheck, AskedPlan, OnePlan, Plan, PlanListingIsOne, PlanListingsEnclose, PlanParts, Planning, parts_read, planned_task}
+use Rattle.engine.proofs.Common.{PlanChecking, PlanVerdict, as_plan, plan_steps_read, to_plan_check, CheckPlan, PlanVerdictIsOne}
 use Rattle.listing_io.specs.{text_of}
 use Rattle.engine.proofs.Certifying.{certified_and_one, is_certified}
 use Rattle.engine.proofs.Dues.{Delivers}
 use Rattle.engine.proofs.Labels.{listing_pairs, listing_times}
 use Rattle.engine.proofs.Readings.{named_read}
 use Rattle.engine.proofs.Spans.{span_checked, span_listed}
-use Rattle.engine.proofs.DeckEnds.{to_check, to_list, to_write}
+use Rattle.engine.proofs.PlanChecks.{plan_checked}
+use Rattle.engine.proofs.Plans.{one_read_as, plan_listed, two_read_as}
+use Rattle.engine.proofs.DeckEnds.{to_check, to_list, to_plan, to_write}
 use Rattle.engine.proofs.Afters.{valid_after}
 use Rattle.engine.proofs.Texts.{lines_are_text, ended_after, said, steps_stated}
 use Rattle.stated_text.proofs.Stands.{parts_stand_in_text}
@@ -31,16 +35,28 @@ pub valid_of : (case : Case) (end : Status) → (IsStopped end → ⊥) → IsSt
 valid_of case end goes (inl stops) = absurd (goes stops)
 valid_of case end goes (inr valid) = valid
 
--- the laws of listings and of verdicts
+-- the laws of listings, of verdicts and of plans
 pub record Laws : Type 0 where
   pub one : ListingIsOne
   pub bound : ListingExcludesRefusal
   pub refusal : RefusalIsOne
   pub verdict : VerdictIsOne
   pub difference : DifferenceIsOne
+  pub plans : PlanListingsEnclose
+  pub one_plan : PlanListingIsOne
+  pub plan_verdict : PlanVerdictIsOne
 
-pub laws_of : ListingIsOne → ListingExcludesRefusal → RefusalIsOne → VerdictIsOne → DifferenceIsOne → Laws
-laws_of one bound refusal verdict difference = record { one = one; bound = bound; refusal = refusal; verdict = verdict; difference = difference }
+pub laws_of : ListingIsOne → ListingExcludesRefusal → RefusalIsOne → VerdictIsOne → DifferenceIsOne → PlanListingsEnclose → PlanListingIsOne → PlanVerdictIsOne → Laws
+laws_of one bound refusal verdict difference plans one_plan plan_verdict = record {
+  one = one;
+  bound = bound;
+  refusal = refusal;
+  verdict = verdict;
+  difference = difference;
+  plans = plans;
+  one_plan = one_plan;
+  plan_verdict = plan_verdict;
+}
 
 -- the text of decks, as the one that stands in a text
 text_is : (d : Decks) (zones : Option (List ℕ)) → parts_text d.first d.second zones ≡ decks_text d zones
@@ -201,10 +217,25 @@ module _ (laws : Laws) (old new : Seen) (puts : List Put) (pieces : List Text) (
     abbrev AfterOk : Case → Type 0 → Type 0
     AfterOk case Holds = IsValid case → Defines case status.Ok pieces → Holds
 
+    -- of a plan
+    of_plan : (asked : AskedPlan) (to : Option Text) (d : Decks) (p : PlanParts) → (AreDecks d → AreReadAs asked.limits files asked.name to d) →
+        parts_read files asked d ≡ Ok p → AfterOk (Planning (planned_task asked d p)) (OnePlan asked to files old.written new.written)
+    of_plan asked to d p read was valid listed =
+        plan_listed laws.plans laws.one_plan files asked to d p (read valid.base) was valid pieces listed old.written new.written (λ all are. appended all are)
+
     -- of what is read, of a deck, and of two that are alike
     of_read : {T Holds : Type 0} (r : Result T Refusal) (come : T → Case) → ((x : T) → r ≡ Ok x → AfterOk (come x) Holds) → AfterOk (case_read r come) Holds
     of_read (Ok x) come holds = holds x refl
     of_read (Err refusal) come holds = λ valid d. absurd (let bad : status.Ok ≡ status.Refused refusal = d.0 in cc)
+
+    -- of a check of a plan's listing
+    of_plan_check : (asked : AskedCheck) (name : Text) (to : Option Text) (d : Decks) (p : PlanParts) → (AreDecks d → AreReadAs asked.limits files asked.name to d) →
+        parts_read files (as_plan asked name) d ≡ Ok p →
+        AfterOk (to_plan_check (is_some to) files asked.listing (planned_task (as_plan asked name) d p)) (PlanVerdict asked name to files old.written new.written)
+    of_plan_check asked name to d p read was =
+        let k = planned_task (as_plan asked name) d p in
+        of_read (plan_steps_read (is_some to) files asked.listing k) (PlanChecking k) (λ steps listed valid c.
+        plan_checked files asked name to d p (read valid.0.base) was valid.0 steps listed pieces c old.written new.written (λ all are. appended all are))
 
     of_one : {Holds : Type 0} (r : Result FlowModel Refusal) (come : Decks → Case) → ((a : FlowModel) → r ≡ Ok a → AfterOk (come (one_deck a)) Holds) → AfterOk (case_decks r None come) Holds
     of_one (Ok a) come holds = holds a refl
@@ -269,6 +300,13 @@ module _ (laws : Laws) (old new : Seen) (puts : List Put) (pieces : List Text) (
         of_read (zones_read files asked.zones a) (case_listed asked (two a b.model))
         (λ zones zoned valid d. of_span asked to a b first second zones zoned asked.deck
         (valid_after asked.deck (decks_text (two a b.model) zones) (Listing (span_task_of asked a b.model zones)) valid) d))
+    one_by (Some (Plan asked None)) end batched = of_one (read_by_name asked.name (reads asked.limits files)) (to_plan files asked Planning) (λ m read.
+        of_read (parts_read files asked (one_deck m)) (λ p. Planning (planned_task asked (one_deck m) p))
+        (λ p was. of_plan asked None (one_deck m) p (λ valid. one_read_as files asked m read valid) was))
+    one_by (Some (Plan asked (Some to))) end batched =
+        of_two (read_by_name asked.name (reads asked.limits files)) (read_by_name to (second_in asked.limits files)) (to_plan files asked Planning) (λ a b first second.
+        of_read (parts_read files asked (two a b.model)) (λ p. Planning (planned_task asked (two a b.model) p))
+        (λ p was. of_plan asked (Some to) (two a b.model) p (λ valid. two_read_as files asked to a b first second valid) was))
     one_by (Some (Make seed size)) end batched = of_made seed size (made_model seed size) refl
     one_by (Some (Check asked None)) end batched = of_one (read_by_name asked.name (reads asked.limits files)) (to_check files asked None) (λ m read.
         of_read (listing_read false files asked m) (Checking asked.limits (one_deck m) asked.digits)
@@ -277,6 +315,16 @@ module _ (laws : Laws) (old new : Seen) (puts : List Put) (pieces : List Text) (
         of_two (read_by_name asked.name (reads asked.limits files)) (read_by_name to (second_in asked.limits files)) (to_check files asked (Some to))
         (λ a b first second. of_read (listing_read true files asked a) (Checking asked.limits (two a b.model) asked.digits)
         (λ listing listed valid d. span_checked laws.one files a b old new puts pieces written makes asked to first second listing listed valid.0 d))
+    one_by (Some (CheckPlan asked name None)) end batched =
+        let come = to_plan_check false files asked.listing in
+        of_one (read_by_name asked.name (reads asked.limits files)) (to_plan files (as_plan asked name) come) (λ m read.
+        of_read (parts_read files (as_plan asked name) (one_deck m)) (λ p. come (planned_task (as_plan asked name) (one_deck m) p))
+        (λ p was. of_plan_check asked name None (one_deck m) p (λ valid. one_read_as files (as_plan asked name) m read valid) was))
+    one_by (Some (CheckPlan asked name (Some to))) end batched =
+        let come = to_plan_check true files asked.listing in
+        of_two (read_by_name asked.name (reads asked.limits files)) (read_by_name to (second_in asked.limits files)) (to_plan files (as_plan asked name) come)
+        (λ a b first second. of_read (parts_read files (as_plan asked name) (two a b.model)) (λ p. come (planned_task (as_plan asked name) (two a b.model) p))
+        (λ p was. of_plan_check asked name (Some to) (two a b.model) p (λ valid. two_read_as files (as_plan asked name) to a b first second valid) was))
     one_by (Some (Batch b)) end batched = λ valid d. batched b refl
     one_by (Some (CheckText asked)) end batched =
         of_read (read_by_name asked.text (file_at files)) _ (λ bytes read.
@@ -306,8 +354,10 @@ headline_of (Some (Run asked (Some to))) files end old new o = by_deck asked.dec
     by_deck : (deck : Bool) → ByDeck deck (OneSpan asked to files old new) (OneDeckSpan asked to files old new) → RunSpanHeadline deck asked to files old new
     by_deck true x = x.headline
     by_deck false x = x.headline
+headline_of (Some (Plan asked to)) files end old new o = o.headline
 headline_of (Some (Check asked None)) files end old new o = o.certified
 headline_of (Some (Check asked (Some to))) files end old new o = o.certified
+headline_of (Some (CheckPlan asked name to)) files end old new o = o.certified
 headline_of (Some (Make seed size)) files end old new o = o.made
 headline_of (Some (Batch b)) files end old new o = o
 headline_of (Some (CheckText asked)) files end old new o = o.certified

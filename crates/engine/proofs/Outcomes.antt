@@ -1,10 +1,12 @@
 -- The public clauses, from all that a run comes to.
 use Rattle.engine.proofs.Common.{◌≡◌, List, Option, Ok, subst, sym, ◌∙◌, ap, refl, inl, inr, ◌⊎◌, FileSet, Rose, Put, Seen, PutsMake, Text, Agree, Status}
 use Rattle.engine.proofs.Common.{After, Saying, one_valid, Case, Listing, Making, Checking, Writing, CutOf, Defines, made_task, GoesWell, IsRunOf, IsStopped}
-use Rattle.engine.proofs.Common.{IsValid, Difference, Comparing, IsPlain, ReadsFolder, EndsOk, EndIsDefined, Wanted, Jobs, case_of}
+use Rattle.engine.proofs.Common.{IsValid, Planning, Difference, Comparing, IsPlain, ReadsFolder, EndsOk, EndIsDefined, Wanted, Jobs, case_of, PlanChecking}
 use Rattle.engine.proofs.Certifying.{IsFault, certifies, check_is_no_fault, one_end, stopped_by_fault}
 use Rattle.engine.proofs.ListingEnds.{statuses_agree, goes_through, jobs_agree, jobs_end_ok, jobs_no_fault, listing_is_no_fault}
 use Rattle.engine.proofs.OkRuns.{Laws, valid_of}
+use Rattle.engine.proofs.PlanChecks.{one_plan_end, plan_certifies, plan_check_is_no_fault}
+use Rattle.engine.proofs.Plans.{plan_goes_through, plan_is_no_fault, plans_agree}
 use Rattle.engine.proofs.Dues.{Ended, read_failed, write_failed, run_ended, end_decided, end_comes}
 use Rattle.run_puts.specs.declared.puts.Status.TheVariants as status
 use Rattle.listing_run.specs.declared.text.ListingEnd.TheVariants as ends
@@ -12,8 +14,10 @@ use Rattle.listing_run.specs.declared.text.ListingEnd.TheVariants as ends
 -- no case defines the end of a fault outside or of lack of memory
 defines_no_fault : (case : Case) (end : Status) (pieces : List Text) → Defines case end pieces → IsFault end → ⊥
 defines_no_fault (Listing k) end pieces d h = listing_is_no_fault k end pieces d h
+defines_no_fault (Planning k) end pieces d h = plan_is_no_fault k end pieces d h
 defines_no_fault (Making seed size (Ok m)) end pieces d h = listing_is_no_fault (made_task m) end d.all d.listed h
 defines_no_fault (Checking limits m s steps) end pieces d h = check_is_no_fault limits m s steps end pieces d h
+defines_no_fault (PlanChecking k steps) end pieces d h = plan_check_is_no_fault k steps end pieces d h
 defines_no_fault (Jobs jobs) end pieces d h = jobs_no_fault jobs d.ends d.each (subst IsFault d.ended.status_is h)
 defines_no_fault (Comparing a b c) end pieces (inl unlike) h = subst IsFault unlike.status h
 defines_no_fault (Comparing a b c) end pieces (inr (alike, d)) h = defines_no_fault c end pieces d h
@@ -22,8 +26,10 @@ defines_no_fault other end pieces d h = subst IsFault d.0 h
 
 decides : (laws : Laws) (case : Case) (meant end : Status) (p q : List Text) → IsPlain case → IsValid case → Defines case meant p → Defines case end q → Agree meant end
 decides laws (Listing k) meant end p q plain valid x y = statuses_agree laws k valid plain meant end p q x y
+decides laws (Planning k) meant end p q plain valid x y = plans_agree laws.one_plan k valid plain meant end p q x y
 decides laws (Making seed size (Ok m)) meant end p q plain valid x y = statuses_agree laws (made_task m) (one_valid m valid) refl meant end x.all y.all x.listed y.listed
 decides laws (Checking limits m s steps) meant end p q plain (model, listed) x y = inr (inl (one_end limits m s steps laws.verdict model listed meant end p q x y))
+decides laws (PlanChecking k steps) meant end p q plain (task, quick, listed) x y = inr (inl (one_plan_end k steps laws.plan_verdict task quick listed meant end p q x y))
 decides laws (Jobs jobs) meant end p q plain valid x y = jobs_agree laws jobs meant end p q plain valid x y
 decides laws (Comparing a b c) meant end p q plain valid (inl x) (inl y) =
     inr (inl (y.status ∙ ap (λ (d : Difference). status.Refused (b.unlike d))
@@ -38,8 +44,10 @@ decides laws other meant end p q plain valid x y = inr (inl (y.0 ∙ sym x.0))
 -- a case that goes well has no other end than Ok
 ends_well : (laws : Laws) (case : Case) → GoesWell case → IsValid case → (end : Status) (q : List Text) → Defines case end q → end ≡ status.Ok
 ends_well laws (Listing k) goes valid end q y = goes_through k goes end q y
+ends_well laws (Planning k) goes valid end q y = plan_goes_through k goes end q y
 ends_well laws (Making seed size (Ok m)) goes valid end q y = goes_through (made_task m) goes end y.all y.listed
 ends_well laws (Checking limits d s l) verdict (valid, listed) end q y = certifies limits d s l laws.verdict valid listed verdict end q y
+ends_well laws (PlanChecking k steps) verdict (task, quick, listed) end q y = plan_certifies k steps laws.plan_verdict task quick listed verdict end q y
 ends_well laws (Jobs jobs) each valid end q y = jobs_end_ok jobs end q each y
 ends_well laws (Writing m) goes valid end q y = y.0
 ends_well laws (Saying text) goes valid end q y = y.0

@@ -6,7 +6,8 @@ use Rattle.record_lines.specs.{◌>>=◌}
 use Rattle.model_types.specs.{most_bytes}
 use Rattle.outside.specs.declared.codes.Code.TheVariants.{BadName}
 use Rattle.outside.specs.declared.inputs.Refusal.{Refusal}
-use Rattle.command_line.specs.{ListingOrder, AskedBatch, AskedCheck, AskedText, Batch, Check, CheckText, Make, Run, Wanted, Words, Write, wanted_by}
+use Rattle.command_line.specs.{ListingOrder, AskedBatch, AskedCheck, AskedPlan, AskedText, Batch, Check, CheckPlan, CheckText, Make, Plan, Run, Wanted, Words}
+use Rattle.command_line.specs.{Write, wanted_by}
 use Rattle.command_line.specs.declared.order.Order.{Order}
 use Rattle.command_line.specs.declared.order.WordsFault.{WordsFault}
 use Rattle.command_line.specs.declared.order.WordsFault.TheVariants as fault
@@ -32,7 +33,13 @@ use Rattle.stated_text.specs.{steps_after, unlike}
 unfoldable use Rattle.stated_text.specs.{parts_in}
 use Rattle.stated_text.specs.declared.part.Part.{Part}
 use Rattle.engine.specs.declared.job.Job.{Job}
+use Rattle.engine.specs.declared.plan_parts.PlanParts.{PlanParts}
 use Rattle.engine.specs.declared.zoned.ZonedListing.{ZonedListing}
+use Rattle.plan_chain.specs.declared.step.PlanTask.{PlanTask}
+use Rattle.plan_listing.specs.{plan_listing_in}
+use Rattle.plan_listing.specs.declared.listing.ListedPlanStep.{ListedPlanStep}
+use Rattle.plan_run.specs.{planned_in}
+use Rattle.plan_run.specs.declared.decks.PlannedDecks.{PlannedDecks}
 use Rattle.engine.specs.TwoDecks.{Second, second_in}
 use Rattle.engine.specs.Words.{words_text}
 
@@ -63,16 +70,18 @@ decks_task asked d zones = deck_task asked.limits d asked.digits zones asked.rou
 abbrev pub span_task_of : ListingOrder → (first second : FlowModel) → Option (List ℕ) → Task
 span_task_of asked first second zones = decks_task asked (two first second) zones
 
--- The case of a run: the words aren't accepted; this is the first refusal; this is listed; a model is made from this
+-- The case of a run: the words aren't accepted; this is the first refusal; this is listed; this is listed of a plan; a model is made from this
 -- seed and size, whose files read as this one or have this refusal; this listing of decks is checked, by these limits and
--- with these digits; these jobs of a batch are run; the deck of a model is written; this text is said; this text is put first, as one piece, and
--- then this is the case; or two decks are compared, and where they are alike this is the case.
+-- with these digits; this listing of a plan is checked; these jobs of a batch are run; the deck of a model is written; this text is said; this
+-- text is put first, as one piece, and then this is the case; or two decks are compared, and where they are alike this is the case.
 pub data Case : Type 0 where
   NoWords : Case
   Refuses : Refusal → Case
   Listing : Task → Case
+  Planning : PlanTask → Case
   Making : ℕ → ℕ → Result FlowModel Refusal → Case
   Checking : Limits → Decks → ℕ → ZonedListing → Case
+  PlanChecking : PlanTask → List ListedPlanStep → Case
   Jobs : List Job → Case
   Writing : FlowModel → Case
   Saying : Text → Case
@@ -112,6 +121,50 @@ listing_read between files asked m = do
   steps ← steps_read between files asked m zones
   Ok (record { zones = zones; steps = steps })
 
+-- the wells that a plan adds to decks, from its file, and the decks with them; its name is tested once the decks are read
+abbrev pub wells_read : FileSet → Limits → Text → Decks → Result PlannedDecks Refusal
+wells_read files limits wells d = read_by_name wells (file_at files) >>= planned_in limits wells d
+
+-- they, and then the zones of the cells
+abbrev pub parts_read : FileSet → AskedPlan → Decks → Result PlanParts Refusal
+parts_read files asked d = do
+  wells ← wells_read files asked.limits asked.wells d
+  zones ← zones_read files asked.zones d.first
+  Ok (record { wells = wells; zones = zones })
+
+-- what is listed of a plan
+abbrev pub planned_task : AskedPlan → Decks → PlanParts → PlanTask
+planned_task asked d p =
+    record {
+      limits = asked.limits;
+      base = d;
+      planned = p.wells.decks;
+      plan = p.wells.plan;
+      digits = asked.digits;
+      zones = p.zones;
+      rounds = asked.rounds;
+      quick = asked.quick;
+    }
+
+-- what is to be listed of a plan whose listing is checked: any certificates, as by a quick run; workers and rounds have no effect
+abbrev pub as_plan : AskedCheck → Text → AskedPlan
+as_plan asked wells =
+    record {
+      limits = asked.limits;
+      name = asked.name;
+      wells = wells;
+      digits = asked.digits;
+      workers = 1;
+      rounds = 1;
+      zones = asked.zones;
+      quick = true;
+    }
+
+-- the steps of the listing of this name, as a listing of a plan, of one deck or of two; its name is tested once all else is read
+abbrev pub plan_steps_read : Bool → FileSet → Text → PlanTask → Result (List ListedPlanStep) Refusal
+plan_steps_read between files name k =
+    read_by_name name (file_at files) >>= plan_listing_in between k.base.first k.digits (pairs_in k.base.first k.zones) name
+
 -- the names of a batch's list; the list's own name is tested before its file
 abbrev pub names_read : FileSet → AskedBatch → Result (List Text) Refusal
 names_read files b = read_by_name b.list (file_at files) >>= names_in b.list
@@ -144,6 +197,14 @@ case_decks (Err refusal) second come = Refuses refusal
 abbrev pub case_named : FileSet → Limits → Text → Option Text → (Decks → Case) → Case
 case_named files limits name to come = case_decks (read_by_name name (reads limits files))
     (option_map (λ last. read_by_name last (second_in limits files)) to) come
+
+-- what is to be listed of a plan comes to this case, or to the first refusal of its decks, its wells or the zones
+abbrev pub case_planned : FileSet → AskedPlan → Option Text → (PlanTask → Case) → Case
+case_planned files asked to come = case_named files asked.limits asked.name to (λ d. case_read (parts_read files asked d) (λ p. come (planned_task asked d p)))
+
+-- the listing of this name is checked as one of this plan
+abbrev pub to_plan_check : Bool → FileSet → Text → PlanTask → Case
+to_plan_check between files name k = case_read (plan_steps_read between files name k) (PlanChecking k)
 
 -- the text of decks, each with the zones of its cells if there is a zone file
 abbrev pub second_text : Option FlowModel → Option (List ℕ) → Text
@@ -179,6 +240,8 @@ abbrev pub case_of : Option Wanted → FileSet → Case
 case_of None files = NoWords
 case_of (Some (Run asked to)) files =
     case_named files asked.limits asked.name to (λ d. case_read (zones_read files asked.zones d.first) (case_listed asked d))
+case_of (Some (Plan asked to)) files = case_planned files asked to Planning
+case_of (Some (CheckPlan asked wells to)) files = case_planned files (as_plan asked wells) to (to_plan_check (is_some to) files asked.listing)
 case_of (Some (Make seed size)) files = Making seed size (made_model seed size)
 case_of (Some (Check asked to)) files =
     case_named files asked.limits asked.name to (λ d. case_read (listing_read (is_some to) files asked d.first) (Checking asked.limits d asked.digits))
@@ -188,9 +251,11 @@ case_of (Some (CheckText asked)) files =
     case_read (read_by_name asked.text (file_at files)) (λ bytes. case_read (parts_in asked.limits asked.text bytes) (λ p. case_parts asked p.first p.second))
 case_of (Some Words) files = Saying words_text
 
--- The case of a run is the same by any number of workers, watched or not, and so is that of a batch.
+-- The case of a run is the same by any number of workers, watched or not, and so is that of a plan, and of a batch.
 pub record WorkersChangeNoCase : Type 0 where
   pub runs : (asked : ListingOrder) (to : Option Text) (files : FileSet) (workers : ℕ) (watch : Option ℕ) →
       case_of (Some (Run (record asked { workers = workers; watch = watch }) to)) files ≡ case_of (Some (Run asked to)) files
+  pub plans : (asked : AskedPlan) (to : Option Text) (files : FileSet) (workers : ℕ) →
+      case_of (Some (Plan (record asked { workers = workers }) to)) files ≡ case_of (Some (Plan asked to)) files
   pub batches : (asked : AskedBatch) (files : FileSet) (workers : ℕ) →
       case_of (Some (Batch (record asked { workers = workers }))) files ≡ case_of (Some (Batch asked)) files

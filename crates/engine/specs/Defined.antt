@@ -11,11 +11,13 @@ use Rattle.listing_run.specs.declared.steps.Task.{Task}
 use Rattle.run_puts.specs.declared.job_end.JobEnd.{JobEnd}
 use Rattle.engine.specs.declared.job.Job.{Job}
 use Rattle.listing_run.specs.{IsListing, IsCutListing}
-use Rattle.engine.specs.Cases.{Case, NoWords, Refuses, Listing, Making, Checking, Jobs, Writing, Saying, After, Comparing}
+use Rattle.plan_run.specs.{IsCutPlanListing, IsPlanListing}
+use Rattle.engine.specs.Cases.{Case, NoWords, Refuses, Listing, Planning, Making, Checking, PlanChecking, Jobs, Writing, Saying, After, Comparing}
 use Rattle.deck_span.specs.{AreAlike}
 use Rattle.engine.specs.TwoDecks.{IsUnlike}
 use Rattle.engine.specs.Made.{IsMade}
 use Rattle.engine.specs.Checked.{IsCheck}
+use Rattle.engine.specs.PlanChecked.{IsPlanCheck}
 use Rattle.model_text.specs.{deck_text}
 
 -- a refusal has this end and these pieces: its line
@@ -51,7 +53,7 @@ pub record IsAfter (text : Text) (Then : List Text → Type 0) (pieces : List Te
   pub are : pieces ≡ text ∷ others
   pub then : Then others
 
--- A run of this case has this end and these pieces: the usage line; the line of the refusal; a listing, whole or up
+-- A run of this case has this end and these pieces: the usage line; the line of the refusal; a listing, or one of a plan, whole or up
 -- to a step without bounds or one that the rounds don't settle; the pieces of a made model; the line of a check's
 -- verdict; the text of each job of a batch, in the order of the list, and END; the text of a deck; the text that is said; a text and then what
 -- is due after it; or of two decks the refusal of their first difference, or where they are alike what is due then.
@@ -59,8 +61,10 @@ abbrev pub Defines : Case → Status → List Text → Type 0
 Defines NoWords end pieces = (end ≡ status.Usage) × (pieces ≡ usage_line ∷ [])
 Defines (Refuses refusal) end pieces = IsRefusal refusal end pieces
 Defines (Listing k) end pieces = IsListing k end pieces
+Defines (Planning k) end pieces = IsPlanListing k end pieces
 Defines (Making seed size read) end pieces = IsMade seed size read end pieces
 Defines (Checking limits d s listing) end pieces = IsCheck limits d s listing end pieces
+Defines (PlanChecking k steps) end pieces = IsPlanCheck k steps end pieces
 Defines (Jobs jobs) end pieces = IsBatch IsJobEnd jobs end pieces
 Defines (Writing m) end pieces = IsSaid (deck_text m) end pieces
 Defines (Saying text) end pieces = IsSaid text end pieces
@@ -78,6 +82,7 @@ ReadsFolder other = Unit {0}
 -- before it, alone or with them
 abbrev pub CutOf : Case → List Text → Type 0
 CutOf (Listing k) pieces = IsCutListing k pieces
+CutOf (Planning k) pieces = IsCutPlanListing k pieces
 CutOf (Comparing a b case) pieces = AreAlike a b.model × CutOf case pieces
 CutOf (After text case) pieces = IsAfter text (λ others. (others ≡ []) ⊎ CutOf case others) pieces
 CutOf other pieces = ⊥

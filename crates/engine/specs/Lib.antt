@@ -1,5 +1,7 @@
 pub mod Headline
 pub mod SpanHeadline
+pub mod PlanHeadline
+pub mod PlanCertified
 pub mod Words
 pub mod TextCertified
 pub mod DeckListing
@@ -9,6 +11,7 @@ pub mod Cases
 pub mod Made
 pub mod OneListing
 pub mod Checked
+pub mod PlanChecked
 pub mod Decks
 pub mod Commands
 pub mod Defined
@@ -25,10 +28,11 @@ pub mod BatchReads
 pub mod Uses
 pub use Rattle.engine.specs.BatchReads.{AreTasks, HasNames, IsBatchRead, NeverRefused}
 pub use Rattle.engine.specs.Batched.{HasEnded, HasNoList, IsJobListing}
-pub use Rattle.engine.specs.Cases.{After, Case, Checking, Comparing, IsListingOf, IsOrder, Jobs, Listing, Making, NoWords, ReadsNothing, Refuses, Saying}
-pub use Rattle.engine.specs.Cases.{WorkersChangeNoCase, Writing, after_text, but_batch, case_decks, case_listed, case_named, case_of, case_parts, case_read}
-pub use Rattle.engine.specs.Cases.{case_rest, decks_task, decks_text, job_of, job_task, jobs_read, listing_read, made_model, names_read, read_by_name}
-pub use Rattle.engine.specs.Cases.{second_text, span_task_of, steps_read, task_of, zones_read}
+pub use Rattle.engine.specs.Cases.{After, Case, Checking, Comparing, IsListingOf, IsOrder, Jobs, Listing, Making, NoWords, PlanChecking, Planning, ReadsNothing}
+pub use Rattle.engine.specs.Cases.{Refuses, Saying, WorkersChangeNoCase, Writing, after_text, as_plan, but_batch, case_decks, case_listed, case_named, case_of}
+pub use Rattle.engine.specs.Cases.{case_parts, case_read, case_rest, decks_task, decks_text, job_of, job_task, jobs_read, listing_read, made_model, names_read}
+pub use Rattle.engine.specs.Cases.{parts_read, plan_steps_read, planned_task, read_by_name, second_text, span_task_of, steps_read, task_of, to_plan_check}
+pub use Rattle.engine.specs.Cases.{wells_read, zones_read}
 pub use Rattle.engine.specs.Checked.{IsCheck, certified_line, verdict_line, verdict_status}
 pub use Rattle.engine.specs.Commands.{MayRead}
 pub use Rattle.engine.specs.DeckListing.{OneDeckListing, OneDeckSpan}
@@ -37,9 +41,13 @@ pub use Rattle.engine.specs.Defined.{CutOf, Defines, Due, IsDue, IsJobEnd, IsRun
 pub use Rattle.engine.specs.Headline.{ListsPairs}
 pub use Rattle.engine.specs.Made.{IsMade, made_task, summed_text}
 pub use Rattle.engine.specs.OneListing.{AreItsSteps, OneSummary, OneVerdict}
-pub use Rattle.engine.specs.Parts.{Answers, AnswersBeside, AreDecksAs, AreDecksOf, IsAsked, IsFaultOf, IsFirstIf, IsFirstPut, IsListed, IsNoSecond}
-pub use Rattle.engine.specs.Parts.{IsReadingEnd, IsRefusedBy, IsStopped, IsTaskRead, IsValid, IsValidJob, Serves, ServesAlone, made_fault, second_by}
-pub use Rattle.engine.specs.Runs.{EndIsDefined, EndsOk, GoesThrough, GoesWell, IsPlain, IsRunOf}
+pub use Rattle.engine.specs.Parts.{Answers, AnswersBeside, AreDecksAs, AreDecksOf, ArePlanParts, IsAsked, IsFaultOf, IsFirstIf, IsFirstPut, IsListed}
+pub use Rattle.engine.specs.Parts.{IsNoSecond, IsPlanRead, IsReadingEnd, IsRefusedBy, IsStopped, IsTaskRead, IsValid, IsValidJob, Serves, ServesAlone}
+pub use Rattle.engine.specs.Parts.{made_fault, second_by}
+pub use Rattle.engine.specs.PlanCertified.{PlanVerdict}
+pub use Rattle.engine.specs.PlanChecked.{IsPlanCheck, place_of_plan, plan_verdict_line, plan_verdict_status}
+pub use Rattle.engine.specs.PlanHeadline.{AreReadAs, OnePlan, plan_task}
+pub use Rattle.engine.specs.Runs.{EndIsDefined, EndsOk, GoesThrough, GoesWell, IsPlain, IsRunOf, PlanGoesThrough}
 pub use Rattle.engine.specs.Serving.{ByDeck, HeadlineOf, IsProgramEnd, IsRunResult, IsStopNumber, OneOf, RunHeadline, RunSpanHeadline, bytes_asked, files_if}
 pub use Rattle.engine.specs.Serving.{files_named, files_of, limits_asked}
 pub use Rattle.engine.specs.SpanHeadline.{ArePairOf, OneSpan, SpanVerdict}

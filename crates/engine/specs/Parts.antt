@@ -1,7 +1,7 @@
 -- What the parts of a run return and put.
 use Rattle.std.specs.Prelude.{◌≡◌, ◌⊎◌, ℕ, Bool, List, [], ◌∷◌, Result, Ok, Err, Option, Some, None, true, false, IfOk, codes, option_map, All}
 use Rattle.outside.specs.{Rose, Put, FileSet, file_refusal}
-use Rattle.command_line.specs.{ListingOrder, Run, Wanted}
+use Rattle.command_line.specs.{AskedPlan, ListingOrder, Run, Wanted}
 use Rattle.outside.specs.declared.codes.Code.TheVariants.{BadName}
 use Rattle.outside.specs.declared.inputs.InputFault.{InputFault}
 use Rattle.outside.specs.declared.inputs.Refusal.{Refusal}
@@ -23,7 +23,13 @@ use Rattle.step_chain.specs.{two}
 use Rattle.run_puts.specs.{IsEnd, IsLast, IsPut, EndsOutOfMemory, Text, read_fault_line}
 use Rattle.run_puts.specs.declared.puts.Status.{Status}
 use Rattle.run_puts.specs.declared.puts.Status.TheVariants as status
-use Rattle.engine.specs.Cases.{After, Case, Listing, Making, Checking, Jobs, Writing, Comparing, case_of, decks_task, read_by_name, zones_read}
+use Rattle.engine.specs.Cases.{After, Case, Listing, Making, Checking, Jobs, PlanChecking, Planning, Writing, Comparing, case_planned, decks_task, parts_read}
+use Rattle.engine.specs.Cases.{case_of, planned_task, read_by_name, zones_read}
+use Rattle.engine.specs.declared.plan_parts.PlanParts.{PlanParts}
+use Rattle.plan_chain.specs.{IsPlanTask}
+use Rattle.plan_listing.specs.{AreListedPlan}
+use Rattle.plan_chain.specs.declared.step.PlanTask.{PlanTask}
+use Rattle.plan_run.specs.{IsPlannedBy}
 use Rattle.engine.specs.Defined.{Defines, ReadsFolder}
 use Rattle.listing_run.specs.declared.steps.Task.{Task}
 use Rattle.engine.specs.Uses.{FolderUse, SinkUse, failed_write}
@@ -82,11 +88,13 @@ IsStopped end = (end ≡ status.ReadFault) ⊎ ((end ≡ status.WriteFault) ⊎ 
 abbrev pub IsValidJob : Job → Type 0
 IsValidJob job = IfOk job.read (λ k. AreDecks k.decks)
 
--- the model of a listing, of made files, of each job or of a deck is valid, and so are the steps that are checked
+-- the model of a listing, of a plan, of made files, of each job or of a deck is valid, and so are the steps that are checked
 abbrev pub IsValid : Case → Type 0
 IsValid (Listing k) = AreDecks k.decks
+IsValid (Planning k) = IsPlanTask k
 IsValid (Making seed size read) = IfOk read IsModel
 IsValid (Checking limits d s listing) = AreDecks d × IsListed d.first listing
+IsValid (PlanChecking k steps) = IsPlanTask k × (k.quick ≡ true) × AreListedPlan k.base.first (pairs_in k.base.first k.zones) steps
 IsValid (Jobs jobs) = All IsValidJob jobs
 IsValid (Writing m) = IsModel m
 IsValid (Comparing a b case) = (AreAlike a b.model → ⊥) ⊎ IsValid case
@@ -123,6 +131,18 @@ IsFaultOf case input.Memory = Unit {0}
 abbrev pub IsTaskRead : ListingOrder → Option Text → FileSet → Result Task InputFault → Type 0
 IsTaskRead asked to files (Ok k) = AreDecksAs asked.limits asked.name to files (Ok k.decks) × (zones_read files asked.zones k.decks.first ≡ Ok k.zones)
 IsTaskRead asked to files (Err fault) = IsFaultOf (case_of (Some (Run asked to)) files) fault
+
+-- the parts of a plan for decks, by these limits
+pub record ArePlanParts (limits : Limits) (d : Decks) (p : PlanParts) : Type 0 where
+  pub wells : IsPlannedBy limits d p.wells
+  pub zones : AreZones d.first p.zones
+
+-- What is to be listed of a plan was read: its decks, and then its wells and the zones of the cells; or the case that it comes to, whichever that is, has
+-- this fault.
+abbrev pub IsPlanRead : AskedPlan → Option Text → FileSet → Result PlanTask InputFault → Type 0
+IsPlanRead asked to files (Ok k) =
+    AreDecksAs asked.limits asked.name to files (Ok k.base) × ((p : PlanParts) × (parts_read files asked k.base ≡ Ok p) × (k ≡ planned_task asked k.base p))
+IsPlanRead asked to files (Err fault) = (come : PlanTask → Case) → ((k : PlanTask) → ReadsFolder (come k)) → IsFaultOf (case_planned files asked to come) fault
 
 -- the task that this order asks for, of some decks and zones
 abbrev pub IsAsked : ListingOrder → Task → Type 0

@@ -11,9 +11,16 @@ use Rattle.listing_run.specs.declared.steps.Task.{Task}
 use Rattle.listing_run.specs.declared.solving.Step.{Step}
 use Rattle.listing_run.specs.declared.text.ListingEnd.TheVariants as ends
 use Rattle.listing_run.specs.{AllSteps}
+use Rattle.plan_chain.specs.declared.step.PlanPart.{PlanPart}
+use Rattle.plan_chain.specs.declared.step.PlanTask.{PlanTask}
+use Rattle.plan_chain.specs.declared.walk.PlanEnd.TheVariants as plan
+use Rattle.plan_listing.specs.declared.listing.ListedPlanStep.{ListedPlanStep}
+use Rattle.plan_run.specs.{AllListedSteps}
 use Rattle.check_run.specs.declared.verdict.ListingVerdict.TheVariants.{Certified}
 use Rattle.check_run.specs.{IsVerdict}
-use Rattle.engine.specs.Cases.{After, Case, Checking, Listing, Making, Comparing, Jobs, Saying, Writing, case_of}
+use Rattle.plan_check.specs.declared.verdict.PlanListingVerdict.TheVariants.{Certified as PlanHolds}
+use Rattle.plan_check.specs.{IsPlanVerdict}
+use Rattle.engine.specs.Cases.{After, Case, Checking, Listing, Making, Comparing, Jobs, PlanChecking, Planning, Saying, Writing, case_of}
 use Rattle.deck_span.specs.{AreAlike}
 use Rattle.engine.specs.Made.{made_task}
 use Rattle.engine.specs.Defined.{Defines, Due, CutOf}
@@ -32,6 +39,7 @@ pub record Puts (folder : FolderUse) (beside out : SinkUse) (order : Option Want
 -- the case has no listing with --quick, whose end the words and files leave open
 abbrev pub IsPlain : Case → Type 0
 IsPlain (Listing k) = k.quick ≡ false
+IsPlain (Planning k) = k.quick ≡ false
 IsPlain (Comparing a b case) = IsPlain case
 IsPlain (After text case) = IsPlain case
 IsPlain (Jobs jobs) = All (λ job. IfOk job.read (λ k. k.quick ≡ false)) jobs
@@ -48,13 +56,20 @@ pub record GoesThrough (task : Task) : Type 0 where
   pub no_refusal : (before : List Step) (at : TimeStep) (n : NoBound) → AllSteps task before (ends.NoBound at n) → ⊥
   pub none_open : (before : List Step) (at : TimeStep) → AllSteps task before (ends.Unfinished at) → ⊥
 
+-- so it is with a listing of a plan
+pub record PlanGoesThrough (k : PlanTask) : Type 0 where
+  pub no_refusal : (before : List ListedPlanStep) (at : TimeStep) (part : PlanPart) (n : NoBound) → AllListedSteps k before (plan.NoBound at part n) → ⊥
+  pub none_open : (before : List ListedPlanStep) (at : TimeStep) (part : PlanPart) → AllListedSteps k before (plan.Unfinished at part) → ⊥
+
 -- The case goes well: the listing that is put, or summed up, goes through, or that of each job of a batch; the listing that is checked
 -- has the verdict that it is certified; a deck is written; a text is said; or the two decks that are compared are alike, and their case goes
 -- well, or that after a text.
 abbrev pub GoesWell : Case → Type 0
 GoesWell (Listing k) = GoesThrough k
+GoesWell (Planning k) = PlanGoesThrough k
 GoesWell (Making seed size (Ok m)) = GoesThrough (made_task m)
 GoesWell (Checking limits d s listing) = IsVerdict limits d s listing.zones listing.steps Certified
+GoesWell (PlanChecking k steps) = IsPlanVerdict k steps PlanHolds
 GoesWell (Jobs jobs) = All (λ job. (task : Task) × (job.read ≡ Ok task) × GoesThrough task) jobs
 GoesWell (Writing m) = Unit {0}
 GoesWell (Saying text) = Unit {0}

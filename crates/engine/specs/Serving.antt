@@ -11,6 +11,8 @@ use Rattle.engine.specs.Decks.{OneDeck}
 use Rattle.engine.specs.Headline.{Headline}
 use Rattle.engine.specs.Made.{Made}
 use Rattle.engine.specs.OneListing.{OneListing, OneSummary, OneVerdict}
+use Rattle.engine.specs.PlanCertified.{PlanCertified, PlanVerdict}
+use Rattle.engine.specs.PlanHeadline.{OnePlan, PlanHeadline}
 use Rattle.engine.specs.SpanHeadline.{OneSpan, SpanCertified, SpanHeadline, SpanVerdict}
 use Rattle.engine.specs.TextCertified.{OneTextVerdict, TextCertified}
 use Rattle.engine.specs.Parts.{IsStopped}
@@ -19,18 +21,22 @@ use Rattle.engine.specs.Uses.{FolderUse, HasFailed, SinkUse, failed_write}
 use Rattle.engine.specs.Watched.{SidePuts, Watched, views_in}
 use Rattle.engine.specs.Words.{words_text}
 use Rattle.engine.specs.Batched.{Batched, HasNoList}
-use Rattle.command_line.specs.{AskedBatch, Batch, Check, CheckText, ListingOrder, Make, Run, Wanted, Words, Write, order_of_words}
+use Rattle.command_line.specs.{AskedBatch, Batch, Check, CheckPlan, CheckText, ListingOrder, Make, Plan, Run, Wanted, Words, Write, order_of_words}
 use Rattle.engine.specs.Cases.{case_of}
 use Rattle.model_types.specs.{most_bytes}
 use Rattle.model_types.specs.declared.limits.Limits.{Limits}
 use Rattle.model_types.specs.declared.limits.Limits.TheVariants.{Plain}
 
 -- The files that the words name, and how many bytes of one are read.
--- the name file of a run, the second one if there is one, and its zone file if there is one; the same of a check, and its
--- listing; the list of a batch; the name file of a deck; the text that is checked; none to make a model, and to say the words
+-- the name file of a run, the second one if there is one, and its zone file if there is one; the same of a plan, and its wells; the same of a
+-- check, and its listing; the same of a check of a plan, and its wells and its listing; the list of a batch; the name file of a deck; the text
+-- that is checked; none to make a model, and to say the words
 abbrev pub files_of : Wanted → List Text
 files_of (Run asked to) = asked.name ∷ (option_to_list to ++ option_to_list asked.zones)
+files_of (Plan asked to) = asked.name ∷ (option_to_list to ++ (option_to_list asked.zones ++ asked.wells ∷ []))
 files_of (Check asked to) = asked.name ∷ (option_to_list to ++ (option_to_list asked.zones ++ asked.listing ∷ []))
+files_of (CheckPlan asked wells to) =
+    asked.name ∷ (option_to_list to ++ (option_to_list asked.zones ++ (wells ∷ (asked.listing ∷ []))))
 files_of (Make seed size) = []
 files_of (Batch asked) = asked.list ∷ []
 files_of (Write limits name) = name ∷ []
@@ -48,7 +54,9 @@ files_named words = files_if (order_of_words words)
 -- the limits that are asked for
 abbrev pub limits_asked : Option Wanted → Limits
 limits_asked (Some (Run asked to)) = asked.limits
+limits_asked (Some (Plan asked to)) = asked.limits
 limits_asked (Some (Check asked to)) = asked.limits
+limits_asked (Some (CheckPlan asked wells to)) = asked.limits
 limits_asked (Some (Batch asked)) = asked.limits
 limits_asked (Some (Write limits name)) = limits
 limits_asked (Some (CheckText asked)) = asked.limits
@@ -67,14 +75,16 @@ abbrev pub RunSpanHeadline : (deck : Bool) → ListingOrder → Text → FileSet
 RunSpanHeadline false asked to files old new = SpanHeadline asked to files old new
 RunSpanHeadline true asked to files old new = DeckSpanHeadline asked to files old new
 
--- The headline of an order: of a listing, or of one of two decks; of a check, or of one of two decks, or of a text; of a made model, whose listing is
--- summed up; of each listing of a batch; of a deck; or of the words.
+-- The headline of an order: of a listing, or of one of two decks; of a plan; of a check, or of one of two decks, of a plan, or of a text; of a made
+-- model, whose listing is summed up; of each listing of a batch; of a deck; or of the words.
 abbrev pub HeadlineOf : Option Wanted → FileSet → Status → (old new : Option (List ℕ)) → Type 0
 HeadlineOf None files end old new = ⊥
 HeadlineOf (Some (Run asked None)) files end old new = RunHeadline asked.deck asked files old new
 HeadlineOf (Some (Run asked (Some to))) files end old new = RunSpanHeadline asked.deck asked to files old new
+HeadlineOf (Some (Plan asked to)) files end old new = PlanHeadline asked to files old new
 HeadlineOf (Some (Check asked None)) files end old new = Certified asked files old new
 HeadlineOf (Some (Check asked (Some to))) files end old new = SpanCertified asked to files old new
+HeadlineOf (Some (CheckPlan asked wells to)) files end old new = PlanCertified asked wells to files old new
 HeadlineOf (Some (Make seed size)) files end old new = Made seed size old new
 HeadlineOf (Some (Batch asked)) files end old new = Batched asked files end old new
 HeadlineOf (Some (Write limits name)) files end old new = OneDeck limits name files old new
@@ -92,8 +102,10 @@ abbrev pub OneOf : Option Wanted → FileSet → Status → (old new : Option (L
 OneOf None files end old new = ⊥
 OneOf (Some (Run asked None)) files end old new = ByDeck asked.deck (OneListing asked files old new) (OneDeckListing asked files old new)
 OneOf (Some (Run asked (Some to))) files end old new = ByDeck asked.deck (OneSpan asked to files old new) (OneDeckSpan asked to files old new)
+OneOf (Some (Plan asked to)) files end old new = OnePlan asked to files old new
 OneOf (Some (Check asked None)) files end old new = OneVerdict asked files old new
 OneOf (Some (Check asked (Some to))) files end old new = SpanVerdict asked to files old new
+OneOf (Some (CheckPlan asked wells to)) files end old new = PlanVerdict asked wells to files old new
 OneOf (Some (Make seed size)) files end old new = OneSummary seed size old new
 OneOf (Some (Batch asked)) files end old new = Batched asked files end old new
 OneOf (Some (Write limits name)) files end old new = OneDeck limits name files old new

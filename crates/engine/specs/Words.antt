@@ -14,11 +14,13 @@ words_text =
     ++ (codes "  --zones Z: the flows between the zones that the file Z gives the cells, too\n"
     ++ (codes "  --watch N: N views of the heads in each phase of a step, to standard error, 1 to 1000\n"
     ++ (codes "  --deck: first the text of the deck and of the zones, then the listing\n"
+    ++ (codes "  --plan WELLS: what the wells of the file WELLS do, in the weather of NAME or in every one up to NAME2; not with --watch, --deck\n"
     ++ (codes "check NAME LISTING: says whether LISTING is certified for the model of NAME, or else where it fails first\n"
     ++ (codes "  --digits S: the digits of the run\n"
     ++ (codes "  --wide: wide limits, as the run had them\n"
     ++ (codes "  --to NAME2: LISTING is of every model between that of NAME and that of NAME2\n"
     ++ (codes "  --zones Z: LISTING has the flows between the zones of the file Z\n"
+    ++ (codes "  --plan WELLS: LISTING is of what the wells of the file WELLS do\n"
     ++ (codes "check --deck TEXT: says whether the listing in TEXT is certified for the deck or the two decks in TEXT, or else where it fails first\n"
     ++ (codes "  --digits S: the digits of the run\n"
     ++ (codes "  --wide: wide limits, as the run had them\n"
@@ -31,4 +33,4 @@ words_text =
     ++ (codes "  --wide: as with run\n"
     ++ (codes "write NAME: puts the deck of the model of NAME in one spelling, one file after another\n"
     ++ (codes "  --wide: wide limits\n"
-    ++ (codes "words: puts these lines\n")))))))))))))))))))))))))))
+    ++ (codes "words: puts these lines\n")))))))))))))))))))))))))))))

@@ -11,9 +11,9 @@ use std::alloc::{AllocError, Global};
 /// What a folder must be given for the words.
 #[derive(Drop)]
 pub struct AskedFiles<'a> {
-    /// The names of the files that it may be asked for: the name file of a run, the second one, and its zone file; the same
-    /// of a check, and its listing; the list of a batch; the name file of a deck. None where the words aren't accepted, to make a
-    /// model, and for the words.
+    /// The names of the files that it may be asked for: the name file of a run, the second one, and its zone file; the same of a
+    /// plan, and its wells; the same of a check, and its listing, or its wells and its listing; the list of a batch; the name file of a deck; the text that is
+    /// checked. None where the words aren't accepted, to make a model, and for the words.
     pub names: Vec<&'a str>,
     /// How many bytes of a file are read, by the limits.
     pub limit: u64,
@@ -36,6 +36,17 @@ fn files_of<'a>(alloc: Global, order: Order<'a>) -> Result<AskedFiles<'a>, Alloc
             }
             asked.limits
         }
+        Order::Plan(asked) => {
+            names.push(asked.name)?;
+            if let Some(to) = asked.to {
+                names.push(to)?;
+            }
+            if let Some(zones) = asked.zones {
+                names.push(zones)?;
+            }
+            names.push(asked.wells)?;
+            asked.limits
+        }
         Order::Check(asked) => {
             names.push(asked.name)?;
             if let Some(to) = asked.to {
@@ -46,6 +57,19 @@ fn files_of<'a>(alloc: Global, order: Order<'a>) -> Result<AskedFiles<'a>, Alloc
             }
             names.push(asked.listing)?;
             asked.limits
+        }
+        Order::CheckPlan(asked) => {
+            let check = asked.check;
+            names.push(check.name)?;
+            if let Some(to) = check.to {
+                names.push(to)?;
+            }
+            if let Some(zones) = check.zones {
+                names.push(zones)?;
+            }
+            names.push(asked.wells)?;
+            names.push(check.listing)?;
+            check.limits
         }
         Order::Make(_) | Order::Words => Limits::Plain,
         Order::CheckText(asked) => {

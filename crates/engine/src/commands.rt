@@ -12,6 +12,8 @@ use command_line::{Order, read_order};
 use deck_span::laws::one_difference;
 use listing_run::laws::one_listing;
 use outside::{Folder, Gate, Sink};
+use plan_check::laws::one_plan_verdict;
+use plan_run::laws::{one_plan_listing, plan_listings_enclose};
 use run_puts::Status;
 use std::alloc::Global;
 use std::process::ExitCode;
@@ -47,6 +49,9 @@ pub fn run<R: Threads + Wait + Sync, F: Folder, K: Sink + Send, W: Sink + Send, 
     one_listing();
     one_verdict();
     one_difference();
+    plan_listings_enclose();
+    one_plan_listing();
+    one_plan_verdict();
     match read_order(alloc, words) {
         Ok(order) => match order {
             Order::Batch(asked) => {

@@ -11,7 +11,7 @@ pub fn storage_holds()
     ensures { StorageHolds }
 {}
 
-/// What a run defines is the same by any number of workers, watched or not; and so is what a batch defines.
+/// What a run defines is the same by any number of workers, watched or not; and so is what a plan or a batch defines.
 pub fn workers_change_no_case()
     ensures { WorkersChangeNoCase }
 {}

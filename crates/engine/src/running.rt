@@ -8,6 +8,8 @@ use crate::checking::check;
 use crate::ending::end_reading;
 use crate::listing::put_listing;
 use crate::making::put_made;
+use crate::plan_checking::check_plan;
+use crate::planning::run_plan;
 use crate::tasks::read_task;
 use crate::text_check::check_text;
 use crate::words::put_words;
@@ -17,6 +19,8 @@ use command_line::{Order, RunOrder, WordsFault, read_order};
 use deck_span::laws::one_difference;
 use listing_run::laws::one_listing;
 use outside::{Folder, Gate, Sink};
+use plan_check::laws::one_plan_verdict;
+use plan_run::laws::{one_plan_listing, plan_listings_enclose};
 use run_puts::{Status, put_last, put_memory};
 use std::alloc::Global;
 use std::thread::Threads;
@@ -29,7 +33,8 @@ const USAGE: &[u8] =
 /// folder, and puts the summary of its listing. `check NAME LISTING` reads the model and a listing of it, whoever wrote
 /// it, and puts whether it is certified, or else the first place that fails. With `--to NAME2` both read a second deck too,
 /// compare it with the first, and list or check bounds for all models between the two. With `--deck` a run puts the text of its
-/// decks first, as one piece. `write NAME` reads the model and puts its deck in one spelling. `check --deck TEXT` reads a text of
+/// decks first, as one piece. With `--plan WELLS` it puts what these wells do, and a check is of a listing of that. `write NAME`
+/// reads the model and puts its deck in one spelling. `check --deck TEXT` reads a text of
 /// decks, zones and a listing, and puts whether the listing is certified. `words` puts what each word does. With `--wide` the
 /// limits of the model are wide ones. Workers in threads settle each step, and pass the gate before each turn; a check has
 /// none. With `--watch N` one more seat makes N views of the heads in each phase, and each is put to `side` as one piece, up
@@ -61,6 +66,9 @@ pub fn run_one<R: Threads + Sync, F: Folder, K: Sink + Send, W: Sink + Send, G: 
     one_listing();
     one_verdict();
     one_difference();
+    plan_listings_enclose();
+    one_plan_listing();
+    one_plan_verdict();
     let status = run_order(rt, alloc, read_order(alloc, words), folder, out, side, gate);
     folder.some_agree();
     status
@@ -91,7 +99,9 @@ pub(crate) fn run_order<
     match read {
         Ok(order) => match order {
             Order::Run(asked) => run_listing(rt, alloc, asked, folder, out, side, gate),
+            Order::Plan(asked) => run_plan(rt, alloc, asked, folder, out, gate),
             Order::Check(asked) => check(alloc, asked, folder, out),
+            Order::CheckPlan(asked) => check_plan(alloc, asked, folder, out),
             Order::Make(asked) => put_made(rt, alloc, asked, out, gate),
             Order::Write { limits, name } => write(alloc, limits, name, folder, out),
             Order::Words => put_words(out),

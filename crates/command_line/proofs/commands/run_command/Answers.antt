@@ -3,5 +3,5 @@ use Rattle.command_line.proofs.commands.run_command.Goals as goal
 
 pub returns : goal.returns
 unfolding run_app
-returns c = c.with_flag.ensures _ (c.in_ok-command-4.ensures _
-    (c.in_ok-command-3.ensures _ (c.in_ok-command-2.ensures _ (c.in_ok-command.ensures _ (record { is = c.new.ensures.app; local = c.new.ensures.local })))))
+returns c = c.with_option-2.ensures _ (c.in_ok-command-5.ensures _ (c.in_ok-command-4.ensures _
+    (c.in_ok-command-3.ensures _ (c.in_ok-command-2.ensures _ (c.in_ok-command.ensures _ (record { is = c.new.ensures.app; local = c.new.ensures.local }))))))

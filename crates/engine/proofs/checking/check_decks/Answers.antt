@@ -1,12 +1,7 @@
-use Rattle.engine.proofs.Common.{◌≡◌, ◌∙◌, Bool, Option, None, Some, Ok, Err, Text, is_some, refl, subst, check_of, text_if, Checking, IsReading, ZonedListing}
-use Rattle.engine.proofs.Common.{listing_read, Bor}
-use Rattle.engine.proofs.DeckEnds.{ends_decked, to_check}
+use Rattle.engine.proofs.Common.{◌≡◌, ◌∙◌, Bool, Ok, Err, is_some, subst, check_of, text_if, Checking, IsReading, ZonedListing, listing_read}
+use Rattle.engine.proofs.DeckEnds.{ends_decked, is_second, to_check}
 use Rattle.engine.proofs.Ends.{ends_defined, ends_read, ends_unread, puts_more}
 use Rattle.engine.proofs.checking.check_decks.Goals as goal
-
-is_second : (to : Option (Bor Text)) → is_some to ≡ is_some (text_if to)
-is_second None = refl
-is_second (Some last) = refl
 
 pub returns-in-Ok-clause-answers : goal.returns-in-Ok-clause-answers
 returns-in-Ok-clause-answers g c =

@@ -31,10 +31,42 @@ returns-in-Make-clause-serves g c = λ one is.
     (((g.met.W.Sink g.world.𝓛 g.world.𝓜 g.world.𝓡 ((λ s x. x), (λ x. x), (λ x. x), λ x. x))).rests c.args.side.now)
     (order_read one c.args.read _ _ is.0 c.in-Ok.is c.in-Make.is) refl (m (g.F.Folder.faults c.args.folder.now)))
 
+pub returns-in-Plan-clause-serves : goal.returns-in-Plan-clause-serves
+returns-in-Plan-clause-serves g c = λ one is.
+    puts_more g.K.Sink.leads c.run_plan.ensures.serves (λ more m files agree. without_views files one _
+    (((g.met.W.Sink g.world.𝓛 g.world.𝓜 g.world.𝓡 ((λ s x. x), (λ x. x), (λ x. x), λ x. x))).rests c.args.side.now) (order_read one c.args.read _ _ is.0 c.in-Ok.is c.in-Plan.is) refl (m files agree))
+
+pub returns-in-Plan-clause-unasked : goal.returns-in-Plan-clause-unasked
+returns-in-Plan-clause-unasked g c = λ one is nothing. absurd (subst ReadsNothing (order_read one c.args.read _ _ is.0 c.in-Ok.is c.in-Plan.is) nothing)
+
+pub run_plan-requires-clause-may : goal.run_plan-requires-clause-may
+run_plan-requires-clause-may g c = λ κs outlives. (may_do (g.F.Folder.may c.args.folder.now) c.args.read _ _ c.requires.may c.in-Ok.is c.in-Plan.is).0
+
+pub run_plan-requires-clause-wells : goal.run_plan-requires-clause-wells
+run_plan-requires-clause-wells g c = λ κs outlives. (may_do (g.F.Folder.may c.args.folder.now) c.args.read _ _ c.requires.may c.in-Ok.is c.in-Plan.is).1
+
 pub returns-in-Check-clause-serves : goal.returns-in-Check-clause-serves
 returns-in-Check-clause-serves g c = λ one is.
     puts_more g.K.Sink.leads c.check.ensures.serves (λ more m files agree. without_views files one _
     (((g.met.W.Sink g.world.𝓛 g.world.𝓜 g.world.𝓡 ((λ s x. x), (λ x. x), (λ x. x), λ x. x))).rests c.args.side.now) (order_read one c.args.read _ _ is.0 c.in-Ok.is c.in-Check.is) refl (m files agree))
+
+pub returns-in-CheckPlan-clause-serves : goal.returns-in-CheckPlan-clause-serves
+returns-in-CheckPlan-clause-serves g c = λ one is.
+    puts_more g.K.Sink.leads c.check_plan.ensures.serves (λ more m files agree. without_views files one _
+    (((g.met.W.Sink g.world.𝓛 g.world.𝓜 g.world.𝓡 ((λ s x. x), (λ x. x), (λ x. x), λ x. x))).rests c.args.side.now)
+    (order_read one c.args.read _ _ is.0 c.in-Ok.is c.in-CheckPlan.is) refl (m files agree))
+
+pub returns-in-CheckPlan-clause-unasked : goal.returns-in-CheckPlan-clause-unasked
+returns-in-CheckPlan-clause-unasked g c = λ one is nothing. absurd (subst ReadsNothing (order_read one c.args.read _ _ is.0 c.in-Ok.is c.in-CheckPlan.is) nothing)
+
+pub check_plan-requires-clause-may : goal.check_plan-requires-clause-may
+check_plan-requires-clause-may g c = (may_do (g.F.Folder.may c.args.folder.now) c.args.read _ _ c.requires.may c.in-Ok.is c.in-CheckPlan.is).0
+
+pub check_plan-requires-clause-wells : goal.check_plan-requires-clause-wells
+check_plan-requires-clause-wells g c = (may_do (g.F.Folder.may c.args.folder.now) c.args.read _ _ c.requires.may c.in-Ok.is c.in-CheckPlan.is).1
+
+pub check_plan-requires-clause-listing : goal.check_plan-requires-clause-listing
+check_plan-requires-clause-listing g c = (may_do (g.F.Folder.may c.args.folder.now) c.args.read _ _ c.requires.may c.in-Ok.is c.in-CheckPlan.is).2
 
 pub returns-in-Write-clause-serves : goal.returns-in-Write-clause-serves
 returns-in-Write-clause-serves g c = λ one is.
