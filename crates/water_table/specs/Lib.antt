@@ -13,7 +13,7 @@ pub use Rattle.water_table.specs.Histories.{NearlySolves, NearlySolvesAt, Nearly
 pub use Rattle.water_table.specs.Laws.{LosesByCases, ThickBranchesAreConfined, over_fall}
 pub use Rattle.water_table.specs.Steps.{constant_branch, convertible_cell, convertible_step, general_branches, heads_at, variable_branch, variable_cell}
 pub use Rattle.water_table.specs.Steps.{water_balance}
-pub use Rattle.water_table.specs.Storage.{compressed_water, drainable_water}
+pub use Rattle.water_table.specs.Storage.{compressed_water, drainable_water, with_yield}
 unfoldable pub use Rattle.water_table.specs.Storage.{storage_flow, stored_water}
 pub use Rattle.water_table.specs.Worked.{HasTwoSolutions, middle_balance, middle_head, middle_history, narrow_pair, only_step, pumped_layers, pumped_model}
 pub use Rattle.water_table.specs.Worked.{pumping}

@@ -1,0 +1,4 @@
+mod Common
+pub mod Sums
+pub mod Balances
+pub mod Signs

@@ -1,0 +1,3 @@
+mod Common
+pub mod Enclosed
+pub mod Checking

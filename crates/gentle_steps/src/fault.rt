@@ -1,0 +1,36 @@
+// Why the listed heads of a step don't hold.
+ghost use Rattle.std.specs.Prelude.{◌≡◌};
+ghost use Rattle.gentle_steps.specs.declared.fault.HeadsFault.TheVariants.{Memory as OutOfMemory};
+ghost use Rattle.gentle_steps.specs.Steps.{of_bound};
+
+use std::alloc::AllocError;
+use step_problem::{BoundFault, NoBound, Place};
+
+/// The first cell, by its number, at which not all heads between the listed ones are gentle; the first place that fails; a refusal of the step; or lack
+/// of memory.
+#[derive(Clone, Copy)]
+pub enum HeadsFault {
+    Steep(u32),
+    Fails(Place),
+    Refused(NoBound),
+    Memory,
+}
+
+impl From<AllocError> for HeadsFault {
+    ghost from_gives = { λ _ e. e ≡ OutOfMemory };
+
+    fn from(_e: AllocError) -> HeadsFault {
+        HeadsFault::Memory
+    }
+}
+
+impl From<BoundFault> for HeadsFault {
+    ghost from_gives = { λ fault e. e ≡ of_bound fault };
+
+    fn from(fault: BoundFault) -> HeadsFault {
+        match fault {
+            BoundFault::NoBound(refusal) => HeadsFault::Refused(refusal),
+            BoundFault::Memory => HeadsFault::Memory,
+        }
+    }
+}

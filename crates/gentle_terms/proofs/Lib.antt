@@ -1,0 +1,4 @@
+mod Common
+pub mod Parts
+pub mod CellTerms
+pub mod StepTerms

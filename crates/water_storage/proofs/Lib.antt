@@ -1,0 +1,6 @@
+mod Common
+pub mod Clipped
+pub mod Waters
+pub mod Flows
+pub mod Clamped
+pub mod Elevations
