@@ -25,7 +25,7 @@ sys.path.insert(0, os.path.join(os.path.dirname(os.path.realpath(__file__)), "..
 from heads_tools.numbers.certify import UNIT, Bounds  # noqa: E402  the repository's tools are found by the path above
 from heads_tools.numbers.equations import Step, given_heads  # noqa: E402
 from heads_tools.deck.model import read_model  # noqa: E402
-from heads_tools.numbers.solvers import solved  # noqa: E402
+from heads_tools.numbers.solvers import Matrix, solved  # noqa: E402
 
 MOST_OUTSIDE = 1e-6
 # Balances count as zero below these parts of a cell's conductances times 10^-9 of a head, and times its head.
@@ -42,9 +42,20 @@ class Solution(Bounds):
             if np.all(np.abs(rest) <= step.conductance * np.maximum(OF_UNIT * UNIT, OF_HEAD * np.abs(h))):
                 return h
             diagonal = scipy.sparse.diags(np.maximum(slope, 1e-12 * step.conductance))
-            change = solved((diagonal - step.links).tocsc(), rest, self.model.shape[0])
-            h = h + self.share(step, h, change, side) * change
+            change = self.linear((diagonal - step.links).tocsc(), rest)
+            share = self.share(step, h, change, side)
+            h = h + share * change
+            if self.is_close(share * change):
+                return h
         raise SystemExit(f"period {step.period + 1}, step {step.number}: Newton's method didn't end")
+
+    def is_close(self, change: np.ndarray) -> bool:
+        """Whether a change is so small that it is the last one. Here the balances alone end the rounds."""
+        return False
+
+    def linear(self, matrix: Matrix, rest: np.ndarray) -> np.ndarray:
+        """The solution of a linear system."""
+        return solved(matrix, rest, self.model.shape[0])
 
     def share(self, step: Step, h: np.ndarray, change: np.ndarray, side: int) -> float:
         """How far to go: balances are the slope of a concave function, so along the change they fall, and its greatest
