@@ -162,7 +162,7 @@ class Model:
         self.delr, self.delc = read_array(text, 1, self.ncol), read_array(text, 1, self.nrow)
         self.area = [across * down for down in self.delc for across in self.delr] * self.nlay
         self.thick, self.bed = Values(), Values()
-        above = self.maps(text)
+        above = self.surface = self.maps(text)
         for layer in range(self.nlay):
             bottom = self.maps(text)
             bed_bottom = self.maps(text) if self.has_bed[layer] else bottom
@@ -179,17 +179,18 @@ class Model:
                 self.times.append(Time(period, step, length, end / ends[-1] if number(perlen) > 0 else ONE))
 
     def read_layers(self, text: Text) -> None:
-        """LPF: for each layer HK, HANI, VKA, SS where a period is transient, VKCB where a bed lies below."""
+        """LPF: per layer HK, HANI, VKA, SS and SY (of a convertible one) where a period is transient, VKCB of a bed."""
         self.is_coefficient = "STORAGECOEFFICIENT" in [word.upper() for word in next(text)[3:]]
-        _laytyp, _layavg, chani, layvka, _laywet = [read_values(text, self.nlay) for _ in range(5)]
+        self.laytyp, _layavg, chani, layvka, _laywet = [read_values(text, self.nlay) for _ in range(5)]
         is_steady = all(time.length is None for time in self.times)
-        self.hk, self.hani, self.vk, self.ss, self.vkcb = Values(), Values(), Values(), Values(), Values()
+        self.hk, self.hani, self.vk, self.ss, self.sy, self.vkcb = [Values() for _ in range(6)]
         for layer in range(self.nlay):
             self.hk += self.maps(text)
             self.hani += [chani[layer]] * self.sheet if chani[layer] > 0 else self.maps(text)
             vka = self.maps(text)
             self.vk += vka if layvka[layer] == 0 else [h / v if v else ZERO for h, v in zip(self.hk[-len(vka) :], vka)]
             self.ss += [ZERO] * self.sheet if is_steady else self.maps(text)
+            self.sy += [ZERO] * self.sheet if is_steady or self.laytyp[layer] == 0 else self.maps(text)
             self.vkcb += self.maps(text) if self.has_bed[layer] else [ZERO] * self.sheet
 
     def read_list(self, text: Text, count: int) -> list[Entries]:
@@ -442,7 +443,9 @@ class Step:
 
 def demand_alike(one: Model, two: Model) -> None:
     """A ValueError where the decks differ in more than numbers of stresses and STRT. EVTR is 0 in both or in none, EXDP
-    the same."""
+    the same. And one where a layer is convertible: recheck_convertible.py reads such a deck."""
+    if any(one.laytyp):
+        raise ValueError("LAYTYP isn't 0: recheck_convertible.py reads convertible layers")
     free: dict[str, object] = {"strt": 0, "stresses": 0, "given": 0}
     shapes = [
         (vars(model) | free, [list(heads) for heads in model.given], list(model.stresses))
@@ -480,9 +483,8 @@ def main(arguments: list[str]) -> int:
         model = Model(words[0], least)
         other = model if second is None else Model(second, least)
         demand_alike(model, other)
-        zones = [0] * len(model.ibound)
-        if words[2:]:
-            zones = [int(value) for value in model.maps(text_of(words[2], has_comments=False), model.nlay)]
+        marks = model.maps(text_of(words[2], False), model.nlay) if words[2:] else [ZERO] * len(model.ibound)
+        zones = [int(mark) for mark in marks]
         check_listing(model, Listing(words[1], model, second is not None), zones, other)
     except Fault as fault:
         print(f"NOT CONFIRMED: {fault}")

@@ -1,13 +1,16 @@
 #!/usr/bin/env python3
 """The exact solution of a deck, beside a listing of `heads`.
 
-    python3 solution.py NAME LISTING [MOST] [--to NAME2 [COUNT]]      (in the deck's folder, beside recheck.py)
+    python3 solution.py NAME LISTING [MOST] [--plan WELLS] [--to NAME2 [COUNT]]      (in the deck's folder)
 
 It makes the manual's equations as recheck.py does, solves each time step in fractions, and says whether the solution
 lies between the listed heads. It tests no terms and no flows between zones: take a listing without lines ZONE.
 With a second deck it makes COUNT histories (10 where it is left out): at each time step it draws a deck between the two
 anew, each number of its stresses and STRT by itself, and each given head (CHD) between those that the two decks have at
 this step, and solves it from the heads of the step before.
+With --plan it is a listing of what the wells of WELLS do (recheck_plan.py lies beside it, too): each deck that is drawn
+is solved without these wells and with them, each from its own heads of the step before, and the difference has to lie
+within DRAWDOWN. It tests no SOURCE.
 A river, a drain and an evapotranspiration is linear in each of its ranges; the ranges are those of the listed heads'
 middle first, then those of the last solution, until they are its own. So what is found is a solution, whatever was
 guessed: its balances are tested to be 0. No floors are used: listings of runs with --wide are taken as they are.
@@ -24,7 +27,7 @@ from math import lcm
 from random import Random
 from typing import Optional
 
-from recheck import USAGE, ZERO, Entries, Fault, Listing, Model, Step, Time, Values, demand_alike
+from recheck import USAGE, ZERO, Entries, Fault, Listing, Model, Step, Time, Values, demand_alike, text_of
 
 FOUND, OUTSIDE, NOT_TRIED = 0, 1, 2
 MOST_CELLS, MOST_ROUNDS, COUNT = 200, 100, 10
@@ -143,26 +146,78 @@ def follow(one: Model, two: Model, listed: list[tuple[Values, Values]], draw: Ra
         heads = solve_step(step, middle, old)
         for cell, head in step.constant.items():
             heads[cell] = head
-        for cell in [*step.cells, *step.constant]:
-            if not lower[cell] <= heads[cell] <= upper[cell]:
-                place = f"{step.name}, {step.place[cell]}: {float(heads[cell])}"
-                raise Outside(f"{place} isn't between {float(lower[cell])} and {float(upper[cell])}")
+        demand_within(step, heads, lower, upper)
         old, longest = heads, max(longest, digits_of(heads))
     return longest
 
 
-def find(one: Model, two: Model, listing: Listing, most: int, count: int) -> int:
-    """Solves as many histories, and prints what was found."""
+class Planned:
+    """A listing of what a plan's wells do, and the two histories of each weather."""
+
+    def __init__(self, model: Model, listing: str, wells: str, is_span: bool):
+        import recheck_plan  # beside this script: only asked for where there is a plan
+
+        self.wells = model.read_list(text_of(wells), 1)
+        self.with_wells = recheck_plan.planned
+        read, self.listed = recheck_plan.PlanListing(listing, model, is_span), []
+        for time in model.times:
+            read.read_step(time, {})
+            self.listed.append([(heads.lower, heads.upper) for heads in read.parts.values()])
+
+    def follow(self, one: Model, two: Model, draw: Random) -> int:
+        """Solves the steps of both plans, each step in a weather of its own; the digits of the longest denominator."""
+        start = between(one, two, draw).strt
+        olds, longest = [list(start), list(start)], 1
+        for time, (*pairs, of_both) in zip(one.times, self.listed):
+            deck = between(one, two, draw, time)
+            step, found = Step(deck, time), []
+            for model, old, (lower, upper) in zip((deck, self.with_wells(deck, self.wells)), olds, pairs):
+                step = Step(model, time)
+                heads = solve_step(step, [(low + high) / 2 for low, high in zip(lower, upper)], old)
+                for cell, head in step.constant.items():
+                    heads[cell] = head
+                demand_within(step, heads, lower, upper)
+                found.append(heads)
+            demand_within(step, [x - y for x, y in zip(*found)], *of_both)
+            olds, longest = found, max(longest, *map(digits_of, found))
+        return longest
+
+
+def demand_within(step: Step, heads: Values, lower: Values, upper: Values) -> None:
+    """Refuses a head that isn't between the listed ones."""
+    for cell in [*step.cells, *step.constant]:
+        if not lower[cell] <= heads[cell] <= upper[cell]:
+            place = f"{step.name}, {step.place[cell]}: {float(heads[cell])}"
+            raise Outside(f"{place} isn't between {float(lower[cell])} and {float(upper[cell])}")
+
+
+def find(one: Model, two: Model, listing: str, wells: Optional[str], most: int, count: int) -> int:
+    """Solves as many histories, and prints what was found. `two` is `one` itself where there is no second deck."""
     cells = max(len(Step(one, time).cells) for time in one.times)
     if cells > most:
         print(f"NOT TRIED: {cells} variable cells are more than {most}")
         return NOT_TRIED
-    listed = read_heads(one, listing)
-    longest = max(follow(one, two, listed, Random(seed)) for seed in range(count))
     steps = f"{len(one.times)} step{'s' * (len(one.times) != 1)}"
-    solved = "the solution" if one is two else f"each of {count} solutions of decks between,"
-    print(f"FOUND: {solved} of {steps} lies between the listed heads; digits of its longest denominator: {longest}")
+    if wells is not None:
+        plan = Planned(one, listing, wells, one is not two)
+        longest = max(plan.follow(one, two, Random(seed)) for seed in range(count))
+        solved = "both plans" if one is two else f"both plans in each of {count} weathers,"
+        where = "heads and drawdowns"
+    else:
+        listed = read_heads(one, Listing(listing, one, one is not two))
+        longest = max(follow(one, two, listed, Random(seed)) for seed in range(count))
+        solved, where = "the solution" if one is two else f"each of {count} solutions of decks between,", "heads"
+    lies = "lie" if wells is not None else "lies"
+    print(f"FOUND: {solved} of {steps} {lies} between the listed {where}; digits of its longest denominator: {longest}")
     return FOUND
+
+
+def plan_of(arguments: list[str]) -> tuple[list[str], Optional[str]]:
+    """The words without the plan, and its file."""
+    if "--plan" not in arguments:
+        return arguments, None
+    at = arguments.index("--plan")
+    return arguments[:at] + arguments[at + 2 :], (arguments[at + 1 : at + 2] or [""])[0]
 
 
 def words_of(arguments: list[str]) -> tuple[list[str], str | None, int]:
@@ -175,9 +230,10 @@ def words_of(arguments: list[str]) -> tuple[list[str], str | None, int]:
 
 
 def main(arguments: list[str]) -> int:
+    arguments, wells = plan_of(arguments)
     words, second, count = words_of(arguments)
-    if len(words) not in (2, 3) or not all(map(str.isdigit, words[2:])) or second == "" or count < 1:
-        words_taken = "NAME LISTING [MOST] [--to NAME2 [COUNT]]"
+    if len(words) not in (2, 3) or not all(map(str.isdigit, words[2:])) or "" in (second, wells) or count < 1:
+        words_taken = "NAME LISTING [MOST] [--plan WELLS] [--to NAME2 [COUNT]]"
         print(f"usage: python3 solution.py {words_taken}   (in the deck's folder)", file=sys.stderr)
         return USAGE
     if hasattr(sys, "set_int_max_str_digits"):
@@ -187,7 +243,7 @@ def main(arguments: list[str]) -> int:
         two = one if second is None else Model(second)
         demand_alike(one, two)
         most = int(words[2]) if len(words) == 3 else MOST_CELLS
-        return find(one, two, Listing(words[1], one, second is not None), most, count)
+        return find(one, two, words[1], wells, most, count)
     except Outside as fault:
         print(f"OUTSIDE: {fault}")
         return OUTSIDE

@@ -11,7 +11,7 @@ import threading
 from pathlib import Path
 from typing import Iterable
 
-from .commands import HELP, PASSING, command
+from .commands import EXAMPLES, HELP, PASSING, command
 from .commands.shared import guarded
 from .commands.words import Parser, Wrong
 from .common.text import VERSION, Problem
@@ -19,8 +19,8 @@ from .common.text import VERSION, Problem
 EPILOG = """\
 Nothing in heads-tools is proved. The program is found by the environment variable HEADS, else in this checkout,
 else on the PATH.
-Statuses: those of heads where it ran; 2 for bad input; 1 where the answer is no (inside, version). Windows: run it
-in WSL (Debian or Ubuntu)."""
+Statuses: those of heads where it ran; 2 for bad input; 1 where the answer is no (inside, plain, version). Windows: a
+wheel of tools/wheel, or WSL (Debian or Ubuntu)."""
 
 
 def parser(loaded: Iterable[str] = HELP) -> Parser:
@@ -34,7 +34,8 @@ def parser(loaded: Iterable[str] = HELP) -> Parser:
     top.add_argument("--version", action="version", version=f"heads-tools {VERSION}")
     commands = top.add_subparsers(dest="command", metavar="COMMAND", required=True)
     for name, text in HELP.items():
-        sub = commands.add_parser(name, help=text, description=text)
+        example = f"Example: heads-tools {EXAMPLES[name]}"
+        sub = commands.add_parser(name, help=text, description=text, epilog=example)
         sub.set_defaults(own=sub)
         if name in loaded:
             command(name).add(sub)
@@ -113,8 +114,8 @@ def main(words: list[str] | None = None) -> int:
         sys.stderr.close()
         return 141
     except OSError as error:
-        where = error.filename or ("standard output" if silenced() else "a file")
-        print(f"heads-tools: {where}: {error.strerror or error}", file=sys.stderr)
+        where = error.filename or ("standard output" if silenced() else "")
+        print(f"heads-tools: {where}{': ' * bool(where)}{error.strerror or error}", file=sys.stderr)
         return 2
     except KeyboardInterrupt:
         print("heads-tools: stopped", file=sys.stderr)

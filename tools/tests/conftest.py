@@ -22,11 +22,17 @@ def pytest_configure(config):
         os.environ["HEADS"] = str(program())
     config.addinivalue_line("markers", "program: needs the program heads")
     config.addinivalue_line("markers", "spans: needs a program heads that takes a second deck (--to)")
+    config.addinivalue_line("markers", "plans: needs a program heads that lists what a plan does (--plan)")
 
 
 def takes_two_decks():
     """Whether the program knows --to."""
     return not heads(["run", "a.nam", "--to", "b.nam"], TOOLS).stdout.startswith("USAGE")
+
+
+def lists_plans():
+    """Whether the program knows --plan."""
+    return not heads(["run", "a.nam", "--plan", "a.wel"], TOOLS).stdout.startswith("USAGE")
 
 
 def pytest_collection_modifyitems(config, items):
@@ -38,6 +44,10 @@ def pytest_collection_modifyitems(config, items):
     if spans and not (program() and takes_two_decks()):
         for item in spans:
             item.add_marker(pytest.mark.skip(reason="no program that takes a second deck"))
+    plans = [item for item in items if "plans" in item.keywords]
+    if plans and not (program() and lists_plans()):
+        for item in plans:
+            item.add_marker(pytest.mark.skip(reason="no program that lists what a plan does"))
 
 
 @pytest.fixture

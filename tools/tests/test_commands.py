@@ -308,6 +308,20 @@ def test_each_command_stands_in_the_man_page_and_in_the_readme():
         ), name
 
 
+def test_each_help_says_each_word_and_ends_with_a_call_that_is_taken(tool):
+    import re
+
+    from heads_tools.cli import parser
+    from heads_tools.commands import HELP
+
+    commands = next(a for a in parser()._actions if hasattr(a, "choices") and a.choices).choices
+    assert not [(name, word.dest) for name, sub in commands.items() for word in sub._actions if not word.help]
+    for name in HELP:
+        status, out, _ = tool(name, "--help")
+        example = re.search(r"\nExample: heads-tools (.*)$", out.rstrip(), re.S)
+        assert status == 0 and example and parser().parse_args(example[1].split()).command == name
+
+
 def test_the_version_is_told(tool):
     status, out, err = tool("--version")
     assert status == 0 and out == "heads-tools 0.1.0\n" and "version: 0.1.0" in (TOP / "CITATION.cff").read_text()

@@ -41,6 +41,34 @@ def test_a_refused_model_leaves_the_listing_and_without_one_it_is_the_output(ran
     assert tool("run", nam)[0] == 2 and listing.read_text().startswith("REFUSED")
 
 
+@pytest.fixture
+def killed(tmp_path, monkeypatch):
+    """A program that is killed within its first step: as where the machine has too little memory."""
+    path = tmp_path / "killed"
+    part = "printf 'HEADS 2 DIGITS 12 UNIT 2\\nSTEP 1 1\\nHEAD 1'"
+    path.write_text(f"#!/bin/sh\n[ $1 = batch ] && echo MODEL a.nam\n{part}\nkill -9 $$\n")
+    path.chmod(0o755)
+    monkeypatch.setenv("HEADS", str(path))
+
+
+def test_the_output_of_a_program_that_was_killed_is_no_listing(ran, tool, killed):
+    nam, listing, text = ran
+    status, out, err = tool("run", nam, "--quiet")
+    assert status != 0 and "was left; this run's output is a.heads.end" in out and listing.read_text() == text
+    listing.unlink()
+    status, out, err = tool("run", nam, "--quiet")
+    assert status != 0 and "\nthis run's output is a.heads.end" in out and not listing.exists()
+
+
+@pytest.mark.parametrize("way", [[], ["--slurm"], ["--parallel"]])
+def test_a_batch_whose_program_was_killed_leaves_listings(way, ran, tool, tmp_path, monkeypatch, killed):
+    nam, listing, text = ran
+    stand_in(tmp_path / "bin", monkeypatch)
+    (tmp_path / "list.txt").write_text("three_cells/a.nam\n")
+    status, out, err = tool("batch", tmp_path / "list.txt", *way)
+    assert status != 0 and "was stopped, or a write failed" in out and listing.read_text() == text, out + err
+
+
 @pytest.mark.parametrize("way", [[], ["--slurm"], ["--parallel"]])
 def test_a_batch_leaves_listings_and_says_how_each_model_ended(way, ran, tool, tmp_path, monkeypatch):
     nam, listing, text = ran

@@ -188,3 +188,15 @@ def test_modflow_6_heads_are_read_by_compare_and_certify(tmp_path, tool):
     assert "0 of 8 cells lie outside" in out
     status, out, _ = tool("certify", deck, tmp_path / "gwf.hds", "--out", tmp_path / "c.heads")
     assert status == 0 and (tmp_path / "c.heads").is_file()
+
+
+@pytest.mark.program
+def test_heads_of_another_kind_of_grid_are_no_heads_of_these_cells(example, tool, tmp_path):
+    """DISV saves a layer as one row, DISU all cells as one."""
+    nam = example("river_valley")
+    assert tool("run", nam)[0] == 0
+    content = struct.pack("<2i2d16s3i600d", 1, 1, 1.0, 1.0, b"            HEAD", 600, 1, 1, *[7.0] * 600)
+    (tmp_path / "disv.hds").write_bytes(content)
+    for more in ([], ["--name", nam]):
+        status, out, error = tool("compare", nam.with_suffix(".heads"), tmp_path / "disv.hds", *more)
+        assert (status, out) == (2, "") and "another grid" in error

@@ -3,7 +3,7 @@ import random
 
 import pytest
 
-from modflow6_base import LAYERS, OPTION, RECHARGE, put
+from modflow6_base import BASE, LAYERS, OPTION, RECHARGE, put
 
 CONFINED = "To make it confined is your decision, not a spelling"
 EVT = "BEGIN DIMENSIONS\n MAXBOUND 2\n NSEG {}\nEND DIMENSIONS\nBEGIN PERIOD 1\n{}END PERIOD\n"
@@ -70,7 +70,10 @@ REFUSALS = [
      "m.sto, line 3: ICONVERT at (1, 1, 1), and 8 more cells, isn't 0"),
     ({"m.tdis": ("BEGIN DIM", OPTION.format("ATS6 FILEIN m.ats") + "BEGIN DIM")},
      "m.tdis, line 2: the option ATS6 lets MODFLOW 6 choose"),
-    ({"m.tdis": (" 10 1 1\n", "")}, "m.tdis: NPER is 3, and PERIODDATA has 2 lines"),
+    ({"m.tdis": (" 10 1 1\n", "")}, "m.tdis, line 4: NPER is 3, and PERIODDATA has 2 lines"),
+    ({"m.tdis": (" 10 1 1\n", " 10 1 1e-5\n")}, "m.tdis, line 7: TSMULT of the transient period 3: other than 1"),
+    ({"m.tdis": (" 10 1 1\n", " 0 1 1\n")}, "m.tdis, line 7: PERLEN of the transient period 3 isn't above 0"),
+    ({"m.ic": BASE["m.ic"].replace("\n", "\r")}, "m.nam, line 3: m.ic: its lines end with CR alone"),
     ({"m.nam": ("END P", " SFR6 m.sfr\nEND P")}, "m.nam, line 8: SFR6: streams aren't read"),
     ({"m.nam": ("DIS6 m.dis", "DISV6 m.dis")}, "m.nam, line 2: DISV6: a grid of vertices"),
     ({"m.nam": (" IC6 m.ic\n", "")}, "m.nam: the name file lacks IC6"),
@@ -81,7 +84,7 @@ REFUSALS = [
       "m.dis": ("IDOMAIN\n CONSTANT 1", LAYERS.format(0, 1, 1))},
      "m.rch, line 6: RECHARGE at (1, 1, 1), which has no flow, above or below cells that have"),
     ({"m.nam": ("END P", " EVT6 m.evt\nEND P"), "m.evt": EVT.format(2, " 1 1 1 25 .01 2 .5 .5\n")},
-     "m.evt: NSEG is above 1"),
+     "m.evt, line 3: NSEG is above 1"),
     ({"m.nam": ("END P", " EVT6 m.evt\nEND P"), "m.evt": EVT.format(1, " 1 1 1 25 .01 2\n 2 1 1 25 .01 2\n")},
      "m.evt, line 7: EVT6: a second entry in the column of layers of (2, 1, 1) (that of (1, 1, 1) stands in m.evt,"
      " line 6)"),
@@ -98,6 +101,12 @@ def test_what_the_deck_cannot_say_is_refused_with_its_place(tmp_path, tool, chan
     assert not (tmp_path / "deck").exists()
     status, out, _ = tool("inside", nam)
     assert status == 1 and f"- {said}" in out
+
+
+def test_the_name_file_of_a_model_is_not_that_of_the_simulation(tmp_path, tool):
+    nam = put(tmp_path / "m").with_name("m.nam")
+    status, out, error = tool("plain", nam, tmp_path / "deck")
+    assert (status, out) == (2, "") and "m.nam, line 1: this is the name file of a model" in error
 
 
 def test_five_faults_are_named_at_once(tmp_path, tool):

@@ -19,6 +19,8 @@ LAYERS = [
     {"commands"},
     {""},
 ]
+# What a command loads only where it draws or solves: matplotlib, scipy and jinja2 take longer than most commands.
+LATE = ("pages", "numbers", "water", "commands")
 MOST_LINES = 400
 MODULES = {path.relative_to(TOOLS).with_suffix("").parts: path for path in PACKAGE.rglob("*.py")}
 
@@ -47,7 +49,8 @@ def test_a_module_imports_from_the_folders_below_it(module):
     for other, node in imports_of(module):
         there = folder_of(other)
         assert there == here or at[there] < at[here], f"{'.'.join(module)} imports {'.'.join(other)}"
-        assert node.col_offset == 0, f"{'.'.join(module)}:{node.lineno} imports within a function"
+        is_late = here == "commands" and there in LATE
+        assert node.col_offset == 0 or is_late, f"{'.'.join(module)}:{node.lineno} imports within a function"
 
 
 def test_no_module_imports_itself_by_others():
@@ -75,9 +78,8 @@ def test_each_folder_is_in_the_wheel():
     assert sorted(listed) == sorted({folder_of(module) for module in MODULES}) == sorted(set().union(*LAYERS))
 
 
-def test_a_command_without_pictures_loads_neither_matplotlib_nor_scipy():
-    """Both take longer to load than most commands do."""
-    code = "import sys, heads_tools; from heads_tools.commands import command; command('run'); command('hds')"
-    code += "; print({'matplotlib', 'scipy'} & set(sys.modules))"
+def test_help_and_wrong_words_load_neither_matplotlib_nor_scipy_nor_jinja2():
+    code = "import sys, heads_tools; from heads_tools.commands import HELP, command; [command(name) for name in HELP]"
+    code += "; print({'matplotlib', 'scipy', 'jinja2'} & set(sys.modules))"
     done = subprocess.run([sys.executable, "-c", code], cwd=TOOLS, capture_output=True, text=True)
     assert done.stdout == "set()\n", done.stdout + done.stderr

@@ -1,4 +1,5 @@
 """solution beside the program: it finds the exact heads, and says where they lie outside."""
+import shutil
 import subprocess
 import sys
 from fractions import Fraction
@@ -128,3 +129,34 @@ def test_a_large_model_is_not_tried(example):
     listing = nam.parent / "m.heads"
     listing.write_text(heads(["run", nam.name], nam.parent).stdout)
     assert solution(nam, listing, "50") == (2, "NOT TRIED: 600 variable cells are more than 50")
+
+
+@pytest.fixture
+def plan_decks(tmp_path):
+    """Two decks and a plan's wells, with the listings that an independent program made of them, without lines ZONE."""
+    folder = shutil.copytree(TOOLS / "tests" / "plan_listing", tmp_path / "decks")
+    lines = (folder / "one.txt").read_text().splitlines(keepends=True)
+    (folder / "one.txt").write_text("".join(line for line in lines if not line.startswith("ZONE")))
+    return folder
+
+
+BOTH = [(["one.txt"], "both plans of"), (["two.txt", "--to", "h.nam", "4"], "4 weathers")]
+
+
+@pytest.mark.parametrize("words, said", BOTH)
+def test_both_plans_lie_within_a_plans_listing(plan_decks, words, said):
+    listing, *to = words
+    status, text = solution(plan_decks / "m.nam", plan_decks / listing, "--plan", "plan.wel", *to)
+    assert status == 0 and said in text and "lie between the listed heads and drawdowns" in text, text
+
+
+@pytest.mark.parametrize("part", ["BASE", "PLAN", "DRAWDOWN"])
+def test_a_part_of_a_plans_listing_that_leaves_the_solution_out_is_found(plan_decks, part):
+    lines = (plan_decks / "one.txt").read_text().splitlines()
+    at = max(n for n, line in enumerate(lines) if line.startswith(f"{part} 1 1 2 "))
+    *words, low, high = lines[at].split()
+    raised = [f"{float(end) + 1:.9f}" for end in (low, high)]
+    lines[at] = " ".join([*words, *raised])
+    (plan_decks / "one.txt").write_text("\n".join(lines) + "\n")
+    status, text = solution(plan_decks / "m.nam", plan_decks / "one.txt", "--plan", "plan.wel")
+    assert status == 1 and text.startswith("OUTSIDE:"), text

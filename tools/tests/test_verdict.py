@@ -123,3 +123,19 @@ def test_a_zone_file_that_is_refused_is_named(zoned, tool, tmp_path):
     zones.write_text("CONSTANT 1000\n")
     status, out, err = tool("check", nam, listing, "--zones", zones)
     assert status == 2 and "REFUSED 15 BadProperty other zones.zon 0 1 1 1" in out, out + err
+
+
+@pytest.mark.program
+@pytest.mark.parametrize(
+    "change, told",
+    (
+        (lambda text: text[:-4], "isn't whole"),
+        (lambda text: text.replace("HEAD 1 1 3", "HEAD 1 1 4"), "another model"),
+        (lambda text: text.replace("UNIT 2", "UNIT 1"), "isn't of the form due at this line"),
+        (lambda text: text.replace("HEAD 1 1 2 15.0", "HEAD 1 1 2 15.1"), "isn't a certificate: period 1 step 1, 1 1 2"),
+    ),
+)
+def test_check_says_why_a_listing_is_not_certified(listed, tool, change, told):
+    nam, path = listed(change)
+    status, out, err = tool("check", nam, path)
+    assert status in (2, 8) and "no certified bounds" in out and told in out, out + err

@@ -35,7 +35,7 @@ KNOWN = [
 @pytest.fixture(autouse=True)
 def difference_decks(monkeypatch):
     """By difference decks, whatever the program knows."""
-    monkeypatch.setattr("heads_tools.planning.drawdown_weather.takes_plans", lambda: False)
+    monkeypatch.setattr("heads_tools.planning.drawdown_weather.lists_plans", lambda: False)
 
 
 def well_file(folder, *entries, periods=1, name="plan.wel"):
@@ -81,11 +81,8 @@ VALLEYS = [
 ]
 
 
-@pytest.mark.parametrize("rate, higher, connected, expected", VALLEYS)
-def test_a_river_that_falls_dry_in_some_weathers_widens_the_drawdown(
-    example, tmp_path, rate, higher, connected, expected
-):
-    nam = example("valley_between").with_name("from.nam")
+def valleys(nam, higher):
+    """The two ends of the weather, in an example's folder."""
     rows = [line.split() for line in nam.with_name("both.riv").read_text().splitlines() if len(line.split()) == 6]
     for word, shift, rain, other in (("low", "-0.2", "0.00048", -1500), ("high", "0.2", "0.00072", 0)):
         text = nam.read_text().replace("both.riv", f"{word}.riv").replace("from.", f"{word}.")
@@ -96,8 +93,15 @@ def test_a_river_that_falls_dry_in_some_weathers_widens_the_drawdown(
         nam.with_name(f"{word}.riv").write_text("20\n20 0\n" + "".join(" ".join(row) + "\n" for row in moved))
         nam.with_name(f"{word}.rch").write_text(f"3\n0\nCONSTANT {rain}\n")
         nam.with_name(f"{word}.wel").write_text(f"2\n1 0\n1 14 17 {other}\n")
-    asked = Asked(nam.with_name("low.nam"), well_file(tmp_path, f"1 8 17 -{rate}"), nam.with_name("high.nam"))
-    it = weathered(asked, tmp_path / "made")
+    return nam.with_name("low.nam"), nam.with_name("high.nam")
+
+
+@pytest.mark.parametrize("rate, higher, connected, expected", VALLEYS)
+def test_a_river_that_falls_dry_in_some_weathers_widens_the_drawdown(
+    example, tmp_path, rate, higher, connected, expected
+):
+    low, high = valleys(example("valley_between").with_name("from.nam"), higher)
+    it = weathered(Asked(low, well_file(tmp_path, f"1 8 17 -{rate}"), high), tmp_path / "made")
     at, effect = it.listing.at((1, 8, 17)), it.effects[0]
     low, high = (round(Fraction(word) * 10**9) for word in expected.split())
     assert it.ramps[0] == connected and it.is_certified

@@ -8,12 +8,15 @@ import numpy as np
 
 getcontext().prec = 70
 D = Decimal
+ROW, COLUMN, DOWN = range(3)
 
 
 @dataclass
 class Small:
     """A model on cells of 100 by 100: per cell `top`, `bottom`, `k`, `ibound`, `strt`; `vk`, `vkcb`, `ss`, `sy` of all;
-    `convertible` by layer; `bed`: layers with a bed of thickness 1 below them; entries (cell, numbers)."""
+    `convertible` by layer, which is LAYTYP; `chani` of all; `is_coefficient`: STORAGECOEFFICIENT; `bed`: layers with a
+    bed of thickness 1 below them; periods (PERLEN, NSTP, SS or TR, and TSMULT, 1 where it is left out); entries
+    (cell, numbers); `evt`: SURF, EVTR and EXDP of all columns, in the highest cell with flow, as `rain`."""
 
     shape: tuple
     top: list
@@ -33,6 +36,9 @@ class Small:
     drains: list = field(default_factory=list)
     general: list = field(default_factory=list)
     rain: D = D(0)
+    chani: D = D(1)
+    is_coefficient: bool = False
+    evt: tuple = ()
 
     @property
     def size(self):
@@ -43,14 +49,14 @@ class Small:
         return k + 1, r // self.shape[2] + 1, r % self.shape[2] + 1
 
     def neighbours(self):
-        """Pairs of cells with flow: in a row or a column, and one below the other."""
+        """Pairs of cells with flow, and the axis along which they lie: ROW, COLUMN, DOWN."""
         nlay, nrow, ncol = self.shape
         for c in range(nlay * self.size):
             k, i, j = (n - 1 for n in self.place(c))
-            beside = (j + 1 < ncol, c + 1, False), (i + 1 < nrow, c + ncol, False), (k + 1 < nlay, c + self.size, True)
-            for is_there, n, is_down in beside:
+            beside = (j + 1 < ncol, c + 1, ROW), (i + 1 < nrow, c + ncol, COLUMN), (k + 1 < nlay, c + self.size, DOWN)
+            for is_there, n, axis in beside:
                 if is_there and self.ibound[c] and self.ibound[n]:
-                    yield c, n, is_down
+                    yield c, n, axis
 
     def write(self, folder):
         """The deck's files; the name file."""
@@ -59,21 +65,23 @@ class Small:
         rows = lambda v: "INTERNAL 1 (FREE) -1\n" + "".join(line(v[n : n + ncol]) for n in range(0, len(v), ncol))
         layers = lambda v: [v[k * self.size : (k + 1) * self.size] for k in range(nlay)]
         put = lambda name, text: (folder / name).write_text(text)
-        files = ["DIS", "BAS6", "LPF", "WEL", "RIV", "DRN", "GHB", "RCH"]
+        files = ["DIS", "BAS6", "LPF", "WEL", "RIV", "DRN", "GHB", "RCH", *["EVT"] * bool(self.evt)]
         put("m.nam", "".join(f"{kind} {n} m.{kind.lower()}\n" for n, kind in enumerate(files, 11)))
         dis = f"{nlay} {nrow} {ncol} {len(self.periods)} 4 2\n" + line([int(k in self.bed) for k in range(nlay)])
         dis += "CONSTANT 100\nCONSTANT 100\n" + rows(self.top[: self.size])
         for k, bottom in enumerate(layers(self.bottom)):
             dis += rows(bottom) + (rows([b - 1 for b in bottom]) if k in self.bed else "")
-        put("m.dis", dis + "".join(f"{length} {count} 1 {kind}\n" for length, count, kind in self.periods))
+        times = [(*period, D(1))[:4] for period in self.periods]
+        put("m.dis", dis + "".join(f"{length} {count} {tsmult} {kind}\n" for length, count, kind, tsmult in times))
         ibound, strt = ("".join(map(rows, layers(v))) for v in (self.ibound, self.strt))
         put("m.bas6", f"FREE\n{ibound}-999\n{strt}")
         none = line([0] * nlay)
-        lpf = "0 -1E+30 0\n" + line(map(int, self.convertible)) + none + line([1] * nlay) + none + none
-        is_transient = any(kind == "TR" for *_, kind in self.periods)
+        lpf = "0 -1E+30 0" + " STORAGECOEFFICIENT" * self.is_coefficient + "\n"
+        lpf += line(map(int, self.convertible)) + none + line([self.chani] * nlay) + none + none
+        is_transient = any(period[2] == "TR" for period in self.periods)
         for k, hk in enumerate(layers(self.k)):
             lpf += rows(hk) + f"CONSTANT {self.vk}\n" + f"CONSTANT {self.ss}\n" * is_transient
-            lpf += f"CONSTANT {self.sy}\n" * (is_transient and self.convertible[k])
+            lpf += f"CONSTANT {self.sy}\n" * bool(is_transient and self.convertible[k])
             lpf += f"CONSTANT {self.vkcb}\n" * (k in self.bed)
         put("m.lpf", lpf)
         again = "-1 0\n" * (len(self.periods) - 1)
@@ -83,12 +91,17 @@ class Small:
         wells = ["".join(entry(c, [q[p]]) for c, q in self.wells) for p in range(len(self.periods))]
         put("m.wel", "99 0\n" + "".join(f"{len(self.wells)} 0\n{text}" for text in wells))
         put("m.rch", f"3 0\n0\nCONSTANT {self.rain}\n" + "-1\n" * (len(self.periods) - 1))
+        if self.evt:
+            arrays = "".join(f"CONSTANT {number}\n" for number in self.evt)
+            put("m.evt", f"3 0\n0 0 0\n{arrays}" + "-1 -1 -1\n" * (len(self.periods) - 1))
         return folder / "m.nam"
 
     def steps(self):
-        for p, (length, count, kind) in enumerate(self.periods):
+        for p, period in enumerate(self.periods):
+            length, count, kind, tsmult = (*period, D(1))[:4]
+            first = D(length) / sum(D(tsmult) ** n for n in range(count))
             for number in range(1, count + 1):
-                yield p, number, None if kind == "SS" else D(length) / count
+                yield p, number, None if kind == "SS" else first * D(tsmult) ** (number - 1)
 
     def balances(self, h, old, period, length, num):
         """The balance of each cell, and the flows in and out by term, in numbers of the kind `num`."""
@@ -104,12 +117,13 @@ class Small:
             is_conv = self.convertible[c // self.size]
             return (min(h[c], num(self.top[c])) if is_conv else num(self.top[c])) - num(self.bottom[c])
 
-        for a, b, is_down in self.neighbours():
-            if is_down:
+        for a, b, axis in self.neighbours():
+            if axis == DOWN:
                 bed = num(1) / num(self.vkcb) if a // self.size in self.bed else num(0)
                 c = area / (wet(a) / (2 * num(self.vk)) + bed + wet(b) / (2 * num(self.vk)))
             else:
-                c = 1 / (1 / (2 * num(self.k[a]) * wet(a)) + 1 / (2 * num(self.k[b]) * wet(b)))
+                along = num(self.chani) if axis == COLUMN else num(1)
+                c = along / (1 / (2 * num(self.k[a]) * wet(a)) + 1 / (2 * num(self.k[b]) * wet(b)))
             q = c * (h[b] - h[a])
             if self.ibound[a] > 0:
                 give("CONSTANT HEAD" if self.ibound[b] < 0 else "", a, q)
@@ -119,6 +133,9 @@ class Small:
             c = next((n for n in range(c, len(h), self.size) if self.ibound[n]), -1)
             if c >= 0 and self.ibound[c] > 0:
                 give("RECHARGE", c, num(self.rain) * area)
+                if self.evt:
+                    surface, rate, depth = map(num, self.evt)
+                    give("ET", c, -rate * area * max(min(h[c], surface) - surface + depth, num(0)) / depth)
         for c, q in self.wells:
             give("WELLS", c, num(q[period]))
         for c, (stage, cond, bottom) in self.rivers:
@@ -134,7 +151,8 @@ class Small:
         return [q if self.ibound[c] > 0 else num(0) for c, q in enumerate(out)], terms
 
     def water(self, c, h, num):
-        top, thick = num(self.top[c]), num(self.top[c]) - num(self.bottom[c])
+        top = num(self.top[c])
+        thick = num(1) if self.is_coefficient else top - num(self.bottom[c])
         if not self.convertible[c // self.size]:
             return num(self.ss) * thick * 10000 * h
         return num(self.sy) * 10000 * min(h, top) + num(self.ss) * thick * 10000 * max(h - top, num(0))

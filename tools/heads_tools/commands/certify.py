@@ -6,15 +6,13 @@ from pathlib import Path
 from typing import IO
 
 from ..common.text import Problem
-from ..numbers.certify import certify
-from ..water.certify_convertible import certify_convertible
 from .shared import MOST_DIGITS, Ran, existing, say
 from .words import NAM, add_force, add_wide, add_words
 
 
 def add(sub: argparse.ArgumentParser) -> None:
     add_words(sub, NAM, ("heads", "heads to begin with: hds or CSV"))
-    sub.add_argument("--digits", type=int, default=12)
+    sub.add_argument("--digits", type=int, default=12, help="the digits of the listing, from 0 to 18 (12)")
     sub.add_argument("--out", type=Path, help="the listing's file, NAME.certified.heads where left out")
     sub.add_argument(
         "--theta", type=float, help="the margin, in roundings of a head; 0.5 and more are tried where left out"
@@ -42,9 +40,13 @@ def ran(args: argparse.Namespace, _: list[str], out: IO[str]) -> Ran:
     if args.convertible:
         if args.zones:
             raise Problem("--convertible bounds no flows between zones: leave --zones out")
+        from ..water.certify_convertible import certify_convertible
+
         ended = certify_convertible(nam, existing(args.heads), args.digits, target, args.theta, args.wide)
         say(ended.lines, out)
         return Ran(ended.status, ended.last, ended.lines, ended.listing)
+    from ..numbers.certify import certify
+
     zones = existing(args.zones) if args.zones else None
     ended = certify(nam, existing(args.heads), args.digits, target, args.theta, zones, args.wide)
     say(ended.lines, out)

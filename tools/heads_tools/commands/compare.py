@@ -10,7 +10,6 @@ from ..deck.model import read_model
 from ..listing.compare import compare, sentences, write_csv
 from ..listing.fitting import demand_fit, demand_whole
 from ..listing.headfile import read_heads
-from ..pages.look import look_at_given
 from ..program.about import about_file, write_about
 from ..program.verdict import status_of
 from .shared import existing, listing_of, model_for_zones, page_folder, say, verdict_of
@@ -49,6 +48,8 @@ def do(args: argparse.Namespace, _: list[str], out: IO[str]) -> int:
         write_about(args.csv, verdict)
         said.append(f"written: {args.csv}; {about_file(args.csv).name} says what it was made of")
     if args.map:
+        from ..pages.look import look_at_given
+
         with page_folder(args.map) as folder:
             look_at_given(listing, folder, model, verdict, existing(args.heads))
         said.append(f"open {args.map / 'index.html'}")

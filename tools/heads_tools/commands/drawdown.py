@@ -12,8 +12,6 @@ from ..common.whole_files import whole_folder
 from ..deck.model import read_model
 from ..listing.below_top import BelowTop
 from ..listing.listing import Cell, Listing
-from ..pages.drawdown_page import draw
-from ..pages.weather_page import NOTES, drawdown_weather, folder_of
 from ..planning.drawdown import Drawdown, difference, tops_lines, verdict_of, write_changes
 from ..planning.drawdown_weather import Asked
 from ..program.verdict import status_of
@@ -112,6 +110,8 @@ def drawdown_of_decks(args: argparse.Namespace, out: IO[str]) -> int:
         raise Problem("--name, --base-name and --zones go with two listings, and not with a base deck and a plan")
     if isinstance(args.base, Listing) or is_listing(args.plan) or is_listing(args.base):
         raise Problem("with --to or --any the words are the base deck's name file and the plan: no listings")
+    from ..pages.weather_page import NOTES, drawdown_weather, folder_of
+
     cells = {each: "" for each in args.cell}
     words = existing(args.plan), existing(args.base), args.to, args.any, cells, args.at, args.digits
     asked = Asked(*words, is_quick=args.quick, has_wide=args.wide)
@@ -135,6 +135,8 @@ def drawdown(
     """Tables, a map, curves and a page of what a plan does; what there is to say, and the first status of a check that
     isn't 0. `nam`, `base_nam`: the models, for the checks, true widths, times and units; `zones`: the zone file of both
     runs, `has_wide`: the word --wide, for the checks."""
+    from ..pages.drawdown_page import draw
+
     cells = list(cells or [])
     for each in cells:
         plan.at(each)

@@ -28,8 +28,6 @@ from ..listing.made_by import is_quick, keep_words, kind_of
 from ..listing.spans import plan_file, second_deck, target_of
 from ..listing.what_is_said import NOT_THE_MOST, words_of
 from ..listing.zones import read_zones
-from ..pages.look import look
-from ..pages.looking import title_of
 from ..program.explain import explain
 from ..program.program import TOP, Version, beside, digits_of, program_file, record_of, version
 from ..program.reading import files_of
@@ -43,7 +41,6 @@ from .exhibit_parts import (
     to_options,
     zone_file,
 )
-from .exhibit_plan import add_plan_verdicts
 from .shared import existing, flags_of
 from .words import NAM, WIDE_RUN, add_quick, add_to, add_wide, add_words
 
@@ -95,6 +92,9 @@ def exhibit(nam: Path, folder: Path, options: list[str], out: IO[str]) -> int:
 
 def fill(folder: Path, name: str, options: list[str], known: Version) -> tuple[int, Exhibit]:
     """Runs, checks, rechecks and draws in the exhibit's folder."""
+    from ..pages.looking import title_of
+    from .exhibit_plan import add_plan_verdicts
+
     plan = plan_file(options)
     listing = target_of(Path(name), to_options(options), plan).name
     deck = f"cd deck && ../heads run {shlex.join([name, *options])}"
@@ -124,6 +124,8 @@ def same_bytes(run: str, listing: str, options: list[str]) -> list[str]:
 
 def add_verdicts(told: Exhibit, folder: Path, name: str, listing: str, options: list[str], known: Version) -> int:
     """What `heads check` and recheck.py say, and what may be said after it; the status of the check."""
+    from ..pages.look import look
+
     read, model = read_listing(folder / listing), read_model(folder / "deck" / name)
     named = zone_file(options)
     zones = [word for file in named for word in ("--zones", file)]

@@ -10,7 +10,6 @@ from pathlib import Path
 
 from ..listing.spans import value_of
 from ..listing.what_is_said import Words
-from ..pages.templates import rendered
 from ..program.program import Ended
 
 NO_CERTIFIED = "Nothing may be said of it: there is no certified listing."
@@ -47,6 +46,8 @@ class Exhibit:
 
     def page(self) -> str:
         """judge.html."""
+        from ..pages.templates import rendered
+
         return rendered("judge.html", told=self, may=self.may or [NOTHING])
 
 

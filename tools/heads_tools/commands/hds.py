@@ -15,13 +15,19 @@ from ..program.verdict import status_of
 from .shared import existing, listing_of, say, verdict_of
 from .words import LISTING, add_force, add_to, add_wide, add_words
 
+SIDES = {
+    "lower": "the lower heads, rounded down",
+    "upper": "the upper heads, rounded up",
+    "middle": "the middles of the pairs, which are no bounds (so where left out)",
+}
+
 
 def add(sub: argparse.ArgumentParser) -> None:
     add_words(sub, LISTING, ("out", "the head file to write"))
     sub.add_argument("--name", type=Path, metavar="M.NAM", help="the model: its whole grid and its times")
     side = sub.add_mutually_exclusive_group()
-    for name in ("lower", "upper", "middle"):
-        side.add_argument(f"--{name}", dest="side", action="store_const", const=name)
+    for name, about in SIDES.items():
+        side.add_argument(f"--{name}", dest="side", action="store_const", const=name, help=about)
     sub.add_argument("--single", action="store_true", help="single precision (double where left out)")
     add_to(sub, "the second deck, where the listing is that of two decks")
     add_wide(sub)

@@ -15,7 +15,7 @@ from ..deck.model import Model, model_of
 from ..deck.packages import read_deck
 from ..deck.sources import Report
 from ..deck.which_modflow import is_simulation
-from ..deck.writing import write_deck
+from ..deck.writing import write_deck, written_name
 from ..modflow6.translate import read_simulation
 from ..numbers.equations import Network, given_heads
 from ..program.explain import explain
@@ -153,7 +153,7 @@ def confirmed(nam: Path, model: Model, is_rewritten: bool, has_wide: bool) -> To
         with tempfile.TemporaryDirectory() as folder:
             if is_rewritten:
                 write_deck(model.deck, Path(folder))
-                nam = Path(folder) / model.deck.path.name
+                nam = Path(folder) / written_name(model.deck)
             last = read_alone(nam.resolve(), has_wide)
             if last is None:
                 how = (" so rewritten" if is_rewritten else "") + (" with --wide" if has_wide else "")

@@ -12,13 +12,10 @@ from ..listing.plan_listing import is_plan_listing, read_plan_listing
 from ..listing.spans import second_deck
 from ..listing.zones import read_zones
 from ..common.whole_files import whole_folder
-from ..pages.look import look, look_at_map
-from ..pages.map_page import NAME
-from ..pages.weather_page import look_at_plan
 from ..planning.drawdown_weather import Asked
 from ..program.verdict import check_listing, status_of
 from .shared import existing, listing_of, model_for_zones, page_folder, say, verdict_of
-from .words import LISTING, add_force, add_to, add_wide, add_words, cell
+from .words import LISTING, add_force, add_to, add_wide, add_words, cell, named_point
 
 LOOK = """\
 Tables, maps, sections, hydrographs, budget and a page. Each net budget term (in less out) has two pairs of bounds:
@@ -47,6 +44,14 @@ def add(sub: argparse.ArgumentParser) -> None:
         default=[],
         metavar="K,I,J",
         help="a hydrograph of this cell; may stand again",
+    )
+    sub.add_argument(
+        "--at",
+        type=named_point,
+        action="append",
+        default=[],
+        metavar="NAME,X,Y[,LAYER]",
+        help="of a plan's listing: the drawdown at the cell of this point of the map; may stand again",
     )
     sub.add_argument(
         "--given", type=Path, metavar="RUN.HDS", help="heads of MODFLOW (hds or CSV): how far they are off"
@@ -78,12 +83,17 @@ def do(args: argparse.Namespace, _: list[str], out: IO[str]) -> int:
         return do_plan(args, out)
     if args.plan:
         raise Problem(f"--plan goes with a listing of what a plan does, and {args.listing} is none")
+    if args.at:
+        raise Problem(f"--at goes with a plan's listing, and {args.listing} is none: name the cell (--cell)")
     listing = listing_of(args.listing)
     model = read_model(existing(args.name)) if args.name else None
     verdict = verdict_of(args, listing)
     given = existing(args.given) if args.given else None
     zones = read_zones(existing(args.zones), existing(args.name), model.shape) if args.zones and model else None
     base = listing_of(args.minus) if args.minus else None
+    from ..pages.look import look, look_at_map
+    from ..pages.map_page import NAME
+
     if args.page:
         with whole_folder(args.folder, NAME) as folder:
             said = look_at_map(listing, folder, model, verdict, zones, base)
@@ -104,7 +114,9 @@ def do_plan(args: argparse.Namespace, out: IO[str]) -> int:
     nam, plan, listing = existing(args.name), existing(args.plan), read_plan_listing(existing(args.listing))
     zones, to = existing(args.zones) if args.zones else None, second_deck(nam, args.to)
     verdict = check_listing(nam, listing.drawdown, zones, to, args.wide, plan)
-    asked = Asked(nam, plan, args.to, cells={each: "" for each in args.cell}, has_wide=args.wide)
+    from ..pages.weather_page import look_at_plan
+
+    asked = Asked(nam, plan, args.to, cells={each: "" for each in args.cell}, points=args.at, has_wide=args.wide)
     with page_folder(args.folder) as folder:
         said = look_at_plan(asked, listing, verdict, folder)
     say(said + [f"open {args.folder / 'index.html'}"], out)

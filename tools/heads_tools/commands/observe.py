@@ -13,7 +13,6 @@ from ..listing.fitting import demand_fit
 from ..listing.observe import observe
 from ..listing.pest import write_pest
 from ..listing.spans import demand_one
-from ..pages.observed_picture import draw_observed
 from ..program.about import write_about
 from ..program.verdict import status_of
 from .shared import existing, listing_of, place_for, say, verdict_of
@@ -65,6 +64,8 @@ def do(args: argparse.Namespace, _: list[str], out: IO[str]) -> int:
     seen = observe(listing, model, points, place, args.between, start_of(args.start, model.deck.path))
     written = []
     if args.picture:
+        from ..pages.observed_picture import draw_observed
+
         draw_observed(args.picture, seen)
         written.append(f"written: {args.picture}")
     if args.pest:

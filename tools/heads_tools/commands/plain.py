@@ -13,7 +13,7 @@ from ..common.whole_files import whole_file, whole_folder
 from ..deck.packages import read_deck
 from ..deck.sources import Report
 from ..deck.which_modflow import is_simulation
-from ..deck.writing import NOTES, write_deck
+from ..deck.writing import NOTES, write_deck, written_name
 from ..modflow6.translate import read_simulation
 from ..program.reading import one_spelling, refused
 from ..water.plain_water import WrittenWater, plain_water
@@ -63,7 +63,7 @@ def plain(nam: Path, folder: Path) -> Written:
     if any(folder.resolve() == path.resolve().parent for path in [nam, *read]):
         raise Problem("the plain deck goes into another folder than the deck's own")
     files = {} if report.needed else one_spelling(nam.resolve(), bool(report.wide))
-    name = "p.nam" if files else deck.path.name
+    name = "p.nam" if files else written_name(deck)
     with whole_folder(folder, is_own=(folder / NOTES).is_file()) as new:
         for each, content in files.items():
             with whole_file(new / each, binary=True, is_own=True) as file:

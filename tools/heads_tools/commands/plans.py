@@ -4,7 +4,6 @@ from __future__ import annotations
 import argparse
 from typing import IO
 
-from ..pages.plans import compare_plans
 from .shared import existing, page_folder, say
 from .words import add_force, add_words, cell
 
@@ -24,6 +23,8 @@ def add(sub: argparse.ArgumentParser) -> None:
 
 
 def do(args: argparse.Namespace, _: list[str], out: IO[str]) -> int:
+    from ..pages.plans import compare_plans
+
     with page_folder(args.folder) as folder:
         said, status = compare_plans(existing(args.list), folder, args.base, args.cell)
     say(said + [f"open {args.folder / 'index.html'}"], out)

@@ -85,8 +85,8 @@ def without_listing(ended: Ended, meaning: Meaning, target: Path, out: IO[str]) 
     """Says how a run ended that wrote no whole listing."""
     lines = meaning.lines if not meaning.is_good else [f"The run ended with status {ended.status} after its last line."]
     if ended.output is not None and ended.output != target:
-        kept = f"{target} is that of an earlier run and was left; this run's output is {ended.output.name}"
-        lines = [*lines, kept]
+        kept = f"{target} is that of an earlier run and was left; " if target.exists() else ""
+        lines = [*lines, f"{kept}this run's output is {ended.output.name}"]
     say(lines, out)
     return Ran(ended.status or meaning.status or 6, ended.last, lines)
 

@@ -9,7 +9,7 @@ from ..common.whole_files import whole_file, whole_folder
 from ..deck.names import plain_name
 from ..deck.packages import read_deck
 from ..deck.templates import ENDING, template_of
-from ..deck.writing import write_deck
+from ..deck.writing import write_deck, written_name
 from .shared import existing, say
 from .words import NAM, add_words
 
@@ -50,7 +50,8 @@ def do(args: argparse.Namespace, _: list[str], out: IO[str]) -> int:
         said = [*map(str, report.needed), f"templates: {' '.join(names)}; marks: {' '.join(values)}"]
         with whole_file(folder / NOTES, is_own=True) as file:
             file.write("\n".join(said) + "\n")
+    written = args.folder / written_name(deck)
     tpl = " ".join(f"--tpl {args.folder / name}" for name in names)
-    example = f"heads-tools ensemble {args.folder / nam.name} {args.folder / VALUES} SAMPLES {tpl} --cell K,I,J"
-    say([said[-1], f"written: {args.folder / deck.path.name}", f"many samples: {example}"], out)
+    example = f"heads-tools ensemble {written} {args.folder / VALUES} SAMPLES {tpl} --cell K,I,J"
+    say([said[-1], f"written: {written}", f"many samples: {example}"], out)
     return 0

@@ -10,7 +10,6 @@ from .text import Problem
 
 EXACT = Context(prec=400)
 MOST_DIGITS = 18
-MODFLOW_DIGITS = 7
 NUMBER = re.compile(r"[+-]?(\d+\.?\d*|\.\d+)([EeDd]?[+-]?\d+)?")
 # A number of few digits, whose exponent is within the limits wherever its zeros stand.
 SHORT = re.compile(r"[+-]?(\d{1,9})(?:\.(\d{0,9}))?(?:[EeDd][+-]?[0-2]?\d)?")

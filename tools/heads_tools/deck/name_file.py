@@ -19,6 +19,7 @@ AS_OTHER = {
     "ETS": ("EVT", "the same evapotranspiration where it has one straight piece (NETSEG 1)"),
 }
 BARRIERS = "HFB6"
+PRINTABLE = "`heads` takes names of printable ASCII characters without blanks"
 
 
 def read_names(reading: Reading) -> None:
@@ -26,6 +27,8 @@ def read_names(reading: Reading) -> None:
     if is_simulation(deck.path):
         raise Problem(f"{name} is of MODFLOW 6: `heads-tools plain mfsim.nam FOLDER` writes its model as a deck")
     source = reading.at = Source(reading.deck.path, name, reading.report)
+    if name != plain_name(name):
+        reading.report.add("needed", name, 0, f"the name file is written as {plain_name(name)}: {PRINTABLE}")
     for n, line in enumerate(source.lines, 1):
         source.at = n
         if line.startswith("#") or not line.strip(" \t,\r"):

@@ -130,6 +130,7 @@ def find_file(folder: Path, name: str) -> tuple[Path, str]:
 
 # Words of numbers without a remark that a file keeps, so that lines of them aren't read word by word.
 MOST_KNOWN = 100_000
+OLD_ENDS = "its lines end with CR alone, as on old Macintoshes: save it with LF"
 BLANK = "a blank line where an item is due: `heads` skips it, MODFLOW-2005 may read it as zeros"
 
 
@@ -145,7 +146,7 @@ class Source:
         if said:
             report.add("needed", name, 1, f"the file {said}: written as plain text")
         if "\r" in text and "\n" not in text:
-            report.add("refusals", name, 1, "its lines end with CR alone, as on old Macintoshes: save it with LF")
+            report.add("refusals", name, 1, OLD_ENDS)
         if odd_bytes(text) == odd_bytes("\u00a0"):
             found = (n for n, line in enumerate(text.split("\n"), 1) if "\u00a0" in line.partition("#")[0])
             if line := next(found, 0):

@@ -7,13 +7,20 @@ from ..common.whole_files import whole_file
 from .deck import EVT_ARRAYS, KINDS, Deck, Entry
 from .names import plain_name
 
+NOTES = "plain.txt"
+
 
 def write_deck(deck: Deck, folder: Path) -> None:
     texts = {plain_name(deck.files[kind]): package_lines(deck, kind) for kind in KINDS if kind in deck.files}
-    texts[deck.path.name] = [line.rstrip() for line in deck.name_lines]
+    texts[written_name(deck)] = [line.rstrip() for line in deck.name_lines]
     for name, lines in texts.items():
         with whole_file(folder / name, binary=True, is_own=True) as file:
             file.write(("\n".join(lines) + "\n").encode("latin-1", "replace"))
+
+
+def written_name(deck: Deck) -> str:
+    """The name of a written deck's name file."""
+    return plain_name(deck.path.name)
 
 
 def package_lines(deck: Deck, kind: str) -> list[str]:
@@ -81,5 +88,3 @@ def areal_lines(deck: Deck, kind: str) -> list[str]:
             if name in arrays:
                 out += arrays[name].lines()
     return out
-
-NOTES = "plain.txt"

@@ -25,6 +25,7 @@ class Difference:
 
 def compare(listing: Listing, heads: Mapping[tuple[int, int], np.ndarray]) -> list[Difference]:
     """The differences of all steps for which heads are given."""
+    demand_grid(listing, heads)
     at, out = tuple((listing.cells - 1).T), []
     for step in listing.steps:
         given = heads.get((step.period, step.step), heads.get(ANY_STEP))
@@ -43,6 +44,18 @@ def compare(listing: Listing, heads: Mapping[tuple[int, int], np.ndarray]) -> li
     if all(np.isnan(d.most).all() for d in out):
         raise Problem("the given heads have none of the listing's cells")
     return out
+
+
+def demand_grid(listing: Listing, heads: Mapping[tuple[int, int], np.ndarray]) -> None:
+    """Refuses a head file whose layers have fewer rows or columns than the listing has: its cells are others."""
+    _, rows, cols = listing.shape
+    for grid in heads.values() if getattr(heads, "has_grid", False) else ():
+        if grid.shape[1] < rows or grid.shape[2] < cols:
+            raise Problem(
+                f"the given heads are of {counted(grid.shape[1], 'row')} and {counted(grid.shape[2], 'column')}, and"
+                f" the listing has cells up to row {rows}, column {cols}: another grid (as one of vertices, DISV, or"
+                " an unstructured one)"
+            )
 
 
 def padded(grid: np.ndarray, least: tuple[int, int, int]) -> np.ndarray:

@@ -20,7 +20,9 @@ NO_HEAD = 1e20
 
 
 class Heads(Dict[Tuple[int, int], np.ndarray]):
-    """Heads by (period, step), shown in one line."""
+    """Heads by (period, step), shown in one line. `has_grid`: they are of a binary file, whose layers are whole."""
+
+    has_grid = False
 
     def __repr__(self) -> str:
         shape = " x ".join(map(str, next(iter(self.values())).shape)) if self else "no"
@@ -63,6 +65,7 @@ def _binary(
             layers.setdefault((period, step), {})[layer] = np.where(np.abs(values) < most, values, np.nan)
         at += ncol * nrow * size + marks
     out = Heads()
+    out.has_grid = True
     for key, by_layer in layers.items():
         first = next(iter(by_layer.values()))
         out[key] = np.full(shape or (max(by_layer), *first.shape), np.nan)

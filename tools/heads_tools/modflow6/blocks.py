@@ -8,7 +8,7 @@ from typing import Callable
 from ..common.spelling import quoted_words
 from ..common.text import Problem, on_disk, read_text
 from ..deck.names import missing
-from ..deck.sources import Report
+from ..deck.sources import OLD_ENDS, Report
 from .numbers import whole
 
 COMMENTS = ("#", "!", "//")
@@ -98,6 +98,8 @@ class Folder:
             text = read_text(path)
             if "\0" in text:
                 raise Problem(f"{name} isn't text: {BINARY}")
+            if "\r" in text and "\n" not in text:
+                raise Problem(f"{name}: {OLD_ENDS}")
         except Problem as error:
             raise at.fault(str(error)) if at else Fault(name, 0, str(error)) from None
         return lines_of(name, text)
@@ -195,6 +197,11 @@ class File:
 
     def block(self, name: str) -> Block | None:
         return next((b for b in self.blocks if b.name == name), None)
+
+    def begin(self, name: str) -> Line | None:
+        """The first line of a block."""
+        block = self.block(name)
+        return block.begin if block else None
 
     def lines(self, name: str) -> list[Line]:
         block = self.block(name)

@@ -171,9 +171,10 @@ def state_of(block: Block) -> str:
 
 def look_at_length(simulation: Simulation, number: int) -> None:
     """What `heads` takes of a transient period's length and multiplier."""
-    period, mult = simulation.periods[number - 1], value_of(simulation.periods[number - 1].tsmult)
+    period, line = simulation.periods[number - 1], simulation.period_lines[number - 1]
+    mult = value_of(period.tsmult)
     if value_of(period.perlen) <= 0:
-        simulation.folder.add(Problem(f"TDIS6: PERLEN of the transient period {number} isn't above 0"))
+        simulation.folder.add(line.fault(f"PERLEN of the transient period {number} isn't above 0"))
     if mult != 1 and not (LEAST_MULTIPLIER <= mult <= 1000 and period.nstp <= 1000):
         text = "other than 1 it lies from 0.001 to 1000, with at most 1,000 steps"
-        simulation.folder.add(Problem(f"TDIS6: TSMULT of the transient period {number}: {text}"))
+        simulation.folder.add(line.fault(f"TSMULT of the transient period {number}: {text}"))

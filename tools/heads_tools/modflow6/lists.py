@@ -60,8 +60,9 @@ def read_list(simulation: Simulation, grid: Grid, kind: str, file: File) -> List
 
 def look_at_segments(file: File) -> None:
     """Evapotranspiration of one straight segment alone is read."""
-    if any(line.words[0].upper() == "NSEG" for line in file.lines("DIMENSIONS")) and file.dimension("NSEG") > 1:
-        raise file.fault("NSEG is above 1: `heads` reads one straight segment")
+    for line in file.lines("DIMENSIONS"):
+        if line.words[0].upper() == "NSEG" and file.dimension("NSEG") > 1:
+            raise line.fault("NSEG is above 1: `heads` reads one straight segment")
 
 
 def multiplier_at(options: dict[str, Line], kind: str) -> int | None:

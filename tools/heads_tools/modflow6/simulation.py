@@ -3,7 +3,7 @@ from __future__ import annotations
 
 from dataclasses import dataclass, field
 
-from ..common.text import Problem
+from ..common.text import Problem, counted
 from ..deck.deck import Period
 from .blocks import File, Folder, Line
 from .numbers import number_word, value_of
@@ -39,12 +39,13 @@ REFUSED = {
 
 @dataclass
 class Simulation:
-    """What the files of the simulation say: the files of packages by type, in their order, and the stress periods,
-    whose steady ones STO says."""
+    """What the files of the simulation say: the files of packages by type, in their order, and the stress periods with
+    their lines of TDIS; which of them are steady STO says."""
 
     folder: Folder
     packages: dict[str, list[Line]] = field(default_factory=dict)
     periods: list[Period] = field(default_factory=list)
+    period_lines: list[Line] = field(default_factory=list)
     itmuni: int = 0
 
     def file(self, line: Line, taken: tuple[str, ...]) -> File:
@@ -54,8 +55,10 @@ class Simulation:
 
 def read_simulation_file(folder: Folder, name: str) -> Simulation:
     """mfsim.nam with TDIS and the name file of its one model."""
-    file = File(folder, name, ("OPTIONS", "TIMING", "MODELS", "EXCHANGES", "SOLUTIONGROUP"))
+    file = File(folder, name, ("OPTIONS", "TIMING", "MODELS", "EXCHANGES", "SOLUTIONGROUP", "PACKAGES"))
     out = Simulation(folder)
+    if packages := file.begin("PACKAGES"):
+        raise packages.fault("this is the name file of a model: give that of the simulation, mfsim.nam")
     if file.block("TIMING") is None or file.block("MODELS") is None:
         raise file.fault("it has no blocks TIMING and MODELS: give the simulation's name file, mfsim.nam")
     options_of(file)
@@ -86,7 +89,9 @@ def read_tdis(simulation: Simulation, at: Line) -> None:
         simulation.itmuni = unit_of(simulation.folder, unit, TIME_UNITS)
     count, lines = file.dimension("NPER"), file.lines("PERIODDATA")
     if len(lines) != count:
-        raise file.fault(f"NPER is {count}, and PERIODDATA has {len(lines)} lines")
+        text = f"NPER is {count}, and PERIODDATA has {counted(len(lines), 'line')}"
+        raise (file.begin("PERIODDATA") or file).fault(text)
+    simulation.period_lines = lines
     for line in lines:
         try:
             perlen, tsmult = (number_word(line.word(at, name)) for at, name in ((0, "PERLEN"), (2, "TSMULT")))

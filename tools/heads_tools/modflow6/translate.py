@@ -4,7 +4,6 @@ from __future__ import annotations
 from pathlib import Path
 
 from ..common.limits import PLAIN, WIDE
-from ..common.text import Problem
 from ..deck.deck import KINDS, Areal, Deck, Entry
 from ..deck.sources import Array, Report
 from .areal import LAYERS, Columns, read_areal
@@ -112,8 +111,8 @@ def fill_list(deck: Deck, grid: Grid, kind: str, lists: Lists) -> None:
     """A list package. A constant head of a period is that of its begin and its end."""
     most = max((len(rows) for rows in lists if rows is not None), default=0)
     named(deck, kind, f"{most} 0")
-    if most > WIDE.entries:
-        grid.folder.add(Problem(f"{kind}6: more than {WIDE.entries:,} entries"))
+    if over := next((rows for rows in lists if rows and len(rows) > WIDE.entries), None):
+        grid.folder.add(over[WIDE.entries].line.fault(f"more than {WIDE.entries:,} entries in a period"))
     if most > PLAIN.entries:
         text = f"without --wide `heads` takes at most {PLAIN.entries:,} entries"
         grid.folder.report.add("wide", deck.files[kind], 0, text)

@@ -10,7 +10,6 @@ from __future__ import annotations
 import math
 import os
 import sys
-import tempfile
 from dataclasses import dataclass
 from pathlib import Path
 
@@ -18,7 +17,7 @@ import numpy as np
 import scipy.sparse
 
 from ..common.kept_files import demand_free
-from ..common.limits import WIDE, is_large, limits_of, wide_words
+from ..common.limits import WIDE, is_large, limits_of
 from ..common.text import Problem, decimal_text, sha256
 from ..common.whole_files import whole_file
 from ..deck.model import Model, read_model
@@ -29,8 +28,7 @@ from ..listing.headfile import ANY_STEP, Heads, read_heads
 from ..listing.listing import Listing, Step as Listed, read_listing
 from ..listing.zones import read_zones
 from ..program.explain import explain
-from ..program.program import call
-from ..program.verdict import demand_same, readable
+from ..program.verdict import check_listing
 from .equations import TERMS, Given, Network, Step, given_heads
 from .solvers import solved
 from .whole import Pair, constant_head, pair_of, pair_of_heads
@@ -77,8 +75,7 @@ def certify(
         listing = Bounds(model, digits, margin, parted).listing(given, tried)
         write_listing(listing, model)
         listing.sha256 = sha256(tried)
-        checked = check(nam, tried, digits, zones, has_wide)
-        demand_same(listing)
+        checked = check(nam, listing, zones, has_wide)
         if checked.status != 8:
             break
         print(f"margins of {margin} roundings don't hold: {checked.first}", file=sys.stderr)
@@ -87,7 +84,7 @@ def certify(
     os.replace(tried, out)
     listing.path = out
     lines = [
-        f"{checked.first} {out} (margins of {margin} roundings; the check took {checked.seconds:.2f} s)",
+        f"{checked.first} {out} (margins of {margin} roundings)",
         *checked.lines[1:],
         listing.summary(),
     ]
@@ -112,23 +109,21 @@ def widest_of(path: Path, model: Model) -> str:
 
 @dataclass
 class Check:
-    """What a check said: its status, its first words, lines for people, seconds by the clock."""
+    """What a check said: its status, its first words, lines for people."""
 
     status: int
     first: str
     lines: list[str]
-    seconds: float
 
 
-def check(nam: Path, tried: Path, digits: int, zones: Path | None = None, has_wide: bool = False) -> Check:
+def check(nam: Path, listing: Listing, zones: Path | None, has_wide: bool) -> Check:
     """The program's check of a listing."""
-    with tempfile.TemporaryDirectory(prefix="heads_") as folder:
-        words = ["--zones", str(readable(zones, Path(folder) / "zones"))] if zones else []
-        words += wide_words(has_wide)
-        ended = call(["check", nam.name, str(tried), "--digits", str(digits), *words], nam.parent)
-    meaning = explain(ended.last, nam.parent, digits)
-    status = ended.status or (0 if meaning.is_good else meaning.status or 6)
-    return Check(status, "CERTIFIED:" if status == 0 else ended.last, meaning.lines, ended.seconds)
+    verdict = check_listing(nam, listing, zones, has_wide=has_wide)
+    if verdict.status is None:
+        raise Problem(verdict.last)
+    meaning = explain(verdict.last, nam.parent, listing.digits)
+    status = verdict.status or (0 if meaning.is_good else meaning.status or 6)
+    return Check(status, "CERTIFIED:" if status == 0 else verdict.last, meaning.lines)
 
 
 @dataclass

@@ -3,7 +3,6 @@
 from __future__ import annotations
 
 import numpy as np
-import scipy.sparse
 
 from ..deck.deck import Entry
 from ..deck.model import Model, growth, value
@@ -91,7 +90,10 @@ class Step:
         a, b, c = network.a, network.b, network.c
         both = (place[a] >= 0) & (place[b] >= 0)
         i, j, g = place[a[both]], place[b[both]], c[both]
-        self.links = scipy.sparse.csr_matrix(
+        # A command that makes no step, or prints its help, doesn't load it.
+        from scipy.sparse import csr_matrix
+
+        self.links = csr_matrix(
             (np.concatenate([g, g]), (np.concatenate([i, j]), np.concatenate([j, i]))), shape=(self.n, self.n)
         )
         self.link_sum = np.asarray(self.links.sum(axis=1)).ravel()

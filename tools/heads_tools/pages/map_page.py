@@ -14,7 +14,7 @@ from ..deck.model import Model
 from ..listing.below_top import units_at
 from ..listing.listing import Listing, Step
 from ..planning.drawdown import Drawdown
-from ..planning.drawdown_weather import Weathered
+from ..planning.drawdown_weather import Effect, Weathered
 from .looking import Looking, plan_for
 from .map_data import CHANGE, FALL, HEAD, Difference, Field, Scene, bottoms_of
 from .one_page import one_script, policy
@@ -146,18 +146,22 @@ def write_drawdown_map(it: Drawdown, folder: Path, page: Page) -> str:
 
 
 def write_weather_map(it: Weathered, folder: Path, page: Page) -> str:
-    """The same of what a plan does whatever the weather: its drawdown alone."""
-    effects = steps_of(it.effects, len(it.listing.cells), 1)
+    """The same of what a plan does whatever the weather: its drawdown, beside the heads with the plan and without it
+    where these are listed."""
+    effects = steps_of(it.effects, len(it.listing.cells), 1 + len(it.heads))
     if not effects:
         return ""
     low, high = (np.array([getattr(effect, side) for effect in effects]) for side in ("low", "high"))
-    fields: list[Field | Difference] = [Field("drawdown", FALL, low, high)]
+    heads = [heads_of(name, same(each, effects)) for name, each in zip(("head without the plan", "head"), it.heads)]
+    fields: list[Field | Difference] = [*heads[::-1], Field("drawdown", FALL, low, high)]
     about = left_out(len(it.effects), len(effects), False)
-    write(folder, page, scene_of(page, [it.listing], it.model, it.model.length, effects, fields), about, True)
-    return f"the bounds of the drawdown of the cell that you point at. {about}".strip()
+    listings = [it.listing] if it.is_listed else [it.listing, *it.heads]
+    write(folder, page, scene_of(page, listings, it.model, it.model.length, effects, fields), about, True)
+    both = " and those of both plans' heads" if heads else ""
+    return f"the bounds of the drawdown{both} of the cell that you point at. {about}".strip()
 
 
-def same(listing: Listing, steps: Sequence[Step]) -> list[Step]:
+def same(listing: Listing, steps: Sequence[Step] | Sequence[Effect]) -> list[Step]:
     """The steps of a listing that have the periods and numbers of others."""
     return [listing.step_at(s.period, s.step) for s in steps]
 

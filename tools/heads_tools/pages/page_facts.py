@@ -26,5 +26,6 @@ def facts_of(listing: Listing, unit: str, model: Model | None, name: str = "List
 def facts_of_making(seen: list[Verdict]) -> Facts:
     """The program that checked, by its hash, and when the page was made."""
     programs = dict.fromkeys(each.program for each in seen if each.program)
-    checked = [("Checked by", ", ".join(f"heads, sha256 {program}" for program in programs))] if programs else []
+    word = "Listed by" if any(each.is_run for each in seen) else "Checked by"
+    checked = [(word, ", ".join(f"heads, sha256 {program}" for program in programs))] if programs else []
     return [*checked, ("Made by", f"heads-tools {VERSION}, {time.strftime('%Y-%m-%d %H:%M UTC', time.gmtime())}")]

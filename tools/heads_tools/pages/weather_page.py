@@ -135,10 +135,9 @@ def commands(it: Weathered) -> list[str]:
     if it.is_listed:
         to = " --to base_high.nam" * (it.high is not it.base)
         wide = " --wide" * it.asked.has_wide
-        return [
-            f"heads run {BASE}.nam --plan {ADDED}{to} {words}".rstrip() + f" > {DRAWDOWN_LISTING}",
-            f"heads check {BASE}.nam {DRAWDOWN_LISTING} --plan {ADDED}{to}{wide}",
-        ]
+        checked = f"heads check {BASE}.nam {DRAWDOWN_LISTING} --plan {ADDED}{to}{wide}"
+        made = f"heads run {BASE}.nam --plan {ADDED}{to} {words}".rstrip() + f" > {DRAWDOWN_LISTING}"
+        return [made, checked] if it.is_certified else [made]
     ends = {BASE: "base_high", PLAN: "plan_high"} if it.high is not it.base else {BASE: "", PLAN: ""}
     out = []
     for stem, end in ({} if it.asked.is_any else ends).items():
@@ -170,11 +169,18 @@ def facts_of_listings(it: Weathered) -> Facts:
     return [*facts_of(it.listing, unit(it), it.model, "Difference"), *both]
 
 
+def goodness(it: Weathered) -> bool | None:
+    """Whether the verdict is good; None where nothing was checked, or a step isn't proved."""
+    if it.holds:
+        return True if it.is_listed else None
+    return None if all(seen.status is None for seen in it.verdicts) else False
+
+
 def draw(it: Weathered, folder: Path, files: list[str], at_well: list[str], again: list[str]) -> None:
     """The page. `again`: how the listings are made once more."""
     page = Page(f"{it.asked.base.name}: what {it.plan.name} does, {it.weather}", files=files)
     page.verdict = verdict_of(it)
-    page.is_good = False if not it.is_certified else True if it.is_listed else None
+    page.is_good = goodness(it)
     page.facts = [*facts_of_listings(it), *facts_of_making(it.verdicts)]
     for text in sentences(it)[1:]:
         page.say(text)

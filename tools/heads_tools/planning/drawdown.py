@@ -263,5 +263,5 @@ def said_of(seen: Verdict) -> str:
 def tops_lines(named: list[tuple[Verdict, BelowTop]]) -> list[str]:
     """What the heads of some listings say of the tops of their cells, each sentence with the listing's name, and once
     what it means."""
-    lines = [f"{seen.name}: {line}" for seen, tops in named for line in tops.lines(seen.is_certified)]
+    lines = [f"{seen.name}: {line}" for seen, tops in named for line in tops.lines(seen.holds)]
     return [*lines, THINNER] if any(tops.count for _, tops in named) else lines

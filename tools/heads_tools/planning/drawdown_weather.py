@@ -23,8 +23,8 @@ from ..listing.plan_listing import PlanListing, read_plan_listing
 from ..listing.points import spot_at
 from ..listing.spans import second_deck
 from ..program.explain import explain
-from ..program.program import Ended, call, digits_of, run, takes_plans
-from ..program.verdict import Verdict, check_listing
+from ..program.program import Ended, call, checks_plans, digits_of, lists_plans, run
+from ..program.verdict import Verdict, check_listing, made_now
 from .difference_decks import (
     ADDED,
     DRAWDOWN_LISTING,
@@ -98,31 +98,44 @@ class Weathered:
     is_listed: bool = False
 
     @property
+    def holds(self) -> bool:
+        """Whether each listing was certified, or made by this program just now."""
+        return all(seen.holds for seen in self.verdicts)
+
+    @property
     def is_certified(self) -> bool:
         return all(seen.is_certified for seen in self.verdicts)
 
     @property
     def differing(self) -> list[str]:
         """What of the weather differs between the two decks."""
-        return [] if self.high is self.base else what_differs(self.base.deck, self.high.deck)
+        return differing(self.base, self.high)
 
     @property
     def weather(self) -> str:
         """For which weather it is said."""
-        if self.asked.is_any:
-            return "whatever the weather is"
-        if self.high is self.base:
-            return f"in the weather of {self.base.name}"
-        differing = self.differing
-        if not differing:
-            return f"in the weather of {self.base.name}, which is that of {self.high.name}"
-        named = " and ".join([", ".join(differing[:-1])] * (len(differing) > 1) + differing[-1:])
-        return f"whatever the {named} may be between those of {self.base.name} and {self.high.name}"
+        return "whatever the weather is" if self.asked.is_any else said_between(self.base, self.high)
 
     @property
     def is_chosen(self) -> bool:
         """Whether it is said of more than one weather."""
         return self.asked.is_any or bool(self.differing)
+
+
+def differing(base: Spelled, high: Spelled) -> list[str]:
+    """What of the weather differs between two decks."""
+    return [] if high is base else what_differs(base.deck, high.deck)
+
+
+def said_between(base: Spelled, high: Spelled) -> str:
+    """The weather between two decks, in words."""
+    if high is base:
+        return f"in the weather of {base.name}"
+    found = differing(base, high)
+    if not found:
+        return f"in the weather of {base.name}, which is that of {high.name}"
+    named = " and ".join([", ".join(found[:-1])] * (len(found) > 1) + found[-1:])
+    return f"whatever the {named} may be between those of {base.name} and {high.name}"
 
 
 def weathered(asked: Asked, folder: Path) -> Weathered:
@@ -148,7 +161,7 @@ def weathered(asked: Asked, folder: Path) -> Weathered:
 
 def is_by_program(is_any: bool) -> bool:
     """Whether the program lists what the plan does: not in any weather at all, of which it has no word."""
-    return not is_any and takes_plans()
+    return not is_any and lists_plans()
 
 
 def written_by(folder: Path, is_any: bool) -> Listing:
@@ -160,6 +173,14 @@ def written_by(folder: Path, is_any: bool) -> Listing:
 
 def decks_of(asked: Asked, folder: Path) -> tuple[Spelled, Spelled, Plan]:
     """The base deck, the other end of the weather and the plan, whose decks are written into a folder."""
+    base, high = weather_of(asked, folder)
+    plan = read_plan(asked.plan, base, folder, asked.has_wide)
+    write_plan_decks(folder, base, high, plan)
+    return base, high, plan
+
+
+def weather_of(asked: Asked, folder: Path) -> tuple[Spelled, Spelled]:
+    """The base deck and the other end of the weather, which are written into a folder."""
     base = spelled(asked.base, folder, BASE, asked.has_wide)
     find_cells(asked, base)
     high = base
@@ -167,18 +188,19 @@ def decks_of(asked: Asked, folder: Path) -> tuple[Spelled, Spelled, Plan]:
         high = spelled(asked.base.with_name(to[1]), folder, HIGH, asked.has_wide)
         demand_weather(base, high)
         demand_alike(folder, asked)
-    plan = read_plan(asked.plan, base, folder, asked.has_wide)
-    write_plan_decks(folder, base, high, plan)
-    return base, high, plan
+    return base, high
 
 
-def plan_listed(folder: Path, is_span: bool, asked: Asked) -> tuple[PlanListing, Verdict]:
-    """The program's own listing of what the plan does, and what `heads check` says of it."""
+def plan_listed(folder: Path, is_span: bool, asked: Asked, is_told: bool = True) -> tuple[PlanListing, Verdict]:
+    """The program's own listing of what the plan does, and what `heads check` says of it; where it takes no such
+    listing, that this run made it. `is_told`: progress on standard error."""
     nam, to = folder / f"{BASE}.nam", ["--to", f"{HIGH}.nam"] if is_span else []
     options = ["--plan", ADDED, *to, *asked.words()]
-    ended = run(nam, options, folder / DRAWDOWN_LISTING)
+    ended = run(nam, options, folder / DRAWDOWN_LISTING, is_told=is_told)
     demand_listing(ended, folder, options, "There are no bounds of what the plan does.")
     listing = ended.plan_listing()
+    if not checks_plans():
+        return listing, made_now(nam, listing.drawdown)
     return listing, check_listing(nam, listing.drawdown, None, to, asked.has_wide, folder / ADDED)
 
 

@@ -11,7 +11,7 @@ from fractions import Fraction
 from pathlib import Path
 
 from ..common.text import Problem, counted, decimal_text
-from ..common.whole_files import whole_file
+from ..common.whole_files import copy_whole, whole_file
 from ..deck.model import read_model
 from ..deck.places import Place
 from ..deck.templates import Template, files_of_deck, read_samples
@@ -55,11 +55,10 @@ def write_samples(asked: Asked, folder: Path) -> list[str]:
     samples = read_samples(asked.values, names)
     for name, values in samples.items():
         for each in files:
-            (folder / name / each).parent.mkdir(parents=True, exist_ok=True)
-            shutil.copyfile(asked.nam.parent / each, folder / name / each)
+            copy_whole(asked.nam.parent / each, folder / name / each)
         for template in templates:
-            text = template.filled(values)
-            (folder / name / template.target).write_text(text, encoding="latin-1", newline="\n")
+            with whole_file(folder / name / template.target, binary=True, is_own=True) as file:
+                file.write(template.filled(values).encode("latin-1"))
     with whole_file(folder / LIST, is_own=True) as file:
         file.writelines(f"{name}/{asked.nam.name}\n" for name in samples)
     return list(samples)

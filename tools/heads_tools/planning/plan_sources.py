@@ -40,19 +40,27 @@ def sources_of(
         low, high = inward.get(name, (0, 0))
         out.sums[name] = -high * scale, -low * scale
     for name in TERMS.values():
-        out.sums[name] = 0, 0
+        out.sums[name] = sums_of([each for each in branches if each.term == name], drawdown, at)
+    out.terms = {name: narrowed(name, out.sums, out.takes) for name in out.sums}
+    return out
+
+
+def sums_of(branches: list[Branch], drawdown: tuple[np.ndarray, np.ndarray], at: np.ndarray) -> Pair:
+    """The sum of the least flows of some branches, and that of the greatest."""
+    least = most = 0
     for each in branches:
         place = at[each.cell[0] - 1, each.cell[1] - 1, each.cell[2] - 1]
         low, high = int(drawdown[0][place]), int(drawdown[1][place])
-        least = (each.low if low >= 0 else each.high) * low
-        most = (each.high if high >= 0 else each.low) * high
-        sums = out.sums[each.term]
-        out.sums[each.term] = sums[0] + least, sums[1] + most
-    lows, highs = (sum(pair[n] for pair in out.sums.values()) for n in (0, 1))
-    for name, (low, high) in out.sums.items():
-        others = lows - low, highs - high
-        out.terms[name] = max(low, out.takes[0] - others[1]), min(high, out.takes[1] - others[0])
-    return out
+        least += (each.low if low >= 0 else each.high) * low
+        most += (each.high if high >= 0 else each.low) * high
+    return least, most
+
+
+def narrowed(name: str, sums: dict[str, Pair], total: Pair) -> Pair:
+    """The sum of that name, narrowed to what the others leave of the total of all."""
+    low, high = sums[name]
+    others = [sum(pair[n] for pair in sums.values()) - own for n, own in ((0, low), (1, high))]
+    return max(low, total[0] - others[1]), min(high, total[1] - others[0])
 
 
 def listed_sources(terms: dict[str, Pair], places: int, plan: Plan, base: Spelled, period: int) -> Sources:

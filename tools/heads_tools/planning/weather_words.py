@@ -9,6 +9,7 @@ from ..common.text import counted, decimal_text, down, one_of, up, with_unit
 from ..common.whole_files import whole_file
 from ..listing.below_top import BelowTop
 from ..listing.cell_lines import write_cells
+from ..program.verdict import NO_PLANS
 from .drawdown import place_of, told, tops_lines
 from .drawdown_weather import Cell, Effect, Weathered
 from .plan_sources import FLOW_PLACES, Pair
@@ -67,7 +68,11 @@ def verdict_of(it: Weathered) -> str:
     names = ", ".join(seen.name for seen in it.verdicts)
     if it.is_certified:
         return f"heads check: CERTIFIED ({names}). {LISTED if it.is_listed else NOT_PROVED}."
+    if it.holds:
+        return f"heads run: {it.verdicts[0].last} ({names}). {LISTED}. Not checked: {NO_PLANS}."
     wrong = [f"{seen.name} ({seen.last})" for seen in it.verdicts if not seen.is_certified]
+    if all(seen.status is None for seen in it.verdicts):
+        return f"Not checked: {', '.join(wrong)}. These are bounds of the drawdown only if this is a run's listing."
     return f"NOT CERTIFIED: {', '.join(wrong)}. These are no bounds of the drawdown."
 
 
@@ -174,7 +179,7 @@ def write_tables(it: Weathered, folder: Path) -> list[str]:
 
 def may_be_said(it: Weathered) -> list[str]:
     """The sentence for a permit, and what may not be said."""
-    if not it.is_certified:
+    if not it.holds:
         return ["Nothing may be said of the drawdown: a listing isn't certified."]
     may, may_not = permit(it)
     return [f"May be said: '{may}'", f"May not be said: {may_not}"]
@@ -188,11 +193,12 @@ def permit(it: Weathered) -> tuple[str, str]:
     most, greatest = most_of(it)
     more = f" {ANY}." if it.asked.is_any else ""
     argued = "; that they bound the plan's effect is argued and tested, and isn't proved by machine"
+    made = "certified by `heads check`" if it.is_certified else "those of a run of `heads` that ended with END"
     wrong = " 'this is proved'," * (not it.is_listed)
     return (
         f"In the equations of {it.base.name}, {said}, and no head by more than"
-        f" {up(most.high[greatest], 9, SHOWN)} {unit(it)} at the end of any step. The numbers are certified by `heads"
-        f" check`{argued * (not it.is_listed)}.{more}",
+        f" {up(most.high[greatest], 9, SHOWN)} {unit(it)} at the end of any step. The numbers are"
+        f" {made}{argued * (not it.is_listed)}.{more}",
         f"'The well will lower the groundwater by {up(effect.high[at], 9, SHOWN)} {unit(it)}',{wrong}"
         " 'the uncertainty of the drawdown'. The conductivities, the storage and the grid are taken as they stand in"
         " the deck, and nothing is said of the aquifer itself, nor of weather outside what is named.",

@@ -3,7 +3,7 @@
 REFUSALS = {
     1: "There is no file {file}.",
     2: "{file} has more than 67,108,864 bytes, or with --wide more than 1,073,741,824.",
-    3: "A file name has 1 to 255 printable characters without blanks.",
+    3: "A file name has 1 to 255 printable ASCII characters without blanks.",
     4: "A line of the name file is `TYPE UNIT FILE`; this one lacks a word, or its unit is no whole number.",
     5: "This package stands in the name file twice. MODFLOW reads one of each.",
     6: "This package isn't read.",

@@ -216,8 +216,10 @@ SHELL_JOB = """cd "$(dirname "$NAM")" || exit 6
 OUT=$(basename "${{NAM%.*}}").heads
 {program} run "$(basename "$NAM")" {options} >".$OUT.new"
 status=$?
-# A listing with a step stays where the new output has none.
-if [ -s "$OUT" ] && grep -q -m 1 "^STEP " "$OUT" && ! grep -q -m 1 "^STEP " ".$OUT.new"; then
+# A listing with a step stays where the new output has none; an output that was cut never gets the listing's name.
+has_step() {{ [ -s "$1" ] && grep -q -m 1 "^STEP " "$1"; }}
+if ! tail -n 1 ".$OUT.new" | grep -Eq "^(END$|REFUSED |NOBOUND |UNFINISHED |READFAULT|MEMORY|USAGE:)" ||
+    {{ has_step "$OUT" && ! has_step ".$OUT.new"; }}; then
     mv ".$OUT.new" "$OUT.end"
 else
     mv ".$OUT.new" "$OUT" && rm -f "$OUT.end" "$OUT.run"

@@ -21,8 +21,8 @@ STATUSES = {
         (
             "Commands: run NAME, check NAME LISTING, make SEED SIZE, batch LIST; --digits 0 to 18, --workers 1 to 64,"
             " --rounds 1 to 4000000000, --zones FILE, --watch 1 to 1000, --to NAME, --quick (run and batch, without"
-            " --watch), --wide (run, check, batch, write). A program older than --zones, --watch, --to, --quick, --wide"
-            " or batch answers them so too."
+            " --watch), --wide (run, check, batch, write), --plan WELLS (run and check, without --watch and --deck). A"
+            " program older than --zones, --watch, --to, --quick, --wide, --plan or batch answers them so too."
         ),
     ),
     "UNFINISHED": (
@@ -43,6 +43,8 @@ STATUSES = {
         "Its margin there is too small, or its model has changed. `heads-tools certify` makes margins that hold.",
     ),
 }
+# How the last line of a plan's listing names the pair that it is about.
+PLAN_PARTS = {"PLAN": ", with the plan's wells", "DRAWDOWN": ", of what the plan does"}
 
 
 @dataclass
@@ -111,6 +113,9 @@ def explain(
         status, text, remedy = STATUSES[w[0]]
         parts = w[1:4] + [" ".join(w[4:])] if w[0] == "NOT" else w[1:] + ["?", "?"]
         wrong = [f"     {fault}." for fault in option_faults(options or [])] if w[0] == "USAGE:" else []
+        text = text.replace("{1} needs", "{1}" + PLAN_PARTS.get(w[-1], "") + " needs")
+        if w[0] == "NOT" and w[4:5] and w[4] in ("BASE", "PLAN", "DRAWDOWN", "SOURCE"):
+            remedy = "The deck, the wells or the listing has changed since the run: run it again with these wells."
         return Meaning(status, False, [text.format(*parts), *wrong, f"  -> {remedy}"])
     return Meaning(
         6,
@@ -123,7 +128,9 @@ def explain(
 
 
 def no_bound(code: int, word: str, period: str, step: str, place: list[str], digits: int, has_steps: bool) -> list[str]:
-    at = " ".join(place) + (" (layer row column)" if place and place[0].isdigit() else "")
+    of = PLAN_PARTS.get(place[-1], "") if place else ""
+    place = place[:-1] if of else place
+    at = " ".join(place) + (" (layer row column)" if place and place[0].isdigit() else "") + of
     out = [f"{word} in period {period}, step {step}, at {at}: {NO_BOUNDS[code].format(digits=digits)}"]
     if has_steps:
         out.append(
@@ -158,7 +165,8 @@ def refusal(code: int, word: str, file: str, line: str, cell: list[str], folder:
     at = (f", line {spot.line}" if spot.line else "") + (
         ", cell {} (layer row column)".format(" ".join(cell)) if cell else ""
     )
-    out = [f"{word} in {file}{at}: {REFUSALS[code].format(file=file)}"]
+    where = "the command's words" if file == "-" else file
+    out = [f"{word} in {where}{at}: {REFUSALS[code].format(file=file)}"]
     if spot.text.strip():
         out.append(f"     {spot.text.strip()[:110]}")
     spot.due = due_of(folder, file) if code in (8, 9, 13) else ""

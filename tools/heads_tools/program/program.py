@@ -23,6 +23,7 @@ from ..common.whole_files import draft_of
 from ..listing.listing import Listing, read_listing
 from ..listing.made_by import drop_words, is_quick, keep_words
 from ..listing.plan_listing import PlanListing, read_plan_listing
+from ..listing.spans import plan_file
 from .follow import Progress
 
 IS_WINDOWS = sys.platform == "win32"
@@ -30,6 +31,9 @@ NAME = "heads.exe" if IS_WINDOWS else "heads"
 TOP = Path(__file__).resolve().parents[3]
 BIN = Path(__file__).resolve().parents[1] / "bin"
 DEFAULT_DIGITS = 12
+# How the last line of an output begins that isn't END, and more bytes than one has.
+LAST = (b"REFUSED ", b"NOBOUND ", b"UNFINISHED ", b"READFAULT", b"MEMORY", b"USAGE:")
+MOST_LAST = 4000
 
 
 def beside(name: str) -> Path | None:
@@ -224,15 +228,24 @@ def has_steps(path: Path) -> bool:
         return file.readline().startswith((b"HEADS ", b"DRAWDOWN ")) and file.readline().startswith(b"STEP ")
 
 
+def is_ended(path: Path) -> bool:
+    """Whether an output has a last line of `heads`: not where the program was killed, or a write failed."""
+    with open(path, "rb") as file:
+        file.seek(max(0, path.stat().st_size - MOST_LAST))
+        *_, last = file.read().removesuffix(b"\n").split(b"\n")
+    return last == b"END" or last.startswith(LAST)
+
+
 def end_of(target: Path) -> Path:
-    """The file beside a listing for an output without a step, where the listing of an earlier run is kept."""
+    """The file beside a listing for an output that was cut, or that has no step where an earlier listing has one."""
     return target.with_name(target.name + ".end")
 
 
 def settle_output(new: Path, target: Path) -> Path:
-    """Gives a new output the listing's name; but a listing with a step stays where the new output has none, which then
-    has the name with `.end`. The file that holds the output."""
-    place = end_of(target) if has_steps(target) and not has_steps(new) else target
+    """Gives a new output the listing's name; but it has the name with `.end` where it was cut, and where it has no step
+    and the listing of an earlier run has one, which stays. The file that holds the output."""
+    is_listing = is_ended(new) and (has_steps(new) or not has_steps(target))
+    place = target if is_listing else end_of(target)
     os.replace(new, place)
     if place == target:
         end_of(target).unlink(missing_ok=True)
@@ -255,7 +268,7 @@ def run(
     progress = Progress(nam.name, steps, is_quick(options))
     began = time.monotonic()
     is_watched = any(o.startswith("--watch") for o in options)
-    is_followed = is_followed and is_told and not is_watched and not is_quick(options)
+    is_followed = is_followed and is_told and not (is_watched or is_quick(options) or plan_file(options))
     words = [str(direct_program()), "run", nam.name, *options, *(["--watch", "1"] if is_followed else [])]
     unwatched: ContextManager[IO[bytes] | None] = nullcontext()
     with draft_of(target) as new, open(new, "wb") as file, watch_file(target) if is_watched else unwatched as side:
@@ -313,9 +326,14 @@ def takes_wide() -> bool:
     return takes(["run", "a.nam", WIDE_WORD])
 
 
-def takes_plans() -> bool:
-    """Whether the program lists what a plan does, and checks such a listing."""
-    return takes(["run", "a.nam", "--plan", "a.wel"]) and takes(["check", "a.nam", "a.txt", "--plan", "a.wel"])
+def lists_plans() -> bool:
+    """Whether the program lists what a plan does."""
+    return takes(["run", "a.nam", "--plan", "a.wel"])
+
+
+def checks_plans() -> bool:
+    """Whether the program checks such a listing."""
+    return takes(["check", "a.nam", "a.txt", "--plan", "a.wel"])
 
 
 def with_wide(ended: Ended, options: list[str], folder: Path) -> list[str] | None:

@@ -19,7 +19,7 @@ def advice(code: int, spot: Spot, folder: Path) -> str:
     """What to change for a refusal."""
     special = {
         1: lambda s, f: missing(s.file, f),
-        3: lambda s, f: "Rename the file, without blanks (`heads-tools plain` does).",
+        3: lambda s, f: "Rename the file, without blanks and accents (`heads-tools plain` does).",
         6: package,
         9: bad_number,
         10: many_digits,

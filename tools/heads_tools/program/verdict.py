@@ -14,7 +14,7 @@ from ..common.text import Problem, read_raw, sha256
 from ..listing.listing import Listing, listing_bytes
 from ..listing.made_by import is_made_wide
 from ..listing.spans import ALL_BETWEEN, demand_decks
-from .program import call, direct_program, program_file
+from .program import call, checks_plans, direct_program, program_file
 
 CERTIFIED = "CERTIFIED"
 ALL_EXACT = "Every exact solution of the model's equations lies between the listed numbers."
@@ -25,6 +25,7 @@ ALL_PLANS = (
 )
 NO_MODEL = "no model was named by --name"
 NO_CHECK = "no check was asked for"
+NO_PLANS = "this program's `heads check` takes no listing of what a plan does"
 UNCHECKED_ZONES = "The flows between zones weren't checked: no zone file was named (--zones)."
 MOST_NAME = 255
 
@@ -35,7 +36,8 @@ class Verdict:
     `name`: the listing's file; `has_zones`: whether the listing has lines ZONE; `is_zoned`: whether the check was given
     their zone file, without which they aren't checked; `is_span`: the listing is that of two decks; `is_change`: the
     verdict is that on two listings, whose heads were subtracted; `sha256`: that of the listing; `model`: the name file;
-    `program`: the sha256 of the program that checked; `is_plan`: the listing is one of what a plan does."""
+    `program`: the sha256 of the program that checked, or ran; `is_plan`: the listing is one of what a plan does;
+    `is_run`: status and last line are those of the run that has just made the listing, which wasn't checked."""
 
     status: int | None
     last: str
@@ -48,6 +50,7 @@ class Verdict:
     model: str = ""
     program: str = ""
     is_plan: bool = False
+    is_run: bool = False
 
     def __repr__(self) -> str:
         return f"<{self.name}: {'not checked' if self.status is None else self.last}>"
@@ -55,6 +58,11 @@ class Verdict:
     @property
     def is_certified(self) -> bool:
         return self.status == 0 and self.last == CERTIFIED
+
+    @property
+    def holds(self) -> bool:
+        """Whether the program says of these bytes that their numbers are bounds: it certified them, or made them."""
+        return self.is_certified or (self.is_run and self.status == 0)
 
     @property
     def title(self) -> str:
@@ -71,6 +79,8 @@ class Verdict:
             what = ALL_CHANGES if self.is_change else ALL_BETWEEN if self.is_span else ALL_EXACT
             what = ALL_PLANS if self.is_plan else what
             return f"heads check: CERTIFIED{', both listings' if self.is_change else ''}. {what}{rest}"
+        if self.is_run and self.holds:
+            return f"heads run: {self.last}. {ALL_PLANS} Not checked: {NO_PLANS}."
         if self.status is None:
             return f"Not checked ({self.last}): these numbers are bounds only if `heads check` certifies them."
         of = "the decks between these two" if self.is_span else "these models" if self.is_change else "this model"
@@ -138,6 +148,8 @@ def check_listing(
     listing. The file has to have the bytes that were read: else there is nothing to check."""
     demand_decks(listing, to or [])
     told = listing.path.name, has_zones(listing), zones is not None, listing.is_span, False, listing.sha256, nam.name
+    if plan and not checks_plans():
+        return Verdict(None, NO_PLANS, *told, is_plan=True)
     with tempfile.TemporaryDirectory(prefix="heads_") as folder:
         path = readable(listing.path, Path(folder) / "listing.heads", told[1] and not told[2])
         words, names = ["check", nam.name, str(path), "--digits", str(listing.digits)], {path: told[0]}
@@ -156,6 +168,12 @@ def check_listing(
     for file, name in names.items():
         last = last.replace(str(file), name)
     return Verdict(ended.status, last, *told, program, plan is not None)
+
+
+def made_now(nam: Path, listing: Listing) -> Verdict:
+    """The verdict on a plan's listing that the program has just made, where it can't check it."""
+    told = listing.path.name, has_zones(listing), True, listing.is_span, False, listing.sha256, nam.name
+    return Verdict(0, listing.end, *told, program_sha256(), is_plan=True, is_run=True)
 
 
 def status_of(nam: Path | None, verdict: Verdict) -> int:

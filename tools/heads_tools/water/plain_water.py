@@ -13,7 +13,7 @@ from ..common.text import Problem, counted, decimal_text
 from ..common.whole_files import whole_file, whole_folder
 from ..deck.deck import Deck
 from ..deck.sources import Array, Report
-from ..deck.writing import NOTES, write_deck
+from ..deck.writing import NOTES, write_deck, written_name
 from ..listing.headfile import read_heads
 from ..listing.listing import Listing
 from ..numbers.whole import pair_of_heads
@@ -54,20 +54,20 @@ def plain_water(nam: Path, folder: Path, dried: Path | None, as_confined: bool) 
         water, more = without_dry(water, dried)
         notes += more
     deck = confined(water.deck) if as_confined else water.deck
-    path = folder / deck.path.name
+    name = written_name(deck)
     with whole_folder(folder, is_own=(folder / NOTES).is_file()) as new:
         write_deck(deck, new)
         if as_confined:
-            notes += full_lines(water, new / deck.path.name, report)
+            notes += full_lines(water, new / name, report)
         is_read = not any(is_convertible(deck, k) for k in range(deck.nlay))
-        told = refused(new / deck.path.name, bool(report.wide)) if is_read else []
+        told = refused(new / name, bool(report.wide)) if is_read else []
         if not is_read:
             notes.append("its layers stay convertible: `heads-tools certify --convertible` takes it, `heads` doesn't")
         notes += [f"CAREFUL: {r}" for r in report.warnings] + [f"GIVE --wide: {r}" for r in report.wide]
         notes += ["REFUSED ALL THE SAME: " + "\n  ".join(told)] * bool(told)
         with whole_file(new / NOTES, is_own=True) as file:
             file.write("\n".join(notes) + "\n")
-    return WrittenWater(path, notes, told)
+    return WrittenWater(folder / name, notes, told)
 
 
 # Cells that the run dried.
