@@ -3,6 +3,7 @@ from .answers import Answer
 from .calls import (
     batch,
     between,
+    capture,
     certify,
     check,
     compare,
@@ -49,6 +50,7 @@ __all__ = [
     "Verdict",
     "batch",
     "between",
+    "capture",
     "certify",
     "changes_of",
     "check",

@@ -283,6 +283,26 @@ def zonebudget(
     return call("zonebudget", {"listing": listing, "zones": zones}, dict(name=name, out=out, wide=wide))
 
 
+def capture(
+    nam: PathLike,
+    folder: PathLike,
+    *,
+    rate: str | float,
+    to: PathLike | None = None,
+    cell: Cells = None,
+    layer: int | None = None,
+    every: int | None = None,
+    reaches: PathLike | None = None,
+    digits: int | None = None,
+    quick: bool = False,
+    wide: bool = False,
+    force: bool = False,
+) -> Answer:
+    """Which share of a well's water each term of the budget gives, for a well that takes `rate` at each of some cells."""
+    options = dict(rate=rate, to=to, cell=cells_of(cell), layer=layer, every=every, reaches=reaches, digits=digits)
+    return call("capture", {"nam": nam, "folder": folder}, options | dict(quick=quick, wide=wide, force=force))
+
+
 def template(nam: PathLike, folder: PathLike) -> Answer:
     """The deck with templates of its arrays in the form of PEST."""
     return call("template", {"nam": nam, "folder": folder}, {})

@@ -6,6 +6,7 @@ import pytest
 from conftest import heads
 from test_weather import valleys
 
+import heads_tools
 from heads_tools.listing.plan_listing import read_plan_listing
 from heads_tools.planning.capture import share
 
@@ -79,3 +80,9 @@ def test_wells_that_take_nothing_and_wrong_words_are_refused(words, said, exampl
 def test_a_share_is_rounded_outward():
     assert share((1, 2), (3, 3)) == (333333333, 666666667)
     assert share((-2, -1), (3, 3)) == (-666666667, -333333333)
+
+
+def test_the_command_is_a_call(example, tmp_path):
+    nam = example("drained_field")
+    answer = heads_tools.capture(nam, tmp_path / "out", rate=2, cell=(1, 11, 8))
+    assert answer.is_good and (tmp_path / "out" / "capture.csv").is_file()
