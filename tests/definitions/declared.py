@@ -89,7 +89,8 @@ class File:
                 self.modules[alias] = module
             for name in filter(None, map(str.strip, names.split(","))):
                 first, _, other = name.partition(" as ")
-                self.imports[(other or first).strip("◌ ")] = (module, first.strip("◌ "))
+                path, _, last = first.rpartition(".")
+                self.imports[(other or last).strip("◌ ")] = (f"{module}.{path}" if path else module, last.strip("◌ "))
         for item in self.items(tokens_of(source)):
             try:
                 self.declare(item)

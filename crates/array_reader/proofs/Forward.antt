@@ -1,12 +1,10 @@
 -- What arrays and control records take and leave are words and lines that they were given.
-use Rattle.array_reader.proofs.Common.{◌≡◌, ℕ, List, Result, Ok, Err, All, refl, WordsMay, words, NumFault, LineMay, LinesMay, line_at, Left, Numbered, Taking}
-use Rattle.array_reader.proofs.Common.{beginning, next_value, FreeFault, value_held, word_held, name_held, line_words, rest_has_its_lines, GivesOnly, number_at}
-use Rattle.array_reader.proofs.Common.{at_line, in_file, value_at, value_alone, free_list, free_rows, ControlMay, keyword, format_at, of_keyword, control_at}
-use Rattle.array_reader.proofs.Common.{zero_at, zero_step, zero_list, integer}
+use Rattle.array_reader.proofs.Common.{◌≡◌, ℕ, List, Result, Ok, Err, All, refl, WordsMay, words, NumFault, LineMay, LinesMay, line_at, Left, Numbered, Taking, beginning, next_value, FreeFault}
+use Rattle.array_reader.proofs.Common.{value_held, word_held, name_held, line_words, rest_has_its_lines, GivesOnly, number_at, at_line, in_file, value_at, value_alone, free_list, free_rows}
+use Rattle.array_reader.proofs.Common.{ControlMay, keyword, format_at, of_keyword, control_at, zero_at, zero_step, zero_list, integer}
 use Rattle.record_lines.proofs.Readings.{appended_held, counted_gives, ok_gives_only, goes_on, if_clear, err_gives_only, repeated_held, then_}
-use Rattle.array_reader.specs.Control.{Control}
-use Rattle.array_reader.specs.declared.keyword.Keyword.{Keyword}
-use Rattle.array_reader.specs.declared.keyword.Keyword.TheVariants.{Constant, Internal, OpenClose, External, Other}
+use Rattle.array_reader.specs.{Control.Control, declared.keyword.Keyword.Keyword, declared.keyword.Keyword.TheVariants.Constant, declared.keyword.Keyword.TheVariants.Internal}
+use Rattle.array_reader.specs.{declared.keyword.Keyword.TheVariants.OpenClose, declared.keyword.Keyword.TheVariants.External, declared.keyword.Keyword.TheVariants.Other}
 use Rattle.model_types.specs.{is_nonzero}
 
 module _ {X : Type 0} (P : Numbered → Type 0) (read : List ℕ → Result X NumFault) (file : List ℕ) where

@@ -1,16 +1,11 @@
 -- The functions of specs/Numbers are what words and products name.
-use Rattle.array_reader.proofs.Common.{◌≡◌, ℕ, zero, suc, ◌<◌, ◌≤◌, ◌+◌, ◌*◌, ◌/◌, ◌%◌, ◌^◌, ◌==◌, Bool, true, false, if◌then◌else◌, List, length, nat_le}
-use Rattle.array_reader.proofs.Common.{nat_lt, Option, Some, None, Result, Ok, Err, ap, ℤ, pos, negsuc, neg_ℤ, ◌+ℤ◌, ◌≤ℤ◌, ◌<ℤ◌, ◌↔◌, inl, inr, refl, sym, ◌∙◌}
-use Rattle.array_reader.proofs.Common.{arith, pow-suc, add-one, NumFault, significant, zeros, is_exponent, number_or_fault, canonical, spelt_number, number}
-use Rattle.array_reader.proofs.Common.{product, integer, or_bad, IsGoodName, is_good_name, IsRefusal, name_at, StopsText, TextFault, Refused, Memory}
+use Rattle.array_reader.proofs.Common.{◌≡◌, ℕ, zero, suc, ◌<◌, ◌≤◌, ◌+◌, ◌*◌, ◌/◌, ◌%◌, ◌^◌, ◌==◌, Bool, true, false, if◌then◌else◌, List, length, nat_le, nat_lt, Option, Some, None, Result, Ok, Err}
+use Rattle.array_reader.proofs.Common.{ap, ℤ, pos, negsuc, neg_ℤ, ◌+ℤ◌, ◌≤ℤ◌, ◌<ℤ◌, ◌↔◌, inl, inr, refl, sym, ◌∙◌, arith, pow-suc, add-one, NumFault, significant, zeros, is_exponent, number_or_fault}
+use Rattle.array_reader.proofs.Common.{canonical, spelt_number, number, product, integer, or_bad, IsGoodName, is_good_name, IsRefusal, name_at, StopsText, TextFault, Refused, Memory}
 use Rattle.outside.specs.declared.codes.Code.TheVariants.{BadName}
-use Rattle.std.proofs.lemmas.Int.{ints}
-use Rattle.std.proofs.lemmas.Bool.Decides.{nat_tests}
-use Rattle.decimal_input.specs.declared.dec.Dec.{Dec}
-use Rattle.decimal_input.specs.{Spelling, IsInteger, spelling_of, integer_of, IsTrimmed, IsTested, IsCanonical, Names, differ}
-use Rattle.decimal_input.proofs.Named.{IsNumber}
-use Rattle.decimal_input.proofs.Spelled.{names_read, long_names, reads_integer, integer_read}
-use Rattle.decimal_input.proofs.Unique.{names_one, canonical_one}
+use Rattle.std.proofs.{lemmas.Int.ints, lemmas.Bool.Decides.nat_tests}
+use Rattle.decimal_input.specs.{declared.dec.Dec.Dec, Spelling, IsInteger, spelling_of, integer_of, IsTrimmed, IsTested, IsCanonical, Names, differ}
+use Rattle.decimal_input.proofs.{Named.IsNumber, Spelled.names_read, Spelled.long_names, Spelled.reads_integer, Spelled.integer_read, Unique.names_one, Unique.canonical_one}
 use Rattle.outside.proofs.NameTests.{is_good, is_taken}
 
 tens : (n c : ℕ) → c % 10 ≡ 0 → IsTrimmed (c / 10) (significant n (c / 10)) (zeros n (c / 10)) → IsTrimmed c (significant n (c / 10)) (zeros n (c / 10) + 1)

@@ -1,6 +1,5 @@
 -- The value of a free list's last word, and of its repeats.
-use Rattle.array_reader.proofs.Common.{◌≡◌, ℕ, ◌-◌, List, Result, Ok, Err, refl, ap, NumFault, Left, ◌>>=◌, Taking, source, word_taken, next_value, FreeFault}
-use Rattle.array_reader.proofs.Common.{at_line, in_file, value_at, value_alone}
+use Rattle.array_reader.proofs.Common.{◌≡◌, ℕ, ◌-◌, List, Result, Ok, Err, refl, ap, NumFault, Left, ◌>>=◌, Taking, source, word_taken, next_value, FreeFault, at_line, in_file, value_at, value_alone}
 use Rattle.outside.specs.declared.inputs.Refusal.{Refusal}
 
 abbrev got : {X E : Type 0} → X → Result X E → X

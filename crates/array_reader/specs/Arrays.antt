@@ -1,13 +1,11 @@
 -- Arrays with their control records, and plain lists.
 use Rattle.std.specs.Prelude.{ℕ, ℤ, ◌*◌, List, Result, Ok, replicate, Err, Bool, if◌then◌else◌}
-use Rattle.decimal_input.specs.declared.dec.Dec.{Dec}
-use Rattle.outside.specs.{FileSet, file_at, words, refusal}
-use Rattle.outside.specs.declared.inputs.Refusal.{Refusal}
+use Rattle.decimal_input.specs.{declared.dec.Dec.Dec, declared.dec.NumFault.NumFault}
+use Rattle.outside.specs.{FileSet, file_at, words, refusal, declared.inputs.Refusal.Refusal, declared.codes.Code.TheVariants.EndOfFile}
+use Rattle.outside.specs.{declared.codes.Code.TheVariants.BadNumber, declared.codes.Code.TheVariants.OutOfProfile}
 use Rattle.record_lines.specs.{line_at, Left, left_from, ◌>>=◌, appended_readings, repeated_reading, each_number, Taking, beginning, next_value}
 use Rattle.array_reader.specs.Control.{Control, constant, internal, named, control_at, at_line}
 use Rattle.array_reader.specs.Numbers.{Kind, multiplied_value, real, whole, integer}
-use Rattle.decimal_input.specs.declared.dec.NumFault.{NumFault}
-use Rattle.outside.specs.declared.codes.Code.TheVariants.{EndOfFile, BadNumber, OutOfProfile}
 use Rattle.record_lines.specs.declared.free.FreeFault.{FreeFault}
 use Rattle.model_types.specs.{is_nonzero}
 use Rattle.record_lines.specs.declared.free.FreeFault.TheVariants as free

@@ -1,13 +1,11 @@
 -- The control record that precedes an array.
 use Rattle.std.specs.Prelude.{ℕ, Bool, true, List, Result, Ok, Err, if◌then◌else◌, codes, [], ◌∷◌}
 use Rattle.decimal_input.specs.declared.dec.NumFault.{NumFault}
-use Rattle.outside.specs.declared.codes.Code.TheVariants.{BadControl, OutOfProfile, BadNumber, TooManyDigits}
-use Rattle.outside.specs.declared.inputs.Refusal.{Refusal}
+use Rattle.outside.specs.{declared.codes.Code.TheVariants.BadControl, declared.codes.Code.TheVariants.OutOfProfile, declared.codes.Code.TheVariants.BadNumber}
+use Rattle.outside.specs.{declared.codes.Code.TheVariants.TooManyDigits, declared.inputs.Refusal.Refusal, refusal, folder_name, declared.codes.Code.Code}
 use Rattle.record_lines.specs.{word_at, name_at, is_word, ◌>>=◌}
-use Rattle.outside.specs.{refusal, folder_name}
 use Rattle.array_reader.specs.declared.keyword.Keyword.{Keyword}
 use Rattle.array_reader.specs.declared.keyword.Keyword.TheVariants.{Constant, Internal, OpenClose, External, Other}
-use Rattle.outside.specs.declared.codes.Code.{Code}
 use Rattle.decimal_input.specs.declared.dec.NumFault.TheVariants as faults
 
 -- Numbers in lines.

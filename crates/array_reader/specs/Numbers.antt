@@ -2,10 +2,8 @@
 -- that it fails.
 use Rattle.std.specs.Prelude.{ℕ, zero, suc, ◌+◌, ◌*◌, ◌/◌, ◌%◌, Bool, ◌==◌, nat_le, nat_lt, if◌then◌else◌, List, length, Option, Some, None, Result, Ok, Err, ℤ}
 use Rattle.std.specs.Prelude.{pos, negsuc, ◌+ℤ◌, ◌*ℤ◌, false, ◌≡◌, ◌↔◌}
-use Rattle.decimal_input.specs.declared.dec.Dec.{Dec}
-use Rattle.decimal_input.specs.declared.dec.NumFault.{NumFault}
-use Rattle.decimal_input.specs.declared.dec.NumFault.TheVariants.{BadNumber, TooManyDigits}
-use Rattle.decimal_input.specs.{Spelling, IsInteger, spelling_of, integer_of, differ, IsCanonical, Names}
+use Rattle.decimal_input.specs.{declared.dec.Dec.Dec, declared.dec.NumFault.NumFault, declared.dec.NumFault.TheVariants.BadNumber}
+use Rattle.decimal_input.specs.{declared.dec.NumFault.TheVariants.TooManyDigits, Spelling, IsInteger, spelling_of, integer_of, differ, IsCanonical, Names}
 use Rattle.record_lines.specs.{◌>>=◌}
 
 -- c without its trailing zeros, of which at most n are removed

@@ -1,14 +1,12 @@
 -- An array that is read has a value for each place.
-use Rattle.array_text.proofs.Common.{◌≡◌, ℕ, ◌*◌, ℤ, List, [], ◌∷◌, length, All, Result, Ok, Err, refl, arith, length-replicate, All-replicate, NumFault, IsDec}
-use Rattle.array_text.proofs.Common.{Left, left_from, Kind, real, whole, multiplied_value, free_rows, ArraysHaveForm, GivesOnly, FileSet, words, line_at}
-use Rattle.array_text.proofs.Common.{word_at, name_at, at_line, number_at, constant, internal, named, keyword, format_at, of_keyword, control_at, values_of}
-use Rattle.array_text.proofs.Common.{array_at, without_line, reals, layer_array, real_layer, integer_layer, layers, number, integer, value_at, value_alone}
-use Rattle.array_text.proofs.Common.{free_list, IsShort, ListsHaveForm, Taking, beginning, file_at, refusal, ok_gives_only, err_gives_only, goes_on, then_}
-use Rattle.array_text.proofs.Common.{gives_only_less, appended_are, repeated_are}
-use Rattle.array_reader.specs.Control.{Control}
+use Rattle.array_text.proofs.Common.{◌≡◌, ℕ, ◌*◌, ℤ, List, [], ◌∷◌, length, All, Result, Ok, Err, refl, arith, length-replicate, All-replicate, NumFault, IsDec, Left, left_from, Kind, real, whole}
+use Rattle.array_text.proofs.Common.{multiplied_value, free_rows, ArraysHaveForm, GivesOnly, FileSet, words, line_at, word_at, name_at, at_line, number_at, constant, internal, named, keyword}
+use Rattle.array_text.proofs.Common.{format_at, of_keyword, control_at, values_of, array_at, without_line, reals, layer_array, real_layer, integer_layer, layers, number, integer, value_at}
+use Rattle.array_text.proofs.Common.{value_alone, free_list, IsShort, ListsHaveForm, Taking, beginning, file_at, refusal, ok_gives_only, err_gives_only, goes_on, then_, gives_only_less, appended_are}
+use Rattle.array_text.proofs.Common.{repeated_are}
+use Rattle.array_reader.specs.{Control.Control, declared.keyword.Keyword.Keyword, declared.keyword.Keyword.TheVariants.Constant, declared.keyword.Keyword.TheVariants.Internal}
+use Rattle.array_reader.specs.{declared.keyword.Keyword.TheVariants.OpenClose, declared.keyword.Keyword.TheVariants.External, declared.keyword.Keyword.TheVariants.Other}
 use Rattle.outside.specs.declared.codes.Code.TheVariants.{BadControl}
-use Rattle.array_reader.specs.declared.keyword.Keyword.{Keyword}
-use Rattle.array_reader.specs.declared.keyword.Keyword.TheVariants.{Constant, Internal, OpenClose, External, Other}
 use Rattle.array_text.proofs.NumberForms.{number_is, multiplied_is, integer_is}
 use Rattle.array_reader.proofs.StepLemmas.{value_word}
 

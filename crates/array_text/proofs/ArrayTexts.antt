@@ -1,16 +1,13 @@
 -- Arrays of numbers and of integers are read as written.
-use Rattle.array_text.proofs.Common.{◌≡◌, ◌^◌, ◌<◌, true, List, length, All, Ok, refl, arith, ℤ, pos, negsuc, ◌*ℤ◌, unsigned_abs, ints, All-weaker, nat_tests}
-use Rattle.array_text.proofs.Common.{Dec, IsDec, number, significant, zeros, canonical, integer, is_short, integer_product, scaled_value, integer_scaled, real}
-use Rattle.array_text.proofs.Common.{whole, multiplied_value, reals, layer_array, real_layer, integer_layer, number_word, integer_word, IsShort, real_array}
-use Rattle.array_text.proofs.Common.{integer_array, FreeListsReadAsWritten, ArraysReadAsWritten, ℕ, zero, suc, ◌*◌, ◌≤◌, [], ◌∷◌, ◌++◌, take, drop, Result}
-use Rattle.array_text.proofs.Common.{length-take-le, length-drop, take-append-drop, nil_from_length, All-cons, All-take, All-drop, NumFault, next_number}
-use Rattle.array_text.proofs.Common.{appended_readings, word_at, Kind, free_list, free_rows, array_at, without_line, Line, IsLine, number_after, left_of_lines}
-use Rattle.array_text.proofs.Common.{Reads, Takes, Left, ◌>>=◌, control_record, row_line, row_lines, array_lines, FileSet, number_at, keyword, format_at}
-use Rattle.array_text.proofs.Common.{internal, control_at, codes, Refusal}
-use Rattle.array_text.proofs.NumberTexts.{short_exponent, number_reads, integer_reads, one, times_one}
-use Rattle.array_text.proofs.WordTexts.{number_is_word, integer_is_word, line_by_test}
-use Rattle.array_text.proofs.FreeTexts.{IsWrittenAs, free_list_reads}
-use Rattle.array_text.proofs.LineTexts.{takes_none, then_takes, last_takes, line_words, next_line}
+use Rattle.array_text.proofs.Common.{◌≡◌, ◌^◌, ◌<◌, true, List, length, All, Ok, refl, arith, ℤ, pos, negsuc, ◌*ℤ◌, unsigned_abs, ints, All-weaker, nat_tests, Dec, IsDec, number, significant, zeros}
+use Rattle.array_text.proofs.Common.{canonical, integer, is_short, integer_product, scaled_value, integer_scaled, real, whole, multiplied_value, reals, layer_array, real_layer, integer_layer}
+use Rattle.array_text.proofs.Common.{number_word, integer_word, IsShort, real_array, integer_array, FreeListsReadAsWritten, ArraysReadAsWritten, ℕ, zero, suc, ◌*◌, ◌≤◌, [], ◌∷◌, ◌++◌, take, drop}
+use Rattle.array_text.proofs.Common.{Result, length-take-le, length-drop, take-append-drop, nil_from_length, All-cons, All-take, All-drop, NumFault, next_number, appended_readings, word_at, Kind}
+use Rattle.array_text.proofs.Common.{free_list, free_rows, array_at, without_line, Line, IsLine, number_after, left_of_lines, Reads, Takes, Left, ◌>>=◌, control_record, row_line, row_lines}
+use Rattle.array_text.proofs.Common.{array_lines, FileSet, number_at, keyword, format_at, internal, control_at, codes, Refusal}
+use Rattle.array_text.proofs.{NumberTexts.short_exponent, NumberTexts.number_reads, NumberTexts.integer_reads, NumberTexts.one, NumberTexts.times_one, WordTexts.number_is_word}
+use Rattle.array_text.proofs.{WordTexts.integer_is_word, WordTexts.line_by_test, FreeTexts.IsWrittenAs, FreeTexts.free_list_reads, LineTexts.takes_none, LineTexts.then_takes, LineTexts.last_takes}
+use Rattle.array_text.proofs.{LineTexts.line_words, LineTexts.next_line}
 
 -- Lines of values are read as rows of them, and a control record with rows as an array.
 row_reads : {X : Type 0} (read : List ℕ → Result X NumFault) (word : X → List ℕ) (file : List ℕ) (cols : ℕ) (xs : List X) → length xs ≡ cols → 1 ≤ cols → All (λ x. IsWrittenAs read word x) xs

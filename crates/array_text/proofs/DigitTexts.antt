@@ -1,7 +1,6 @@
 -- The decimal digits of a number spell it, and so do those of an integer.
-use Rattle.array_text.proofs.Common.{◌≡◌, ℕ, suc, ◌+◌, ◌-◌, ◌*◌, ◌/◌, ◌%◌, ◌^◌, ◌<◌, ◌≤◌, true, false, inl, inr, List, [], ◌∷◌, ◌++◌, length, refl, sym, ap}
-use Rattle.array_text.proofs.Common.{◌∙◌, arith, ℤ, pos, negsuc, neg_ℤ, unsigned_abs, decimal, signed_decimal, length_push, All-push, nat_tests, is_digit}
-use Rattle.array_text.proofs.Common.{number_from, AreDigits, IsInteger, number_append}
+use Rattle.array_text.proofs.Common.{◌≡◌, ℕ, suc, ◌+◌, ◌-◌, ◌*◌, ◌/◌, ◌%◌, ◌^◌, ◌<◌, ◌≤◌, true, false, inl, inr, List, [], ◌∷◌, ◌++◌, length, refl, sym, ap, ◌∙◌, arith, ℤ, pos, negsuc, neg_ℤ}
+use Rattle.array_text.proofs.Common.{unsigned_abs, decimal, signed_decimal, length_push, All-push, nat_tests, is_digit, number_from, AreDigits, IsInteger, number_append}
 use Rattle.std.proofs.lemmas.Fmt.{decimal_by_steps, length-decimal-le}
 
 -- at least one digit, which spell n

@@ -1,11 +1,9 @@
 -- A line of values is read as a free list of them, and lines of values as rows of them.
-use Rattle.array_text.proofs.Common.{◌≡◌, ℕ, suc, ◌≤◌, ◌==◌, false, List, [], ◌∷◌, ◌++◌, length, map, nat_lt, All, Some, Result, Ok, refl, ◌∙◌, arith}
-use Rattle.array_text.proofs.Common.{position_or_len, append-nil, All-head, All-tail, All-map, All-weaker, nat_tests, NumFault, words, Left, next_number}
-use Rattle.array_text.proofs.Common.{repeated_reading, value_at, value_alone, free_list, IsWordByte, IsWord, Line, line_text, numbered_lines, number_after}
-use Rattle.array_text.proofs.Common.{left_of_lines, IsLine, length-map, Reads, row_line, Taking, beginning, spread, next_word, next_value}
+use Rattle.array_text.proofs.Common.{◌≡◌, ℕ, suc, ◌≤◌, ◌==◌, false, List, [], ◌∷◌, ◌++◌, length, map, nat_lt, All, Some, Result, Ok, refl, ◌∙◌, arith, position_or_len, append-nil, All-head, All-tail}
+use Rattle.array_text.proofs.Common.{All-map, All-weaker, nat_tests, NumFault, words, Left, next_number, repeated_reading, value_at, value_alone, free_list, IsWordByte, IsWord, Line, line_text}
+use Rattle.array_text.proofs.Common.{numbered_lines, number_after, left_of_lines, IsLine, length-map, Reads, row_line, Taking, beginning, spread, next_word, next_value}
 use Rattle.record_lines.proofs.WordLemmas.{word_found, goes_on}
-use Rattle.array_text.proofs.WordTexts.{no_star}
-use Rattle.array_text.proofs.LineTexts.{line_words, one_line}
+use Rattle.array_text.proofs.{WordTexts.no_star, LineTexts.line_words, LineTexts.one_line}
 
 -- x is written as a word that is read as x
 pub record IsWrittenAs {X : Type 0} (read : List ℕ → Result X NumFault) (word : X → List ℕ) (x : X) : Type 0 where

@@ -1,7 +1,7 @@
 -- Layers that are read: as many values as they have cells, layer after layer.
-use Rattle.array_text.proofs.Common.{◌≡◌, ℕ, ◌+◌, ◌*◌, Bool, true, false, List, length, replicate, All, refl, arith, ◌⊎◌, inl, inr, ◌-◌, ◌<◌, ◌≤◌, [], ◌++◌}
-use Rattle.array_text.proofs.Common.{take, drop, length-replicate, length-append, length-drop, take-append-le, drop-append-le, take_all, drop_at, All-append}
-use Rattle.array_text.proofs.Common.{All-replicate, Dec, IsDec, FileSet, Left, real_layer, layer_or, GivesOnly, cases_lt, ok_gives_only, gives_only_less}
+use Rattle.array_text.proofs.Common.{◌≡◌, ℕ, ◌+◌, ◌*◌, Bool, true, false, List, length, replicate, All, refl, arith, ◌⊎◌, inl, inr, ◌-◌, ◌<◌, ◌≤◌, [], ◌++◌, take, drop, length-replicate}
+use Rattle.array_text.proofs.Common.{length-append, length-drop, take-append-le, drop-append-le, take_all, drop_at, All-append, All-replicate, Dec, IsDec, FileSet, Left, real_layer, layer_or}
+use Rattle.array_text.proofs.Common.{GivesOnly, cases_lt, ok_gives_only, gives_only_less}
 use Rattle.array_text.proofs.ArrayForms.{array_files_have_form}
 use Rattle.std.proofs.Math.Nat.{mul-le-mul_right}
 

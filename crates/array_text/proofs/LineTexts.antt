@@ -1,8 +1,7 @@
 -- A line has its words, and a text its lines.
-use Rattle.array_text.proofs.Common.{◌≡◌, ℕ, ◌≤◌, ◌==◌, true, false, List, [], ◌∷◌, ◌++◌, length, nat_lt, All, Ok, refl, ap, ◌∙◌, arith, zero, suc, ◌+◌, ◌<◌}
-use Rattle.array_text.proofs.Common.{Bool, if◌then◌else◌, Result, append_assoc, join_with_byte, range_with_len, All-nil, All-cons, All-append, All-weaker}
-use Rattle.array_text.proofs.Common.{All-head, All-tail, nat_tests, is_separator, words, lines, has_word, left_from, next_number, line_at, Left, ◌>>=◌}
-use Rattle.array_text.proofs.Common.{Numbered, IsWordByte, IsWord, Line, IsLine, line_text, text, numbered_lines, number_after, left_of_lines, Takes, flat_map}
+use Rattle.array_text.proofs.Common.{◌≡◌, ℕ, ◌≤◌, ◌==◌, true, false, List, [], ◌∷◌, ◌++◌, length, nat_lt, All, Ok, refl, ap, ◌∙◌, arith, zero, suc, ◌+◌, ◌<◌, Bool, if◌then◌else◌, Result, append_assoc}
+use Rattle.array_text.proofs.Common.{join_with_byte, range_with_len, All-nil, All-cons, All-append, All-weaker, All-head, All-tail, nat_tests, is_separator, words, lines, has_word, left_from}
+use Rattle.array_text.proofs.Common.{next_number, line_at, Left, ◌>>=◌, Numbered, IsWordByte, IsWord, Line, IsLine, line_text, text, numbered_lines, number_after, left_of_lines, Takes, flat_map}
 use Rattle.array_text.proofs.Common.{Refusal, LinesReadAsWritten, append-nil}
 use Rattle.std.proofs.lemmas.List.Splits.{slice_split_none, slice_split_at}
 use Rattle.record_lines.proofs.LeftLemmas.{left_word, left_nothing}

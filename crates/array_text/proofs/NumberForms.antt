@@ -1,13 +1,10 @@
 -- A number that is read is in canonical form, and an integer has at most 18 digits.
-use Rattle.array_text.proofs.Common.{◌≡◌, ◌⊎◌, inl, inr, ℕ, zero, suc, ◌+◌, ◌-◌, ◌*◌, ◌%◌, ◌^◌, ◌<◌, ◌≤◌, ◌==◌, Bool, true, false, nat_lt, nat_le}
-use Rattle.array_text.proofs.Common.{if◌then◌else◌, List, [], ◌∷◌, length, Option, Some, None, Result, Ok, Err, refl, sym, subst, arith, ℤ, pos, negsuc, neg_ℤ}
-use Rattle.array_text.proofs.Common.{◌+ℤ◌, ◌≤ℤ◌, ◌<ℤ◌, unsigned_abs, NumFault, IsDec, is_exponent, canonical, spelt_number, number, product, integer}
-use Rattle.array_text.proofs.Common.{scaled_value, GivesOnly, real, multiplied_value, IsShort, ints, nat_tests, Dec, Spelling, AreDigits, IsInteger}
-use Rattle.array_text.proofs.Common.{number_from, IsTested, IsCanonical, differ, canonical_is, integers_are, with_sign, spelling_of, WordsHaveForm}
-use Rattle.array_text.proofs.Common.{ok_gives_only, err_gives_only, then_}
+use Rattle.array_text.proofs.Common.{◌≡◌, ◌⊎◌, inl, inr, ℕ, zero, suc, ◌+◌, ◌-◌, ◌*◌, ◌%◌, ◌^◌, ◌<◌, ◌≤◌, ◌==◌, Bool, true, false, nat_lt, nat_le, if◌then◌else◌, List, [], ◌∷◌, length, Option, Some}
+use Rattle.array_text.proofs.Common.{None, Result, Ok, Err, refl, sym, subst, arith, ℤ, pos, negsuc, neg_ℤ, ◌+ℤ◌, ◌≤ℤ◌, ◌<ℤ◌, unsigned_abs, NumFault, IsDec, is_exponent, canonical, spelt_number}
+use Rattle.array_text.proofs.Common.{number, product, integer, scaled_value, GivesOnly, real, multiplied_value, IsShort, ints, nat_tests, Dec, Spelling, AreDigits, IsInteger, number_from, IsTested}
+use Rattle.array_text.proofs.Common.{IsCanonical, differ, canonical_is, integers_are, with_sign, spelling_of, WordsHaveForm, ok_gives_only, err_gives_only, then_}
 use Rattle.decimal_input.specs.declared.dec.NumFault.TheVariants.{BadNumber}
-use Rattle.decimal_input.proofs.Powers.{zero_number, one_digit_more_fits, power_fits_18_digits}
-use Rattle.decimal_input.proofs.Named.{digit_small}
+use Rattle.decimal_input.proofs.{Powers.zero_number, Powers.one_digit_more_fits, Powers.power_fits_18_digits, Named.digit_small}
 
 -- a word that is no number
 abbrev number_fault : Result Dec NumFault

@@ -1,8 +1,7 @@
 -- The word of a number is read as that number, also where it is multiplied by 1.
-use Rattle.array_text.proofs.Common.{◌≡◌, ℕ, ◌*◌, ◌^◌, ◌<◌, ◌≤◌, Bool, true, false, inl, inr, List, [], ◌∷◌, ◌++◌, length, Ok, refl, sym, ap, ◌∙◌, arith, ℤ}
-use Rattle.array_text.proofs.Common.{pos, negsuc, neg_ℤ, ◌+ℤ◌, ◌-ℤ◌, ◌≤ℤ◌, unsigned_abs, decimal, signed_decimal, append-nil, length-append, ints, Dec, IsDec}
-use Rattle.array_text.proofs.Common.{number_from, IsSign, IsExponent, Spells, names_read, reads_spelt, number, integer, product, sign, number_word}
-use Rattle.array_text.proofs.Common.{integer_word, IsShort, IsTested, IsCanonical, differ, is_word_number, is_product, integers_are, WordsReadAsWritten}
+use Rattle.array_text.proofs.Common.{◌≡◌, ℕ, ◌*◌, ◌^◌, ◌<◌, ◌≤◌, Bool, true, false, inl, inr, List, [], ◌∷◌, ◌++◌, length, Ok, refl, sym, ap, ◌∙◌, arith, ℤ, pos, negsuc, neg_ℤ, ◌+ℤ◌, ◌-ℤ◌, ◌≤ℤ◌}
+use Rattle.array_text.proofs.Common.{unsigned_abs, decimal, signed_decimal, append-nil, length-append, ints, Dec, IsDec, number_from, IsSign, IsExponent, Spells, names_read, reads_spelt, number}
+use Rattle.array_text.proofs.Common.{integer, product, sign, number_word, integer_word, IsShort, IsTested, IsCanonical, differ, is_word_number, is_product, integers_are, WordsReadAsWritten}
 use Rattle.array_text.proofs.DigitTexts.{digits_spell, few_digits, integer_spells, few_bytes}
 
 is_sign : (neg : Bool) → IsSign neg (sign neg)

@@ -1,8 +1,7 @@
 -- What is written of numbers is words, and words have no byte that ends them.
-use Rattle.array_text.proofs.Common.{◌≡◌, ℕ, suc, ◌^◌, ◌<◌, ◌≤◌, ◌==◌, ◌&&◌, not, Bool, true, false, List, [], ◌∷◌, ◌++◌, length, nat_le, nat_lt, All, refl}
-use Rattle.array_text.proofs.Common.{arith, ℤ, pos, negsuc, unsigned_abs, list_all, decimal, signed_decimal, length-append, All-nil, All-cons, All-append}
-use Rattle.array_text.proofs.Common.{All-weaker, nat_tests, Dec, is_digit, is_separator, sign, number_word, integer_word, IsShort, IsWordByte, IsWord, Line}
-use Rattle.array_text.proofs.Common.{IsLine, and_parts}
+use Rattle.array_text.proofs.Common.{◌≡◌, ℕ, suc, ◌^◌, ◌<◌, ◌≤◌, ◌==◌, ◌&&◌, not, Bool, true, false, List, [], ◌∷◌, ◌++◌, length, nat_le, nat_lt, All, refl, arith, ℤ, pos, negsuc, unsigned_abs}
+use Rattle.array_text.proofs.Common.{list_all, decimal, signed_decimal, length-append, All-nil, All-cons, All-append, All-weaker, nat_tests, Dec, is_digit, is_separator, sign, number_word}
+use Rattle.array_text.proofs.Common.{integer_word, IsShort, IsWordByte, IsWord, Line, IsLine, and_parts}
 use Rattle.std.proofs.lemmas.List.Sums.{AllPass-from_list_all}
 use Rattle.array_text.proofs.DigitTexts.{digits_spell}
 

@@ -1,12 +1,10 @@
 -- Statements of laws: what is written is read as itself.
 use Rattle.std.specs.Prelude.{◌≡◌, ℕ, ◌*◌, ◌≤◌, ℤ, List, [], ◌∷◌, All, length, Ok, Result}
-use Rattle.decimal_input.specs.declared.dec.Dec.{Dec}
-use Rattle.decimal_input.specs.{IsDec}
-use Rattle.outside.specs.{FileSet, words}
+use Rattle.decimal_input.specs.{declared.dec.Dec.Dec, IsDec}
+use Rattle.outside.specs.{FileSet, words, declared.inputs.Refusal.Refusal}
 use Rattle.record_lines.specs.{left_from, GivesOnly, Left}
 use Rattle.array_reader.specs.{number, integer, real, whole, free_list, reals, real_layer, integer_layer, layers}
 use Rattle.array_text.specs.Lines.{IsShort, number_word, integer_word, Line, IsLine, line_text, text, left_of_lines, Reads, row_line, real_array, integer_array}
-use Rattle.outside.specs.declared.inputs.Refusal.{Refusal}
 
 -- a number in canonical form, and an integer of at most 18 digits
 pub record WordsReadAsWritten : Type 0 where

@@ -1,10 +1,9 @@
 -- Lines of words as a text, and what is left of the text when lines of it have been read.
 use Rattle.std.specs.Prelude.{◌≡◌, ℕ, ◌≤◌, List, [], ◌∷◌, ◌++◌, All, length, Result, Ok, ◌<◌, ◌^◌, ℤ, Bool, true, false, codes, decimal, unsigned_abs, zero}
 use Rattle.std.specs.Prelude.{suc, take, drop, map}
-use Rattle.std.specs.List.{join_with_byte}
+use Rattle.std.specs.{List.join_with_byte, Fmt.signed_decimal}
 use Rattle.outside.specs.declared.inputs.Refusal.{Refusal}
 use Rattle.record_lines.specs.{Numbered, Left, next_number}
-use Rattle.std.specs.Fmt.{signed_decimal}
 use Rattle.decimal_input.specs.declared.dec.Dec.{Dec}
 
 -- Numbers and names as words of a line.

@@ -1,14 +1,10 @@
 -- Paths for a flow that is capped at 2 ^ 126. Where the flow is greater, each drop leaves the range of heads, capped or not: so paths that are cut off there stay the same.
-use Rattle.barrier_vector.proofs.Common.{◌≡◌, ℕ, zero, suc, ◌+◌, ◌<◌, ◌≤◌, ◌^◌, inl, inr, refl, ◌∙◌, ap, arith, List, min, Contains, le-div_iff_mul-le}
-use Rattle.barrier_vector.proofs.Common.{cases_lt, All-contains, get_or-le-sum_by, Link, Fixed, Side, Low, High, Entries, entries_at, IsProblem, CellFits}
-use Rattle.barrier_vector.proofs.Common.{LinkFits, FixedFits, RiverFits, DrainFits, greatest, anchor_on, AnchorRoot, capped_flow, ceil_over, LeadsToRoot}
-use Rattle.barrier_vector.proofs.Common.{IsLevel, IsParent, SumsTo, IsPath, path_limit, Option, ListRoot, AreAnchorDrops, length, sym}
-use Rattle.barrier_vector.proofs.Levels.{marked_within}
-use Rattle.step_problem.specs.declared.entry.River.{River}
-use Rattle.step_problem.specs.declared.entry.Drain.{Drain}
+use Rattle.barrier_vector.proofs.Common.{◌≡◌, ℕ, zero, suc, ◌+◌, ◌<◌, ◌≤◌, ◌^◌, inl, inr, refl, ◌∙◌, ap, arith, List, min, Contains, le-div_iff_mul-le, cases_lt, All-contains, get_or-le-sum_by, Link}
+use Rattle.barrier_vector.proofs.Common.{Fixed, Side, Low, High, Entries, entries_at, IsProblem, CellFits, LinkFits, FixedFits, RiverFits, DrainFits, greatest, anchor_on, AnchorRoot, capped_flow}
+use Rattle.barrier_vector.proofs.Common.{ceil_over, LeadsToRoot, IsLevel, IsParent, SumsTo, IsPath, path_limit, Option, ListRoot, AreAnchorDrops, length, sym}
+use Rattle.barrier_vector.proofs.{Levels.marked_within, CarriedRoots.has_links, CarriedRoots.link_conducts, Rooting.greatest_has, Rooting.drop_is, Rooting.drop_of}
+use Rattle.step_problem.specs.{declared.entry.River.River, declared.entry.Drain.Drain}
 use Rattle.std.specs.Prelude.{sum_by}
-use Rattle.barrier_vector.proofs.CarriedRoots.{has_links, link_conducts}
-use Rattle.barrier_vector.proofs.Rooting.{greatest_has, drop_is, drop_of}
 
 -- conductances at a cell are below 2 ^ 60
 member_within : {X : Type 0} (f : X → ℕ) (xs : List X) (x : X) → Contains xs x → f x ≤ sum_by f xs

@@ -1,6 +1,6 @@
 -- Links lead back, so that ways can be turned round and joined; and a component has one least cell.
-use Rattle.barrier_vector.proofs.Common.{◌≡◌, ℕ, zero, suc, ◌+◌, ◌<◌, inl, inr, refl, sym, subst, arith, List, Contains, length, cases_lt, Link, Entries}
-use Rattle.barrier_vector.proofs.Common.{entries_at, IsProblem, no_entries, LinkFits, LeadsTo, LeastRoot, get_or_past, All-contains}
+use Rattle.barrier_vector.proofs.Common.{◌≡◌, ℕ, zero, suc, ◌+◌, ◌<◌, inl, inr, refl, sym, subst, arith, List, Contains, length, cases_lt, Link, Entries, entries_at, IsProblem, no_entries, LinkFits}
+use Rattle.barrier_vector.proofs.Common.{LeadsTo, LeastRoot, get_or_past, All-contains}
 
 -- a cell with an entry is a cell of the problem
 pub has_links : (p : List Entries) (c : ℕ) (x : Link) → Contains (entries_at p c).links x → c < length p

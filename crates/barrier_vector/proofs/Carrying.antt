@@ -1,18 +1,11 @@
 -- What the floors of carried components are made of, from labels, a search, sums and maxima.
-use Rattle.barrier_vector.proofs.Common.{◌≡◌, ℕ, ◌+◌, ◌<◌, ◌≤◌, inl, inr, refl, sym, ◌∙◌, ap, subst, arith, List, length, min, Option, None, Some, slice_index}
-use Rattle.barrier_vector.proofs.Common.{ℤ, pos, ◌-ℤ◌, ◌≤ℤ◌, ◌<ℤ◌, ints, clamps, Entries, entries_at, IsProblem, IsHead, base_on, IsComponent, sum_inside}
-use Rattle.barrier_vector.proofs.Common.{deep_low, Low, lack, capped_flow, LeastRoot, IsInnerPath, IsLongest, IsUnanchored, mark_at, path_limit, ListRoot}
-use Rattle.barrier_vector.proofs.Common.{IsSearched, AreLabels, has_label, sum_at, longest_at, greatest_inside, Total, AreSelfDrops, AreComponents, Bool, true}
-use Rattle.barrier_vector.proofs.Common.{false, cond, is_label, cut_on, IsBoundOrNone}
-use Rattle.barrier_vector.proofs.CarriedRoots.{reaches_within, turn_way, join_ways}
-use Rattle.barrier_vector.proofs.Levels.{marked_or_not, marked_within}
-use Rattle.barrier_vector.proofs.Labelling.{mark_holds_along_lead}
-use Rattle.barrier_vector.proofs.Gathering.{label_true, label_is, greatest_covers, greatest_of}
-use Rattle.barrier_vector.proofs.Marking.{base_head}
-use Rattle.barrier_vector.proofs.Rooting.{label_within}
-use Rattle.barrier_vector.proofs.CappedFlows.{whole_path}
-use Rattle.barrier_vector.proofs.Uniques.{inner_one}
-use Rattle.barrier_vector.proofs.Components.{longest_path_exists as longest_path, one_sum}
+use Rattle.barrier_vector.proofs.Common.{◌≡◌, ℕ, ◌+◌, ◌<◌, ◌≤◌, inl, inr, refl, sym, ◌∙◌, ap, subst, arith, List, length, min, Option, None, Some, slice_index, ℤ, pos, ◌-ℤ◌, ◌≤ℤ◌, ◌<ℤ◌, ints, clamps}
+use Rattle.barrier_vector.proofs.Common.{Entries, entries_at, IsProblem, IsHead, base_on, IsComponent, sum_inside, deep_low, Low, lack, capped_flow, LeastRoot, IsInnerPath, IsLongest, IsUnanchored}
+use Rattle.barrier_vector.proofs.Common.{mark_at, path_limit, ListRoot, IsSearched, AreLabels, has_label, sum_at, longest_at, greatest_inside, Total, AreSelfDrops, AreComponents, Bool, true, false}
+use Rattle.barrier_vector.proofs.Common.{cond, is_label, cut_on, IsBoundOrNone}
+use Rattle.barrier_vector.proofs.{CarriedRoots.reaches_within, CarriedRoots.turn_way, CarriedRoots.join_ways, Levels.marked_or_not, Levels.marked_within, Labelling.mark_holds_along_lead}
+use Rattle.barrier_vector.proofs.{Gathering.label_true, Gathering.label_is, Gathering.greatest_covers, Gathering.greatest_of, Marking.base_head, Rooting.label_within, CappedFlows.whole_path}
+use Rattle.barrier_vector.proofs.{Uniques.inner_one, Components.longest_path_exists as longest_path, Components.one_sum}
 
 module _ (p : List Entries) (ok : IsProblem p) where
   -- every cell leads to the least cell of its component

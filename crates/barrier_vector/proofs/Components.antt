@@ -1,11 +1,8 @@
 -- What a component of a problem has: a test, its sum of deep flows, a least cell, and a longest path to that cell.
-use Rattle.barrier_vector.proofs.Common.{◌≡◌, ℕ, ◌<◌, ◌≤◌, ◌⊎◌, inl, inr, refl, ap, arith, List, length, Bool, cond, ℤ, pos, cases_lt, ints, by_lt_z, IsProblem}
-use Rattle.barrier_vector.proofs.Common.{Entries, entries_at, IsComponent, IsCarried, sum_inside, deep_low, LeastRoot, IsInnerPath, IsLongest, lack, sum-same}
-use Rattle.barrier_vector.proofs.CarriedRoots.{reaches_within}
-use Rattle.barrier_vector.proofs.Uniques.{inner_one, same_tests}
-use Rattle.barrier_vector.proofs.Decided.{Decided, test_of, test_true, true_test, first_or_none, lead_is_path}
-use Rattle.barrier_vector.proofs.Gathering.{greatest_covers, greatest_of}
-use Rattle.barrier_vector.proofs.Ways.{LeadTo, leads_join, leading_decided}
+use Rattle.barrier_vector.proofs.Common.{◌≡◌, ℕ, ◌<◌, ◌≤◌, ◌⊎◌, inl, inr, refl, ap, arith, List, length, Bool, cond, ℤ, pos, cases_lt, ints, by_lt_z, IsProblem, Entries, entries_at, IsComponent}
+use Rattle.barrier_vector.proofs.Common.{IsCarried, sum_inside, deep_low, LeastRoot, IsInnerPath, IsLongest, lack, sum-same}
+use Rattle.barrier_vector.proofs.{CarriedRoots.reaches_within, Uniques.inner_one, Uniques.same_tests, Decided.Decided, Decided.test_of, Decided.test_true, Decided.true_test, Decided.first_or_none}
+use Rattle.barrier_vector.proofs.{Decided.lead_is_path, Gathering.greatest_covers, Gathering.greatest_of, Ways.LeadTo, Ways.leads_join, Ways.leading_decided}
 
 module _ (p : List Entries) (ok : IsProblem p) where
   abbrev pub inside : ℕ → ℕ → Bool

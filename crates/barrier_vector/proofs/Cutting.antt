@@ -1,15 +1,9 @@
 -- What a cut barrier gives to its caller, and that a problem has one cut barrier or one refusal of it.
-use Rattle.barrier_vector.proofs.Common.{◌≡◌, ℕ, ◌<◌, ◌≤ℤ◌, inl, inr, sym, ◌∙◌, ap, subst, arith, List, length, ℤ, pos, neg_ℤ, ints, clamps, Side, Low, High}
-use Rattle.barrier_vector.proofs.Common.{NoBound, Entries, Edges, head_at, IsProblem, IsHead, head_limit, number_of, IsHeldBelow, IsSolution, IsCellFloor}
-use Rattle.barrier_vector.proofs.Common.{IsCellCeiling, HasNoBound, no_barrier_on, cut_on, AreCutBounds, IsCutBarrierOf, IsCutFaultOn, Refuses, EnclosesUncut}
-use Rattle.barrier_vector.proofs.Common.{IsCutFault, BoundFault, Memory, CutBarrierIsOne, BarrierIsCut, CutBarrierExcludesRefusal, CutRefusalIsOne}
-use Rattle.barrier_vector.proofs.Common.{BarrierIsOne}
-use Rattle.step_problem.specs.declared.refusal.StepRefusal.{StepRefusal}
-use Rattle.step_problem.specs.declared.refusal.BoundFault.TheVariants.{NoBound as AFault}
-use Rattle.barrier_vector.proofs.Uniques.{bound_one}
-use Rattle.barrier_vector.proofs.Floors.{floors_enclose, ceilings_enclose, held_cell}
-use Rattle.barrier_vector.proofs.OneAnswer.{same_heads, same_least}
-use Rattle.barrier_vector.proofs.Sides.{cut_nowhere_without}
+use Rattle.barrier_vector.proofs.Common.{◌≡◌, ℕ, ◌<◌, ◌≤ℤ◌, inl, inr, sym, ◌∙◌, ap, subst, arith, List, length, ℤ, pos, neg_ℤ, ints, clamps, Side, Low, High, NoBound, Entries, Edges, head_at}
+use Rattle.barrier_vector.proofs.Common.{IsProblem, IsHead, head_limit, number_of, IsHeldBelow, IsSolution, IsCellFloor, IsCellCeiling, HasNoBound, no_barrier_on, cut_on, AreCutBounds, IsCutBarrierOf}
+use Rattle.barrier_vector.proofs.Common.{IsCutFaultOn, Refuses, EnclosesUncut, IsCutFault, BoundFault, Memory, CutBarrierIsOne, BarrierIsCut, CutBarrierExcludesRefusal, CutRefusalIsOne, BarrierIsOne}
+use Rattle.step_problem.specs.{declared.refusal.StepRefusal.StepRefusal, declared.refusal.BoundFault.TheVariants.NoBound as AFault}
+use Rattle.barrier_vector.proofs.{Uniques.bound_one, Floors.floors_enclose, Floors.ceilings_enclose, Floors.held_cell, OneAnswer.same_heads, OneAnswer.same_least, Sides.cut_nowhere_without}
 
 -- a floor that isn't below all heads is no cut one, and a ceiling that isn't above all of them
 low_uncut : (v f : ℤ) → v ≡ cut_on Low f → neg_ℤ (pos head_limit) ≤ℤ v → f ≡ v

@@ -1,6 +1,6 @@
 -- Searches that end: the first of finitely many numbers with a property, any or the least entry of a list, or none.
-use Rattle.barrier_vector.proofs.Common.{◌≡◌, ℕ, zero, suc, ◌<◌, ◌≤◌, ◌⊎◌, inl, inr, refl, subst, arith, List, [], ◌∷◌, Contains, Bool, true, false, ◌+◌, sym}
-use Rattle.barrier_vector.proofs.Common.{cases_lt, Link, Entries, entries_at, ceil_over, LeadsToRoot, IsLevel, SumsTo, IsPath}
+use Rattle.barrier_vector.proofs.Common.{◌≡◌, ℕ, zero, suc, ◌<◌, ◌≤◌, ◌⊎◌, inl, inr, refl, subst, arith, List, [], ◌∷◌, Contains, Bool, true, false, ◌+◌, sym, cases_lt, Link, Entries, entries_at}
+use Rattle.barrier_vector.proofs.Common.{ceil_over, LeadsToRoot, IsLevel, SumsTo, IsPath}
 
 -- P holds, or it doesn't
 abbrev pub Decided : Type 0 → Type 0

@@ -1,17 +1,13 @@
 -- No solution lies below a floor, and none above a ceiling.
-use Rattle.barrier_vector.proofs.Common.{base_on, ◌≡◌, ℕ, ◌+◌, ◌*◌, ◌^◌, ◌<◌, ◌≤◌, inl, inr, refl, subst, arith, ℤ, pos, ◌+ℤ◌, ◌-ℤ◌, ◌*ℤ◌, ◌≤ℤ◌, ◌<ℤ◌, List}
-use Rattle.barrier_vector.proofs.Common.{length, Contains, zero, suc, ap, ◌⊎◌, AllZip, mul-le-mul_right, ints, Link, Side, Low, High, Entries, entries_at}
-use Rattle.barrier_vector.proofs.Common.{IsProblem, total, IsCarried, ExactCell, LeadsTo, Leads, IsHeldBelow, SolvesStep, LiesBetween, EnclosesStep, add_mul}
-use Rattle.barrier_vector.proofs.Common.{sub_mul, same_z, IsMutual, WholeCell, whole_at, whole_balance, whole_link, CellWithin, cell_within, Bounds, need}
-use Rattle.barrier_vector.proofs.Common.{need_on, anchor_on, LeastRoot, IsAnchorPath, IsInnerPath, IsLongest, IsAnchoredBound, IsBoundOn, FloorsEnclose}
-use Rattle.barrier_vector.proofs.Common.{CeilingsEnclose, IsSolution, ceil_over, SumsTo, IsCellFloor, FloorsHold, IsCellCeiling}
+use Rattle.barrier_vector.proofs.Common.{base_on, ◌≡◌, ℕ, ◌+◌, ◌*◌, ◌^◌, ◌<◌, ◌≤◌, inl, inr, refl, subst, arith, ℤ, pos, ◌+ℤ◌, ◌-ℤ◌, ◌*ℤ◌, ◌≤ℤ◌, ◌<ℤ◌, List, length, Contains, zero, suc, ap, ◌⊎◌}
+use Rattle.barrier_vector.proofs.Common.{AllZip, mul-le-mul_right, ints, Link, Side, Low, High, Entries, entries_at, IsProblem, total, IsCarried, ExactCell, LeadsTo, Leads, IsHeldBelow, SolvesStep}
+use Rattle.barrier_vector.proofs.Common.{LiesBetween, EnclosesStep, add_mul, sub_mul, same_z, IsMutual, WholeCell, whole_at, whole_balance, whole_link, CellWithin, cell_within, Bounds, need, need_on}
+use Rattle.barrier_vector.proofs.Common.{anchor_on, LeastRoot, IsAnchorPath, IsInnerPath, IsLongest, IsAnchoredBound, IsBoundOn, FloorsEnclose, CeilingsEnclose, IsSolution, ceil_over, SumsTo}
+use Rattle.barrier_vector.proofs.Common.{IsCellFloor, FloorsHold, IsCellCeiling}
 use Rattle.cell_balance.proofs.Encloses.{whole_head, whole_solution, bound_back}
-use Rattle.barrier_vector.proofs.CarriedRoots.{join_ways, leads_within, link_conducts, links_are_mutual, same_root}
-use Rattle.barrier_vector.proofs.Components.{inner_path}
-use Rattle.barrier_vector.proofs.FloorsLinks.{ceil_enough, joined_low, falls_over, falls_at, somewhere_above}
-use Rattle.barrier_vector.proofs.Gains.{inward, rest_of, inward_balance, gives}
-use Rattle.barrier_vector.proofs.Marking.{IsMarkBelow, base_outside}
-use Rattle.barrier_vector.proofs.Rooting.{anchored_by}
+use Rattle.barrier_vector.proofs.{CarriedRoots.join_ways, CarriedRoots.leads_within, CarriedRoots.link_conducts, CarriedRoots.links_are_mutual, CarriedRoots.same_root, Components.inner_path}
+use Rattle.barrier_vector.proofs.{FloorsLinks.ceil_enough, FloorsLinks.joined_low, FloorsLinks.falls_over, FloorsLinks.falls_at, FloorsLinks.somewhere_above, Gains.inward, Gains.rest_of}
+use Rattle.barrier_vector.proofs.{Gains.inward_balance, Gains.gives, Marking.IsMarkBelow, Marking.base_outside, Rooting.anchored_by}
 
 -- Along a path heads fall by at most its sum, from its root to its cell and back.
 module _ (p : List Entries) (ok : IsProblem p) (n q : ℕ) (Y : ℕ → ℤ) (top : ℤ)

@@ -1,9 +1,8 @@
 -- What enters the cells below a head over their links, in all no more than the needs of all cells: besides their links cells get no less than what they need.
-use Rattle.barrier_vector.proofs.Common.{◌≡◌, ℕ, ◌<◌, refl, sym, ◌∙◌, arith, ℤ, pos, ◌+ℤ◌, ◌≤ℤ◌, ◌<ℤ◌, List, length, Bool, true, false, cond, zero, suc, ◌+◌}
-use Rattle.barrier_vector.proofs.Common.{◌≤◌, subst, ◌*ℤ◌, [], ◌∷◌, get_or, take, sum_by, All, Contains, ints, lt_z, true_is_lt, lt_out, total, entries_at}
-use Rattle.barrier_vector.proofs.Common.{no_entries, mul_nonneg, sum_inside, sum_below, total_nonneg, add_mul, sum-add, sum-same, term-le-sum, IsMutual}
-use Rattle.barrier_vector.proofs.Common.{cut_link, cut_links, WholeLink, WholeCell, whole_link, whole_at, AllZip-at, AllZip-length, AllZip, sum_inside-zero}
-use Rattle.barrier_vector.proofs.Common.{add-one, sum_by_more, All-head, All-tail, Contains-get_or, Entries}
+use Rattle.barrier_vector.proofs.Common.{◌≡◌, ℕ, ◌<◌, refl, sym, ◌∙◌, arith, ℤ, pos, ◌+ℤ◌, ◌≤ℤ◌, ◌<ℤ◌, List, length, Bool, true, false, cond, zero, suc, ◌+◌, ◌≤◌, subst, ◌*ℤ◌, [], ◌∷◌, get_or, take}
+use Rattle.barrier_vector.proofs.Common.{sum_by, All, Contains, ints, lt_z, true_is_lt, lt_out, total, entries_at, no_entries, mul_nonneg, sum_inside, sum_below, total_nonneg, add_mul, sum-add}
+use Rattle.barrier_vector.proofs.Common.{sum-same, term-le-sum, IsMutual, cut_link, cut_links, WholeLink, WholeCell, whole_link, whole_at, AllZip-at, AllZip-length, AllZip, sum_inside-zero, add-one}
+use Rattle.barrier_vector.proofs.Common.{sum_by_more, All-head, All-tail, Contains-get_or, Entries}
 
 pub test_true : (a b : ℤ) → a <ℤ b → lt_z a b ≡ true
 test_true a b h = sym (true_is_lt a b (lt_out a b h))

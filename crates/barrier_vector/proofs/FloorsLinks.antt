@@ -1,10 +1,8 @@
 -- One link and one anchor: a head falls by at most what pays for the needs of all cells.
-use Rattle.barrier_vector.proofs.Common.{◌≡◌, ℕ, ◌*◌, ◌<◌, ◌≤◌, sym, subst, arith, ℤ, pos, ◌+ℤ◌, ◌-ℤ◌, ◌*ℤ◌, ◌≤ℤ◌, ◌<ℤ◌, List, length, sum_by, Contains, Bool}
-use Rattle.barrier_vector.proofs.Common.{true, false, cond, ◌+◌, ap, negsuc, zero, suc, ◌⊎◌, inl, inr, refl, ◌∙◌, AllZip, lt_z, false_is_lt, le_out, take_all}
-use Rattle.barrier_vector.proofs.Common.{ints, by_lt_z, Link, Entries, entries_at, no_entries, total, mul_nonneg, mul_mono, sum_inside, IsCarried, le_trans_z}
-use Rattle.barrier_vector.proofs.Common.{AllZip-at, AllZip-length, WholeCell, whole_at, whole_link, no_whole, whole_balance, CellWithin, LinkWithin, IsMutual}
-use Rattle.barrier_vector.proofs.Common.{cut_link, mul-le-mul_right, le_of_mul-le-mul_left, ceil_over, mul_mono_right, cases_lt, false≢true, Low, cell_within}
-use Rattle.barrier_vector.proofs.Common.{carried_not_dry}
+use Rattle.barrier_vector.proofs.Common.{◌≡◌, ℕ, ◌*◌, ◌<◌, ◌≤◌, sym, subst, arith, ℤ, pos, ◌+ℤ◌, ◌-ℤ◌, ◌*ℤ◌, ◌≤ℤ◌, ◌<ℤ◌, List, length, sum_by, Contains, Bool, true, false, cond, ◌+◌, ap, negsuc, zero}
+use Rattle.barrier_vector.proofs.Common.{suc, ◌⊎◌, inl, inr, refl, ◌∙◌, AllZip, lt_z, false_is_lt, le_out, take_all, ints, by_lt_z, Link, Entries, entries_at, no_entries, total, mul_nonneg, mul_mono}
+use Rattle.barrier_vector.proofs.Common.{sum_inside, IsCarried, le_trans_z, AllZip-at, AllZip-length, WholeCell, whole_at, whole_link, no_whole, whole_balance, CellWithin, LinkWithin, IsMutual}
+use Rattle.barrier_vector.proofs.Common.{cut_link, mul-le-mul_right, le_of_mul-le-mul_left, ceil_over, mul_mono_right, cases_lt, false≢true, Low, cell_within, carried_not_dry}
 use Rattle.cell_balance.proofs.Mutual.{no_whole_link}
 use Rattle.barrier_vector.proofs.FloorsEnter.{limited_sum, AllZip-has, term-le-total, lies_below, cut_enters, links_give, enters}
 use Rattle.barrier_vector.proofs.Marking.{IsMarkBelow, cell_dry}

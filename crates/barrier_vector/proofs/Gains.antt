@@ -1,10 +1,9 @@
 -- Beyond the base of a side a cell gets, besides its links, at least what its anchor gives less what it needs: each side with its heads and flows turned so that flows go in.
-use Rattle.barrier_vector.proofs.Common.{◌≡◌, ℕ, zero, suc, ◌*◌, ◌<◌, ◌≤◌, ◌⊎◌, inl, inr, refl, ◌∙◌, ap, subst, arith, ℤ, pos, negsuc, neg_ℤ, ◌+ℤ◌, ◌-ℤ◌, ◌*ℤ◌}
-use Rattle.barrier_vector.proofs.Common.{◌≤ℤ◌, ◌<ℤ◌, List, [], ◌∷◌, get_or, All, max, int_max, int_min, AllZip, mul-le-mul_right, cases_lt, ints, clamps}
-use Rattle.barrier_vector.proofs.Common.{All-head, All-tail, Contains-get_or, Side, Low, High, Entries, total, mul_mono, mul_nonneg, le_trans_z, total_neg}
-use Rattle.barrier_vector.proofs.Common.{total_nonneg, mul_mono_right, WholeLink, WholeCell, WholeEntry, whole_balance, whole_deep, whole_link, whole_fixed}
-use Rattle.barrier_vector.proofs.Common.{whole_river, whole_drain, whole_evap, CellWithin, FixedWithin, RiverWithin, DrainWithin, FlowWithin, Bounds, greatest}
-use Rattle.barrier_vector.proofs.Common.{anchor_on, need_on, deep_low, high_flow, total-same, mul_neg, total_bounds, deep_less, dry_balance}
+use Rattle.barrier_vector.proofs.Common.{◌≡◌, ℕ, zero, suc, ◌*◌, ◌<◌, ◌≤◌, ◌⊎◌, inl, inr, refl, ◌∙◌, ap, subst, arith, ℤ, pos, negsuc, neg_ℤ, ◌+ℤ◌, ◌-ℤ◌, ◌*ℤ◌, ◌≤ℤ◌, ◌<ℤ◌, List, [], ◌∷◌, get_or, All}
+use Rattle.barrier_vector.proofs.Common.{max, int_max, int_min, AllZip, mul-le-mul_right, cases_lt, ints, clamps, All-head, All-tail, Contains-get_or, Side, Low, High, Entries, total, mul_mono}
+use Rattle.barrier_vector.proofs.Common.{mul_nonneg, le_trans_z, total_neg, total_nonneg, mul_mono_right, WholeLink, WholeCell, WholeEntry, whole_balance, whole_deep, whole_link, whole_fixed}
+use Rattle.barrier_vector.proofs.Common.{whole_river, whole_drain, whole_evap, CellWithin, FixedWithin, RiverWithin, DrainWithin, FlowWithin, Bounds, greatest, anchor_on, need_on, deep_low, high_flow}
+use Rattle.barrier_vector.proofs.Common.{total-same, mul_neg, total_bounds, deep_less, dry_balance}
 use Rattle.decimal_input.specs.{down, up}
 use Rattle.std.proofs.Math.IntN.{zero-*ℤ}
 use Rattle.barrier_vector.proofs.Marking.{IsCellMark, some_at, cell_dry}

@@ -1,8 +1,7 @@
 -- Totals by label, one cell after another.
-use Rattle.barrier_vector.proofs.Common.{◌≡◌, ℕ, zero, suc, ◌+◌, ◌*◌, ◌^◌, ◌<◌, ◌≤◌, ◌⊎◌, inl, inr, refl, sym, ◌∙◌, ap, subst, arith, max, List, Option, None}
-use Rattle.barrier_vector.proofs.Common.{Some, Bool, true, false, cond, slice_index, ℤ, pos, negsuc, unsigned_abs, ◌+ℤ◌, ◌*ℤ◌, ◌≤ℤ◌, ◌<ℤ◌, add-one}
-use Rattle.barrier_vector.proofs.Common.{div-add-mod', mod-lt, length, All, Contains, min, set, get_or-set_same, get_or-set_other, int_div_euclid}
-use Rattle.barrier_vector.proofs.Common.{int_rem_euclid, cases_eq, cases_lt, eq-eqb, ne_eqb, ints, IsMagnitudeAtMost, sum_inside, mark_at, is_label, has_label}
+use Rattle.barrier_vector.proofs.Common.{◌≡◌, ℕ, zero, suc, ◌+◌, ◌*◌, ◌^◌, ◌<◌, ◌≤◌, ◌⊎◌, inl, inr, refl, sym, ◌∙◌, ap, subst, arith, max, List, Option, None, Some, Bool, true, false, cond}
+use Rattle.barrier_vector.proofs.Common.{slice_index, ℤ, pos, negsuc, unsigned_abs, ◌+ℤ◌, ◌*ℤ◌, ◌≤ℤ◌, ◌<ℤ◌, add-one, div-add-mod', mod-lt, length, All, Contains, min, set, get_or-set_same}
+use Rattle.barrier_vector.proofs.Common.{get_or-set_other, int_div_euclid, int_rem_euclid, cases_eq, cases_lt, eq-eqb, ne_eqb, ints, IsMagnitudeAtMost, sum_inside, mark_at, is_label, has_label}
 use Rattle.barrier_vector.proofs.Common.{flow_sum, sum_at, longest_at, greatest_inside, Total, ceil_over, path_limit, ContinuesTo, get_or_default, Entries}
 
 -- the test of a label tells

@@ -1,11 +1,8 @@
 -- Labels of components: one component is filled from its least cell, and one after another.
-use Rattle.barrier_vector.proofs.Common.{◌≡◌, ℕ, zero, suc, ◌+◌, ◌<◌, ◌≤◌, ◌⊎◌, inl, inr, refl, sym, ◌∙◌, ap, subst, arith, List, [], length, Contains, Option}
-use Rattle.barrier_vector.proofs.Common.{None, Some, All, slice_index, get_or, cases_lt, Contains-get_or, Link, Entries, entries_at, link_at, IsProblem}
-use Rattle.barrier_vector.proofs.Common.{LeadsTo, mark_at, LinkLeads, FrontLeads, Spreads, AreLabels, Fills}
-use Rattle.barrier_vector.proofs.Spreading.{no_both}
-use Rattle.barrier_vector.proofs.Gathering.{place_of}
-use Rattle.barrier_vector.proofs.CarriedRoots.{turn_way, join_ways}
-use Rattle.barrier_vector.proofs.Levels.{same_some, marked_or_not, marked_within, link_place, no_member}
+use Rattle.barrier_vector.proofs.Common.{◌≡◌, ℕ, zero, suc, ◌+◌, ◌<◌, ◌≤◌, ◌⊎◌, inl, inr, refl, sym, ◌∙◌, ap, subst, arith, List, [], length, Contains, Option, None, Some, All, slice_index, get_or}
+use Rattle.barrier_vector.proofs.Common.{cases_lt, Contains-get_or, Link, Entries, entries_at, link_at, IsProblem, LeadsTo, mark_at, LinkLeads, FrontLeads, Spreads, AreLabels, Fills}
+use Rattle.barrier_vector.proofs.{Spreading.no_both, Gathering.place_of, CarriedRoots.turn_way, CarriedRoots.join_ways, Levels.same_some, Levels.marked_or_not, Levels.marked_within, Levels.link_place}
+use Rattle.barrier_vector.proofs.{Levels.no_member}
 
 -- The cells filled so far are reached from c; those that aren't in the frontier have no neighbour without a label.
 pub record Filling (p : List Entries) (c : ℕ) (start labels : List (Option ℕ)) (front : List ℕ) : Type 0 where

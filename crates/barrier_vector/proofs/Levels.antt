@@ -1,12 +1,9 @@
 -- The search by levels: after k steps just the cells of a level up to k are marked, those of level k are the frontier, and each has its path.
-use Rattle.barrier_vector.proofs.Common.{◌≡◌, ℕ, zero, suc, ◌+◌, ◌<◌, ◌≤◌, ◌⊎◌, inl, inr, refl, sym, ◌∙◌, ap, subst, arith, List, [], ◌∷◌, length, Contains}
-use Rattle.barrier_vector.proofs.Common.{min, Option, None, Some, All, take, take_at, ◌++◌, slice_index, get_or, cases_lt, get_or_default, get_or_past}
-use Rattle.barrier_vector.proofs.Common.{Contains-get_or, Link, Entries, entries_at, link_at, no_link, IsProblem, LeadsTo, ceil_over, LeadsToRoot, IsLevel}
-use Rattle.barrier_vector.proofs.Common.{IsParent, SumsTo, mark_at, count_unmarked, LinkLeads, FrontLeads, Spreads, path_limit, ListRoot, IsNearest}
-use Rattle.barrier_vector.proofs.Common.{ContinuesTo, IsSearched, AreBegun}
-use Rattle.barrier_vector.proofs.Spreading.{no_both}
-use Rattle.barrier_vector.proofs.Gathering.{place_of}
-use Rattle.barrier_vector.proofs.CarriedRoots.{links_are_mutual}
+use Rattle.barrier_vector.proofs.Common.{◌≡◌, ℕ, zero, suc, ◌+◌, ◌<◌, ◌≤◌, ◌⊎◌, inl, inr, refl, sym, ◌∙◌, ap, subst, arith, List, [], ◌∷◌, length, Contains, min, Option, None, Some, All, take}
+use Rattle.barrier_vector.proofs.Common.{take_at, ◌++◌, slice_index, get_or, cases_lt, get_or_default, get_or_past, Contains-get_or, Link, Entries, entries_at, link_at, no_link, IsProblem, LeadsTo}
+use Rattle.barrier_vector.proofs.Common.{ceil_over, LeadsToRoot, IsLevel, IsParent, SumsTo, mark_at, count_unmarked, LinkLeads, FrontLeads, Spreads, path_limit, ListRoot, IsNearest, ContinuesTo}
+use Rattle.barrier_vector.proofs.Common.{IsSearched, AreBegun}
+use Rattle.barrier_vector.proofs.{Spreading.no_both, Gathering.place_of, CarriedRoots.links_are_mutual}
 
 pub record IsUpTo (p : List Entries) (q : ℕ) (own : List (Option ℕ)) (k : ℕ) (levels : List (Option ℕ)) (paths front : List ℕ) : Type 0 where
   pub levels_whole : length levels ≡ length p

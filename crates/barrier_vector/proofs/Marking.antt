@@ -1,10 +1,9 @@
 -- The outermost mark of a list, of a cell, of a problem: one entry more, and that it lies outside each mark and is a head.
-use Rattle.barrier_vector.proofs.Common.{◌≡◌, ℕ, zero, suc, ◌+◌, ◌<◌, ◌⊎◌, inl, inr, refl, sym, ◌∙◌, ap, subst, arith, List, [], ◌∷◌, length, drop}
-use Rattle.barrier_vector.proofs.Common.{at_drop_more, get_or, Contains, Option, None, Some, ℤ, pos, ◌≤ℤ◌, ◌*◌, ◌≤◌, ◌*ℤ◌, int_max, int_min, unwrap_or, ints}
-use Rattle.barrier_vector.proofs.Common.{All, clamps, Contains-get_or, Side, Low, High, All-head, All-tail, get_or_default, IsHead, IsProblem, no_entries}
-use Rattle.barrier_vector.proofs.Common.{Bounds, Entries, entries_at, if_some, fixed_mark, river_mark, drain_mark, outer_of, outermost, cell_mark, base_on}
-use Rattle.barrier_vector.proofs.Common.{bound_on, bounds_same, CellFits, FixedFits, RiverFits, DrainFits, le_trans_z, All-zip, WholeCell, FixedWithin}
-use Rattle.barrier_vector.proofs.Common.{RiverWithin, DrainWithin, CellWithin, IsDry, mul_mono_right}
+use Rattle.barrier_vector.proofs.Common.{◌≡◌, ℕ, zero, suc, ◌+◌, ◌<◌, ◌⊎◌, inl, inr, refl, sym, ◌∙◌, ap, subst, arith, List, [], ◌∷◌, length, drop, at_drop_more, get_or, Contains, Option, None, Some}
+use Rattle.barrier_vector.proofs.Common.{ℤ, pos, ◌≤ℤ◌, ◌*◌, ◌≤◌, ◌*ℤ◌, int_max, int_min, unwrap_or, ints, All, clamps, Contains-get_or, Side, Low, High, All-head, All-tail, get_or_default, IsHead}
+use Rattle.barrier_vector.proofs.Common.{IsProblem, no_entries, Bounds, Entries, entries_at, if_some, fixed_mark, river_mark, drain_mark, outer_of, outermost, cell_mark, base_on, bound_on}
+use Rattle.barrier_vector.proofs.Common.{bounds_same, CellFits, FixedFits, RiverFits, DrainFits, le_trans_z, All-zip, WholeCell, FixedWithin, RiverWithin, DrainWithin, CellWithin, IsDry}
+use Rattle.barrier_vector.proofs.Common.{mul_mono_right}
 
 pub some_at : (hi : ℕ) (v : ℤ) → 0 < hi → if_some hi v ≡ Some v
 some_at zero v h = absurd (omega arith)

@@ -1,9 +1,8 @@
 -- A problem has one barrier or one refusal, and not both.
-use Rattle.barrier_vector.proofs.Common.{◌≡◌, ℕ, suc, ◌<◌, inl, inr, refl, ◌∙◌, ap, subst, arith, List, [], ◌∷◌, length, ℤ, cases_lt, Side, Low, High, NoBound}
-use Rattle.barrier_vector.proofs.Common.{Entries, head_at, IsProblem, IsHead, number_of, IsBoundOn, HasNoBound, IsOutOfRange, LeavesRange, no_barrier_on}
-use Rattle.barrier_vector.proofs.Common.{range_on, Nowhere, IsLeastWith, Names, IsRefusedOn, BarrierExcludesRefusal, RefusalIsOne}
-use Rattle.barrier_vector.proofs.Uniques.{bound_one, has_a_bound}
-use Rattle.barrier_vector.proofs.Sides.{head_in_range}
+use Rattle.barrier_vector.proofs.Common.{◌≡◌, ℕ, suc, ◌<◌, inl, inr, refl, ◌∙◌, ap, subst, arith, List, [], ◌∷◌, length, ℤ, cases_lt, Side, Low, High, NoBound, Entries, head_at, IsProblem, IsHead}
+use Rattle.barrier_vector.proofs.Common.{number_of, IsBoundOn, HasNoBound, IsOutOfRange, LeavesRange, no_barrier_on, range_on, Nowhere, IsLeastWith, Names, IsRefusedOn, BarrierExcludesRefusal}
+use Rattle.barrier_vector.proofs.Common.{RefusalIsOne}
+use Rattle.barrier_vector.proofs.{Uniques.bound_one, Uniques.has_a_bound, Sides.head_in_range}
 
 pub same_heads : (xs ys : List ℤ) → length xs ≡ length ys → ((c : ℕ) → c < length xs → head_at xs c ≡ head_at ys c) → xs ≡ ys
 same_heads [] [] whole same = refl

@@ -1,16 +1,13 @@
 -- The outline of the first cells: one cell more, and what it is of all cells.
-use Rattle.barrier_vector.proofs.Common.{None, base_on, cell_mark, drop_all, outermost, ◌≡◌, ℕ, ◌+◌, ◌<◌, refl, sym, ◌∙◌, ap, subst, arith, List, [], ◌∷◌, ◌++◌}
-use Rattle.barrier_vector.proofs.Common.{length, sum_by, Option, slice_index, ℤ, pos, negsuc, neg_ℤ, ◌*◌, ◌≤ℤ◌, ◌+ℤ◌, ◌-ℤ◌, int_min, unsigned_abs, zero, suc}
-use Rattle.barrier_vector.proofs.Common.{unwrap_or, sum_by_more, Side, Low, Entries, entries_at, no_entries, Edges, head_at, IsHead, anchor_on, need_on}
-use Rattle.barrier_vector.proofs.Common.{capped_flow, outer_of, HasEach, AreAnchorDrops, anchor_drop, IsOutline, clamp, ClampedFits, ints, clamps, length-map}
-use Rattle.barrier_vector.proofs.Common.{map, CellFits, RiverFits, EvapFits, deep_river, deep_low, evap_flow, river_flow, flow_bound, full_rate, head_limit}
-use Rattle.barrier_vector.proofs.Common.{least, total, total-same, total_neg}
+use Rattle.barrier_vector.proofs.Common.{None, base_on, cell_mark, drop_all, outermost, ◌≡◌, ℕ, ◌+◌, ◌<◌, refl, sym, ◌∙◌, ap, subst, arith, List, [], ◌∷◌, ◌++◌, length, sum_by, Option, slice_index, ℤ}
+use Rattle.barrier_vector.proofs.Common.{pos, negsuc, neg_ℤ, ◌*◌, ◌≤ℤ◌, ◌+ℤ◌, ◌-ℤ◌, int_min, unsigned_abs, zero, suc, unwrap_or, sum_by_more, Side, Low, Entries, entries_at, no_entries, Edges}
+use Rattle.barrier_vector.proofs.Common.{head_at, IsHead, anchor_on, need_on, capped_flow, outer_of, HasEach, AreAnchorDrops, anchor_drop, IsOutline, clamp, ClampedFits, ints, clamps, length-map, map}
+use Rattle.barrier_vector.proofs.Common.{CellFits, RiverFits, EvapFits, deep_river, deep_low, evap_flow, river_flow, flow_bound, full_rate, head_limit, least, total, total-same, total_neg}
 use Rattle.step_problem.proofs.Sums.{deep_is}
 use Rattle.step_problem.specs.declared.entry.Evap.{Evap}
 use Rattle.barrier_vector.specs.{need as need_of_all}
 use Rattle.std.proofs.Math.Seq.{take-length}
-use Rattle.barrier_vector.proofs.Rooting.{each_more}
-use Rattle.barrier_vector.proofs.Marking.{marks_more, outer_none}
+use Rattle.barrier_vector.proofs.{Rooting.each_more, Marking.marks_more, Marking.outer_none}
 
 -- one cell more
 pub outline_more : (side : Side) (p : List Entries) (i : ℕ) (e : Entries) (mark o mark' : Option ℤ) (need n need' : ℕ) (anchors anchors' : List ℕ) (a : ℕ) →

@@ -1,8 +1,7 @@
 -- Lists of roots, one cell after another, and what anchors a cell.
-use Rattle.barrier_vector.proofs.Common.{◌≡◌, ℕ, zero, suc, ◌+◌, ◌<◌, ◌≤◌, inl, inr, refl, ◌∙◌, ap, subst, arith, List, [], ◌∷◌, ◌++◌, length, max, drop}
-use Rattle.barrier_vector.proofs.Common.{get_or, Contains, Option, Some, min, cases_lt, at_drop_more, Side, Low, High, Fixed, Entries, entries_at, IsProblem}
-use Rattle.barrier_vector.proofs.Common.{IsAnchored, greatest, anchor_on, mark_at, IsSearched, HasEach, anchor_drop, ceil_over, path_limit, AreLabels}
-use Rattle.barrier_vector.proofs.Common.{cases_order, get_or_append_left, get_or_push, length_push}
+use Rattle.barrier_vector.proofs.Common.{◌≡◌, ℕ, zero, suc, ◌+◌, ◌<◌, ◌≤◌, inl, inr, refl, ◌∙◌, ap, subst, arith, List, [], ◌∷◌, ◌++◌, length, max, drop, get_or, Contains, Option, Some, min, cases_lt}
+use Rattle.barrier_vector.proofs.Common.{at_drop_more, Side, Low, High, Fixed, Entries, entries_at, IsProblem, IsAnchored, greatest, anchor_on, mark_at, IsSearched, HasEach, anchor_drop, ceil_over}
+use Rattle.barrier_vector.proofs.Common.{path_limit, AreLabels, cases_order, get_or_append_left, get_or_push, length_push}
 use Rattle.barrier_vector.proofs.CarriedRoots.{reaches_within, turn_way}
 
 -- one place more

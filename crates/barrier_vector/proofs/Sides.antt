@@ -1,14 +1,10 @@
 -- One side of a barrier, or its refusal, from the bounds of the cells.
-use Rattle.barrier_vector.proofs.Common.{base_on, ◌≡◌, ℕ, ◌<◌, ◌⊎◌, inl, inr, refl, sym, ◌∙◌, subst, arith, List, length, Option, None, Some, ℤ, pos, neg_ℤ}
-use Rattle.barrier_vector.proofs.Common.{get_or-map, length-map, unwrap_or, ap, ints, clamps, by_lt_z, Side, Low, High, NoBound, number_of, Entries, IsProblem}
-use Rattle.barrier_vector.proofs.Common.{IsHead, head_limit, head_at, Bounds, IsUnanchored, IsBoundOn, HasNoBound, IsOutOfRange, LeavesRange, no_barrier_on}
-use Rattle.barrier_vector.proofs.Common.{range_on, Nowhere, Names, IsRefusedOn, IsRefused, cut_on, bound_at, IsBoundOrNone, AreBounds, IsFirst, IsMissing}
-use Rattle.barrier_vector.proofs.Common.{LiesOut, AreHeadsOf, IsCutBoundOn, AreCutBounds, RefusesOn, IsWholeSide, IsFaultOn, IsCutFaultOn, BoundFault, Memory}
-use Rattle.barrier_vector.proofs.Common.{HasStorage, IsNotForLackOfAnchors}
+use Rattle.barrier_vector.proofs.Common.{base_on, ◌≡◌, ℕ, ◌<◌, ◌⊎◌, inl, inr, refl, sym, ◌∙◌, subst, arith, List, length, Option, None, Some, ℤ, pos, neg_ℤ, get_or-map, length-map, unwrap_or, ap}
+use Rattle.barrier_vector.proofs.Common.{ints, clamps, by_lt_z, Side, Low, High, NoBound, number_of, Entries, IsProblem, IsHead, head_limit, head_at, Bounds, IsUnanchored, IsBoundOn, HasNoBound}
+use Rattle.barrier_vector.proofs.Common.{IsOutOfRange, LeavesRange, no_barrier_on, range_on, Nowhere, Names, IsRefusedOn, IsRefused, cut_on, bound_at, IsBoundOrNone, AreBounds, IsFirst, IsMissing}
+use Rattle.barrier_vector.proofs.Common.{LiesOut, AreHeadsOf, IsCutBoundOn, AreCutBounds, RefusesOn, IsWholeSide, IsFaultOn, IsCutFaultOn, BoundFault, Memory, HasStorage, IsNotForLackOfAnchors}
 use Rattle.step_problem.specs.declared.refusal.BoundFault.TheVariants.{NoBound as AFault}
-use Rattle.barrier_vector.proofs.Rooting.{anchors}
-use Rattle.barrier_vector.proofs.Marking.{base_head}
-use Rattle.barrier_vector.proofs.Uniques.{bound_one, has_a_bound}
+use Rattle.barrier_vector.proofs.{Rooting.anchors, Marking.base_head, Uniques.bound_one, Uniques.has_a_bound}
 
 some_or_none : (o : Option ℤ) → (o ≡ None) ⊎ ((v : ℤ) × (o ≡ Some v))
 some_or_none None = inl refl

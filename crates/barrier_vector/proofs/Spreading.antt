@@ -1,8 +1,7 @@
 -- One mark, and one step of a search after another.
-use Rattle.barrier_vector.proofs.Common.{◌≡◌, ℕ, zero, suc, ◌+◌, ◌<◌, ◌⊎◌, inl, inr, refl, sym, ◌∙◌, ap, subst, arith, List, [], ◌∷◌, ◌++◌, length}
-use Rattle.barrier_vector.proofs.Common.{length-append, Contains, Option, None, Some, Bool, true, false, not, set, slice_index, get_or-set_same}
-use Rattle.barrier_vector.proofs.Common.{get_or-set_other, is_some, cases_eq, cases_lt, length-set, Contains-push, Contains-push_cases, Contains-append_left}
-use Rattle.barrier_vector.proofs.Common.{Link, Entries, entries_at, link_at, mark_at, count_unmarked, LinkLeads, FrontLeads, Spreads}
+use Rattle.barrier_vector.proofs.Common.{◌≡◌, ℕ, zero, suc, ◌+◌, ◌<◌, ◌⊎◌, inl, inr, refl, sym, ◌∙◌, ap, subst, arith, List, [], ◌∷◌, ◌++◌, length, length-append, Contains, Option, None, Some, Bool}
+use Rattle.barrier_vector.proofs.Common.{true, false, not, set, slice_index, get_or-set_same, get_or-set_other, is_some, cases_eq, cases_lt, length-set, Contains-push, Contains-push_cases}
+use Rattle.barrier_vector.proofs.Common.{Contains-append_left, Link, Entries, entries_at, link_at, mark_at, count_unmarked, LinkLeads, FrontLeads, Spreads}
 
 pub no_both : (o : Option ℕ) (m : ℕ) → o ≡ None → o ≡ Some m → ⊥
 no_both o m e f = cc

@@ -1,9 +1,7 @@
 -- What a search begins with, one cell after another.
-use Rattle.barrier_vector.proofs.Common.{◌≡◌, ℕ, zero, suc, ◌+◌, ◌<◌, ◌⊎◌, inl, inr, refl, sym, ◌∙◌, ap, subst, arith, List, [], length, min, Option, None}
-use Rattle.barrier_vector.proofs.Common.{Some, cases_eq, cases_lt, mark_at, path_limit, AreBegun, Spreads, set, get_or-set_same, get_or-set_other, length-set}
-use Rattle.barrier_vector.proofs.Common.{replicate, count_unmarked}
-use Rattle.barrier_vector.proofs.Spreading.{no_both, spread_as, spread_then}
-use Rattle.barrier_vector.proofs.Levels.{same_some}
+use Rattle.barrier_vector.proofs.Common.{◌≡◌, ℕ, zero, suc, ◌+◌, ◌<◌, ◌⊎◌, inl, inr, refl, sym, ◌∙◌, ap, subst, arith, List, [], length, min, Option, None, Some, cases_eq, cases_lt, mark_at}
+use Rattle.barrier_vector.proofs.Common.{path_limit, AreBegun, Spreads, set, get_or-set_same, get_or-set_other, length-set, replicate, count_unmarked}
+use Rattle.barrier_vector.proofs.{Spreading.no_both, Spreading.spread_as, Spreading.spread_then, Levels.same_some}
 
 -- The roots of a list, one after another.
 abbrev RootBelow : List (Option ℕ) → ℕ → ℕ → Type 0

@@ -1,15 +1,9 @@
 -- Levels, parents, paths, floors and ceilings are each one number.
-use Rattle.barrier_vector.proofs.Common.{base_on, ◌≡◌, ℕ, zero, suc, ◌+◌, inl, inr, sym, ◌∙◌, ap, subst, arith, List, Contains, ℤ, pos, ◌-ℤ◌, ◌<◌, refl, length}
-use Rattle.barrier_vector.proofs.Common.{min, All, IsSome, Option, None, Some, Bool, true, false, slice_index, cases_lt, Side, Low, High, Link, Entries}
-use Rattle.barrier_vector.proofs.Common.{entries_at, link_at, IsProblem, IsHead, need, ceil_over, SumsTo, IsPath, AnchorRoot, LeastRoot, IsAnchorPath}
-use Rattle.barrier_vector.proofs.Common.{IsInnerPath, IsLongest, IsUnanchored, moved_out, IsAnchoredBound, IsCarriedFloor, IsBoundOn, HasNoBound, capped_flow}
-use Rattle.barrier_vector.proofs.Common.{anchor_on, mark_at, path_limit, IsSearched, AreAnchorDrops, AreAnchorPaths, cut_on, IsAnchoredOrNone, IsBoundOrNone}
-use Rattle.barrier_vector.proofs.Common.{bound_at, AreBounds, ints, clamps}
-use Rattle.barrier_vector.proofs.Rooting.{drop_of}
-use Rattle.barrier_vector.proofs.CarriedRoots.{has_links, reaches_within}
-use Rattle.barrier_vector.proofs.Levels.{link_place, one_level}
-use Rattle.barrier_vector.proofs.Marking.{base_head}
-use Rattle.barrier_vector.proofs.CappedFlows.{whole_anchor_path}
+use Rattle.barrier_vector.proofs.Common.{base_on, ◌≡◌, ℕ, zero, suc, ◌+◌, inl, inr, sym, ◌∙◌, ap, subst, arith, List, Contains, ℤ, pos, ◌-ℤ◌, ◌<◌, refl, length, min, All, IsSome, Option, None, Some}
+use Rattle.barrier_vector.proofs.Common.{Bool, true, false, slice_index, cases_lt, Side, Low, High, Link, Entries, entries_at, link_at, IsProblem, IsHead, need, ceil_over, SumsTo, IsPath, AnchorRoot}
+use Rattle.barrier_vector.proofs.Common.{LeastRoot, IsAnchorPath, IsInnerPath, IsLongest, IsUnanchored, moved_out, IsAnchoredBound, IsCarriedFloor, IsBoundOn, HasNoBound, capped_flow, anchor_on}
+use Rattle.barrier_vector.proofs.Common.{mark_at, path_limit, IsSearched, AreAnchorDrops, AreAnchorPaths, cut_on, IsAnchoredOrNone, IsBoundOrNone, bound_at, AreBounds, ints, clamps}
+use Rattle.barrier_vector.proofs.{Rooting.drop_of, CarriedRoots.has_links, CarriedRoots.reaches_within, Levels.link_place, Levels.one_level, Marking.base_head, CappedFlows.whole_anchor_path}
 
 -- links of a cell that lead to one cell are one link
 one_link : (p : List Entries) → IsProblem p → (c : ℕ) (x z : Link) → Contains (entries_at p c).links x → Contains (entries_at p c).links z → x.cell ≡ z.cell → x ≡ z

@@ -1,8 +1,6 @@
 -- Whether links lead from one cell of a problem to another is decided: by ways through ever more cells.
-use Rattle.barrier_vector.proofs.Common.{◌≡◌, ℕ, zero, suc, ◌<◌, ◌⊎◌, inl, inr, refl, subst, arith, List, length, Contains, cases_eq, Link, IsProblem, Entries}
-use Rattle.barrier_vector.proofs.Common.{entries_at, LeadsTo}
-use Rattle.barrier_vector.proofs.CarriedRoots.{leads_within, join_ways}
-use Rattle.barrier_vector.proofs.Decided.{Decided, any_of}
+use Rattle.barrier_vector.proofs.Common.{◌≡◌, ℕ, zero, suc, ◌<◌, ◌⊎◌, inl, inr, refl, subst, arith, List, length, Contains, cases_eq, Link, IsProblem, Entries, entries_at, LeadsTo}
+use Rattle.barrier_vector.proofs.{CarriedRoots.leads_within, CarriedRoots.join_ways, Decided.Decided, Decided.any_of}
 
 -- links lead from cell a to cell b, and cells below k alone lie between them
 abbrev Through : List Entries → ℕ → ℕ → ℕ → Type 0

@@ -1,10 +1,7 @@
 -- The barrier of a problem, and that a problem has one barrier or one refusal.
 use Rattle.std.specs.Prelude.{◌≡◌, ℕ, ◌<◌, List, length, ◌^◌, ℤ, pos, ◌*ℤ◌, ◌≤ℤ◌}
-use Rattle.step_problem.specs.declared.place.NoBound.{NoBound}
-use Rattle.step_problem.specs.Entries.{Entries}
-use Rattle.step_problem.specs.{IsProblem, Edges, head_at, IsBarrier}
-use Rattle.barrier_vector.specs.Bounds.{IsCellFloor, IsCellCeiling}
-use Rattle.barrier_vector.specs.Cuts.{IsRefused, IsCutBarrierOf, IsUnbounded, clamped_edges}
+use Rattle.step_problem.specs.{declared.place.NoBound.NoBound, Entries.Entries, IsProblem, Edges, head_at, IsBarrier}
+use Rattle.barrier_vector.specs.{Bounds.IsCellFloor, Bounds.IsCellCeiling, Cuts.IsRefused, Cuts.IsCutBarrierOf, Cuts.IsUnbounded, Cuts.clamped_edges}
 use Rattle.cell_balance.specs.{ExactCell, SolvesStep, EnclosesStep, IsHeldBelow}
 
 -- b is the barrier of the problem: the floor and the ceiling of each cell, all of them heads

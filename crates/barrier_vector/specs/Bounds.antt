@@ -1,12 +1,9 @@
 -- The floor and the ceiling of a cell, by the base of its side and its path to an anchor.
 use Rattle.std.specs.Prelude.{◌≡◌, ℕ, ◌+◌, ◌<◌, ◌≤◌, ◌⊎◌, List, [], ◌∷◌, length, max, ℤ, pos, ◌+ℤ◌, ◌-ℤ◌, zero, suc, ◌-◌, ◌/◌, Contains}
-use Rattle.step_problem.specs.declared.heads.Side.{Side}
-use Rattle.step_problem.specs.declared.heads.Side.TheVariants.{Low, High}
-use Rattle.step_problem.specs.Entries.{Entries}
-use Rattle.step_problem.specs.{entries_at}
+use Rattle.step_problem.specs.{declared.heads.Side.Side, declared.heads.Side.TheVariants.Low, declared.heads.Side.TheVariants.High, Entries.Entries, entries_at}
+use Rattle.step_problem.specs.{declared.entry.Link.Link}
 use Rattle.cell_balance.specs.{LeadsTo, IsCarried}
 use Rattle.barrier_vector.specs.Marks.{base_on, need}
-use Rattle.step_problem.specs.declared.entry.Link.{Link}
 
 -- Paths along the branches of a problem to its roots, which are the cells that bound the others, and the drops of head on them. Each branch carries at most q.
 -- the least whole number not below q / lo

@@ -1,20 +1,15 @@
 -- The cut barrier: a floor or a ceiling out of the range of heads counts as a unit outside the range, and is no cause of a refusal.
 use Rattle.std.specs.Prelude.{◌≡◌, ℕ, ◌+◌, ◌<◌, ◌^◌, ◌⊎◌, List, length, map, ℤ, pos, neg_ℤ, ◌*ℤ◌, ◌≤ℤ◌, ◌<ℤ◌, Contains}
 use Rattle.std.specs.Int.{int_max, int_min}
-use Rattle.step_problem.specs.declared.heads.Side.{Side}
-use Rattle.step_problem.specs.declared.heads.Side.TheVariants.{Low, High}
-use Rattle.step_problem.specs.declared.place.NoBound.{NoBound}
-use Rattle.step_problem.specs.declared.refusal.StepRefusal.{StepRefusal}
-use Rattle.step_problem.specs.{number_of, head_limit, Edges, head_at, entries_at, bound_on}
-use Rattle.step_problem.specs.Entries.{Entries}
+use Rattle.step_problem.specs.{declared.heads.Side.Side, declared.heads.Side.TheVariants.Low, declared.heads.Side.TheVariants.High}
+use Rattle.step_problem.specs.{declared.place.NoBound.NoBound, declared.refusal.StepRefusal.StepRefusal, number_of, head_limit, Edges, head_at, entries_at}
+use Rattle.step_problem.specs.{bound_on, Entries.Entries, declared.refusal.BoundFault.BoundFault, declared.refusal.BoundFault.TheVariants.NoBound as IsNoBound}
+use Rattle.step_problem.specs.{declared.refusal.BoundFault.TheVariants.Memory, declared.place.Place.TheVariants.Cell}
+use Rattle.step_problem.specs.{declared.refusal.StepRefusal.TheVariants.NoBarrierLow, declared.refusal.StepRefusal.TheVariants.NoBarrierHigh}
+use Rattle.step_problem.specs.{declared.refusal.StepRefusal.TheVariants.RangeLow, declared.refusal.StepRefusal.TheVariants.RangeHigh}
+use Rattle.step_problem.specs.{declared.entry.Fixed.Fixed, declared.entry.FixedKind.TheVariants.Storage}
 use Rattle.cell_balance.specs.{ExactCell, EnclosesStep, SolvesStep, IsCarried}
 use Rattle.barrier_vector.specs.Bounds.{IsBoundOn, IsUnanchored}
-use Rattle.step_problem.specs.declared.refusal.BoundFault.{BoundFault}
-use Rattle.step_problem.specs.declared.refusal.BoundFault.TheVariants.{NoBound as IsNoBound, Memory}
-use Rattle.step_problem.specs.declared.place.Place.TheVariants.{Cell}
-use Rattle.step_problem.specs.declared.refusal.StepRefusal.TheVariants.{NoBarrierLow, NoBarrierHigh, RangeLow, RangeHigh}
-use Rattle.step_problem.specs.declared.entry.Fixed.{Fixed}
-use Rattle.step_problem.specs.declared.entry.FixedKind.TheVariants.{Storage}
 
 -- Why a problem has no barrier: four causes, tried in this order.
 -- NoBarrierLow: the component of cell c is neither anchored nor carried.

@@ -1,14 +1,8 @@
 -- The base of each side: the outermost of the known heads, stages, bottoms and elevations of a problem that may conduct.
 use Rattle.std.specs.Prelude.{ℕ, zero, suc, List, [], ◌∷◌, Option, None, Some, ℤ, pos, ◌^◌, min, sum_by}
-use Rattle.std.specs.Int.{int_max, int_min}
-use Rattle.std.specs.Option.{unwrap_or}
-use Rattle.step_problem.specs.declared.heads.Side.{Side}
-use Rattle.step_problem.specs.declared.heads.Side.TheVariants.{Low, High}
-use Rattle.step_problem.specs.declared.entry.Fixed.{Fixed}
-use Rattle.step_problem.specs.declared.entry.River.{River}
-use Rattle.step_problem.specs.declared.entry.Drain.{Drain}
-use Rattle.step_problem.specs.Entries.{Entries}
-use Rattle.step_problem.specs.{bound_on, total}
+use Rattle.std.specs.{Int.int_max, Int.int_min, Option.unwrap_or}
+use Rattle.step_problem.specs.{declared.heads.Side.Side, declared.heads.Side.TheVariants.Low, declared.heads.Side.TheVariants.High, declared.entry.Fixed.Fixed}
+use Rattle.step_problem.specs.{declared.entry.River.River, declared.entry.Drain.Drain, Entries.Entries, bound_on, total}
 use Rattle.cell_balance.specs.{deep_low}
 use Rattle.decimal_input.specs.{down, up}
 

@@ -2,17 +2,14 @@
 use Rattle.std.specs.Prelude.{MatchOption, ◌≡◌, ℕ, ◌<◌, List, length, min, Option, None, Some, slice_index, slice_index_or, ℤ, pos, zero, suc, cond, drop, take}
 use Rattle.std.specs.Prelude.{map, sum_by}
 use Rattle.std.specs.Option.{unwrap_or}
-use Rattle.step_problem.specs.declared.heads.Side.{Side}
-use Rattle.step_problem.specs.Entries.{Entries}
-use Rattle.step_problem.specs.{entries_at, IsHead, head_at}
+use Rattle.step_problem.specs.{declared.heads.Side.Side, Entries.Entries, entries_at, IsHead, head_at, declared.refusal.BoundFault.BoundFault}
+use Rattle.step_problem.specs.{declared.refusal.BoundFault.TheVariants.NoBound, declared.refusal.BoundFault.TheVariants.Memory}
 use Rattle.cell_balance.specs.{sum_inside, deep_low}
 use Rattle.barrier_vector.specs.Bounds.{IsAnchorPath, IsInnerPath, IsUnanchored, IsAnchoredBound, ceil_over, IsBoundOn, anchor_on}
 use Rattle.barrier_vector.specs.Cuts.{HasNoBound, IsOutOfRange, LeavesRange, no_barrier_on, Nowhere, IsRefusedOn, cut_on, IsCutBoundOn, RefusesOn}
 use Rattle.barrier_vector.specs.Searches.{mark_at, path_limit, AreLabels, HasEach, is_label, has_label, sum_at, longest_at, greatest_inside}
 use Rattle.barrier_vector.specs.Marks.{cell_mark, outer_of, outermost, need_on, capped_flow}
 use Rattle.barrier_vector.specs.declared.gathered.Total.{Total}
-use Rattle.step_problem.specs.declared.refusal.BoundFault.{BoundFault}
-use Rattle.step_problem.specs.declared.refusal.BoundFault.TheVariants.{NoBound, Memory}
 
 -- the own drop of a root by its greatest anchor; None where that is 0
 abbrev pub anchor_drop : ℕ → ℕ → Option ℕ

@@ -1,12 +1,9 @@
 -- What a search by levels finds: how far each cell lies from the roots, and its path, cut off at a limit.
 use Rattle.std.specs.Prelude.{◌≡◌, ℕ, ◌+◌, ◌<◌, ◌≤◌, ◌⊎◌, List, length, Contains, min, Option, None, Some, slice_index, suc, [], ◌∷◌, slice_index_or, ◌^◌, Bool}
 use Rattle.std.specs.Prelude.{false, nat_eq, ℤ, pos, ◌+ℤ◌, ◌*ℤ◌, max, cond, zero}
-use Rattle.step_problem.specs.declared.entry.Link.{Link}
-use Rattle.step_problem.specs.Entries.{Entries}
-use Rattle.step_problem.specs.{entries_at, link_at}
-use Rattle.barrier_vector.specs.Bounds.{ceil_over, LeadsToRoot, IsPath}
+use Rattle.step_problem.specs.{declared.entry.Link.Link, Entries.Entries, entries_at, link_at}
+use Rattle.barrier_vector.specs.{Bounds.ceil_over, Bounds.LeadsToRoot, Bounds.IsPath, declared.gathered.Total.Total}
 use Rattle.cell_balance.specs.{LeadsTo}
-use Rattle.barrier_vector.specs.declared.gathered.Total.{Total}
 
 -- What a list has at each of its n places; d stands past its end.
 pub record HasEach {X : Type 0} (d : X) (Is : ℕ → X → Type 0) (n : ℕ) (xs : List X) : Type 0 where

@@ -1,10 +1,8 @@
 -- What a file of the basic package gives.
-use Rattle.bas_package.proofs.Common.{◌≡◌, ℕ, List, All, length, refl, FileSet, left_from, without_comments, ok_gives_only, goes_on, then_, head_item}
-use Rattle.bas_package.proofs.Common.{basics_of, bas_of, option_line, HasBasics, GivesOnly}
+use Rattle.bas_package.proofs.Common.{◌≡◌, ℕ, List, All, length, refl, FileSet, left_from, without_comments, ok_gives_only, goes_on, then_, head_item, basics_of, bas_of, option_line, HasBasics}
+use Rattle.bas_package.proofs.Common.{GivesOnly}
 use Rattle.decimal_input.specs.{IsDec}
-use Rattle.model_types.specs.{cell_count}
-use Rattle.model_types.specs.declared.grid.Grid.{Grid}
-use Rattle.model_types.specs.declared.model.FlowModel.{FlowModel}
+use Rattle.model_types.specs.{cell_count, declared.grid.Grid.Grid, declared.model.FlowModel.FlowModel}
 use Rattle.array_text.proofs.ArrayForms.{array_files_have_form}
 
 module _ (files : FileSet) (file bytes : List ℕ) where

@@ -1,6 +1,6 @@
 -- The line of options and HNOFLO leave lines that they were given.
-use Rattle.bas_package.proofs.Common.{LineMay, LinesMay, line_held, rest_has_its_lines, Left, Numbered, GivesOnly, ◌≡◌, ℕ, List, Ok, All, words, is_in_profile}
-use Rattle.bas_package.proofs.Common.{option_line, head_item, ok_gives_only, goes_on, if_passed, then_}
+use Rattle.bas_package.proofs.Common.{LineMay, LinesMay, line_held, rest_has_its_lines, Left, Numbered, GivesOnly, ◌≡◌, ℕ, List, Ok, All, words, is_in_profile, option_line, head_item, ok_gives_only}
+use Rattle.bas_package.proofs.Common.{goes_on, if_passed, then_}
 use Rattle.array_reader.specs.{number_at, number}
 
 module _ (P : Numbered → Type 0) (file : List ℕ) where

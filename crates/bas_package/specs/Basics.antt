@@ -1,16 +1,11 @@
 -- A file of the basic package: options, IBOUND, HNOFLO, STRT (TM 6-A16, BAS6).
 use Rattle.std.specs.Prelude.{◌≡◌, ℕ, ℤ, List, All, length, Bool, not, ◌&&◌, Result, Ok, Err, if◌then◌else◌, codes}
 use Rattle.std.specs.List.{list_any}
-use Rattle.decimal_input.specs.declared.dec.Dec.{Dec}
-use Rattle.decimal_input.specs.{IsDec}
-use Rattle.outside.specs.{FileSet, refusal, words}
-use Rattle.outside.specs.declared.codes.Code.TheVariants.{OutOfProfile}
-use Rattle.outside.specs.declared.inputs.Refusal.{Refusal}
+use Rattle.decimal_input.specs.{declared.dec.Dec.Dec, IsDec}
+use Rattle.outside.specs.{FileSet, refusal, words, declared.codes.Code.TheVariants.OutOfProfile, declared.inputs.Refusal.Refusal}
 use Rattle.record_lines.specs.{is_word, line_at, Left, left_from, without_comments, ◌>>=◌}
 use Rattle.array_reader.specs.{layers, number_at, real, whole, number}
-use Rattle.model_types.specs.declared.grid.Grid.{Grid}
-use Rattle.model_types.specs.{cell_count}
-use Rattle.model_types.specs.declared.model.FlowModel.{FlowModel}
+use Rattle.model_types.specs.{declared.grid.Grid.Grid, cell_count, declared.model.FlowModel.FlowModel}
 
 -- free format, and neither of the options XSECTION and CHTOCH, in any letter case
 abbrev pub is_in_profile : List (List ℕ) → Bool

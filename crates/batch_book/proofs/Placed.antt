@@ -1,8 +1,7 @@
 -- Ends in their places.
-use Rattle.batch_book.proofs.Common.{◌≡◌, ℕ, zero, suc, ◌+◌, ◌-◌, ◌<◌, List, [], ◌∷◌, ◌++◌, length, refl, sym, ap, ◌∙◌, subst, get_or, false, true≢false, inl}
-use Rattle.batch_book.proofs.Common.{inr, arith, IfSome, is_none, slice_get, end_at, first_of, AreOwn, HasEnd, IsPut, IsMissing, AreJobEnds, those_there, Some}
-use Rattle.std.proofs.lemmas.Bool.{cases_eq, cases_lt}
-use Rattle.std.proofs.lemmas.List.{append-nil, get_or_read}
+use Rattle.batch_book.proofs.Common.{◌≡◌, ℕ, zero, suc, ◌+◌, ◌-◌, ◌<◌, List, [], ◌∷◌, ◌++◌, length, refl, sym, ap, ◌∙◌, subst, get_or, false, true≢false, inl, inr, arith, IfSome, is_none, slice_get}
+use Rattle.batch_book.proofs.Common.{end_at, first_of, AreOwn, HasEnd, IsPut, IsMissing, AreJobEnds, those_there, Some}
+use Rattle.std.proofs.{lemmas.Bool.cases_eq, lemmas.Bool.cases_lt, lemmas.List.append-nil, lemmas.List.get_or_read}
 use Rattle.std.specs.Prelude.{Option, None}
 
 some_of : {E : Type 0} (x : Option E) → is_none x ≡ false → (e : E) × (x ≡ Some e)

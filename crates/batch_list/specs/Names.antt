@@ -1,9 +1,8 @@
 -- The list of a batch: the first word of a line is the name of a name file.
 use Rattle.std.specs.Prelude.{ℕ, List, [], ◌∷◌, ◌++◌, length, map, Option, None, Some, Result, Ok, Err, nat_lt, if◌then◌else◌}
 use Rattle.std.specs.List.{filter_map, enumerate_from}
-use Rattle.outside.specs.{is_good_name, words, refusal}
-use Rattle.outside.specs.declared.codes.Code.TheVariants.{BadName, TooManyEntries}
-use Rattle.outside.specs.declared.inputs.Refusal.{Refusal}
+use Rattle.outside.specs.{is_good_name, words, refusal, declared.codes.Code.TheVariants.BadName, declared.codes.Code.TheVariants.TooManyEntries}
+use Rattle.outside.specs.{declared.inputs.Refusal.Refusal}
 use Rattle.record_lines.specs.{Numbered, is_comment, left_from}
 
 -- A word where a name is due, and the number of its line.

@@ -1,10 +1,8 @@
 -- Sums of parts, and sums that stand still at the limit.
-use Rattle.budget_bounds.proofs.Common.{◌≡◌, ℕ, ◌+◌, ◌<◌, ◌≤◌, Bool, true, false, cond, refl, sym, ap, ◌∙◌, arith, List, [], ◌∷◌, length, get_or, drop, map}
-use Rattle.budget_bounds.proofs.Common.{add-one, drop-cons, ℤ, pos, neg_ℤ, ◌+ℤ◌, ◌≤ℤ◌, filter, ints, clamps, Dir, In, Out, sum_below, TermPair, part, parts}
-use Rattle.budget_bounds.proofs.Common.{term_limit, IsSum, capped_term, plus_pair, all_terms, budget_of, term_of, term_pair, terms_of, sum_of, term_or_refusal}
-use Rattle.budget_bounds.proofs.Common.{tested_terms, tested_budget, singles, drop_all, Term, Entries, entries_at}
-use Rattle.std.specs.Int.{int_min, int_max}
-use Rattle.std.specs.Int.Signed.{lt_z}
+use Rattle.budget_bounds.proofs.Common.{◌≡◌, ℕ, ◌+◌, ◌<◌, ◌≤◌, Bool, true, false, cond, refl, sym, ap, ◌∙◌, arith, List, [], ◌∷◌, length, get_or, drop, map, add-one, drop-cons, ℤ, pos, neg_ℤ, ◌+ℤ◌}
+use Rattle.budget_bounds.proofs.Common.{◌≤ℤ◌, filter, ints, clamps, Dir, In, Out, sum_below, TermPair, part, parts, term_limit, IsSum, capped_term, plus_pair, all_terms, budget_of, term_of, term_pair}
+use Rattle.budget_bounds.proofs.Common.{terms_of, sum_of, term_or_refusal, tested_terms, tested_budget, singles, drop_all, Term, Entries, entries_at}
+use Rattle.std.specs.{Int.int_min, Int.int_max, Int.Signed.lt_z}
 
 pub filter_all : {X : Type 0} (xs : List X) → filter (λ x. true) xs ≡ xs
 filter_all [] = refl

@@ -1,8 +1,7 @@
 -- The flows of a cell's entries, list by list, are the single flows of each term; so each sum gains those of its term.
-use Rattle.budget_bounds.proofs.Common.{◌≡◌, ◌+ℤ◌, refl, sym, ap, ◌∙◌, arith, false, List, [], ◌∷◌, map, ℤ, pos, ints, filter, Fixed, Flow, Dir, Term, Storage}
-use Rattle.budget_bounds.proofs.Common.{ConstantHead, Wells, Drains, RiverLeakage, HeadDepBounds, Recharge, Et, Entries, TermPair, singles, parts, part}
-use Rattle.budget_bounds.proofs.Common.{fixed_term, flow_term, is_term, flow_pair, capped_term, plus_pair, fixed_of, entry_pair, flows_of, ◌++◌, append-nil}
-use Rattle.budget_bounds.proofs.Common.{FixedKind, FlowKind}
+use Rattle.budget_bounds.proofs.Common.{◌≡◌, ◌+ℤ◌, refl, sym, ap, ◌∙◌, arith, false, List, [], ◌∷◌, map, ℤ, pos, ints, filter, Fixed, Flow, Dir, Term, Storage, ConstantHead, Wells, Drains}
+use Rattle.budget_bounds.proofs.Common.{RiverLeakage, HeadDepBounds, Recharge, Et, Entries, TermPair, singles, parts, part, fixed_term, flow_term, is_term, flow_pair, capped_term, plus_pair, fixed_of}
+use Rattle.budget_bounds.proofs.Common.{entry_pair, flows_of, ◌++◌, append-nil, FixedKind, FlowKind}
 use Rattle.budget_bounds.proofs.Caps.{capped_twice, filter_all, parts_lo, parts_hi}
 use Rattle.step_problem.specs.{drain_flow as drain_bound, evap_flow as evap_bound, fixed_flow as fixed_bound, river_flow as river_bound}
 use Rattle.step_problem.specs.declared.entry.FixedKind.TheVariants as kinds

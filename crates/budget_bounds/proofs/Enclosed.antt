@@ -1,23 +1,17 @@
 -- The bounds of each term enclose its exact value.
-use Rattle.budget_bounds.proofs.Common.{◌≡◌, ℕ, suc, ◌+◌, ◌-◌, ap, subst, arith, List, length, map, ℤ, zero, ◌<◌, refl, sym, ◌∙◌, Bool, true, false, [], ◌∷◌}
-use Rattle.budget_bounds.proofs.Common.{get_or, AllZip, filter, Fixed, Flow, Dir, In, Out, Term, Storage, ConstantHead, Wells, Drains, RiverLeakage}
-use Rattle.budget_bounds.proofs.Common.{HeadDepBounds, Recharge, Et, Entries, entries_at, no_entries, TermPair, fixed_term, flow_term, is_term, part, singles}
-use Rattle.budget_bounds.proofs.Common.{flow_pair, parts, term_pair, AreWithin, HeadsAreWithin, exact_part, entry_pair, exact_singles, exact_term, place_of}
-use Rattle.budget_bounds.proofs.Common.{◌>>=◌, all_terms, bounds_in, budget_of, is_small, no_pair, term_of, terms_of, too_large, EnclosesBudgets, CoverEncloses}
-use Rattle.budget_bounds.proofs.Common.{ReachesAsFar, total_below, ExactFlow, ExactFixed, ExactCell, cell_at, no_cell, fixed_flow, river_flow, drain_flow}
-use Rattle.budget_bounds.proofs.Common.{evap_flow, FlowEncloses, FixedEncloses, RiverEncloses, DrainEncloses, EvapEncloses, CellEncloses, EnclosesStep}
-use Rattle.budget_bounds.proofs.Common.{FixedKind, FlowKind}
-use Rattle.decimal_input.specs.{Fraction, fraction_total, EnclosesSigned}
-use Rattle.cell_balance.proofs.EntryBounds.{bounds_hold}
-use Rattle.cell_balance.proofs.Zips.{AllZip-at, AllZip-length}
-use Rattle.cell_balance.proofs.Enclosing.{in_encloses, out_encloses, total_encloses, below_encloses, AllZip-filter, AllZip-map}
+use Rattle.budget_bounds.proofs.Common.{◌≡◌, ℕ, suc, ◌+◌, ◌-◌, ap, subst, arith, List, length, map, ℤ, zero, ◌<◌, refl, sym, ◌∙◌, Bool, true, false, [], ◌∷◌, get_or, AllZip, filter, Fixed, Flow, Dir}
+use Rattle.budget_bounds.proofs.Common.{In, Out, Term, Storage, ConstantHead, Wells, Drains, RiverLeakage, HeadDepBounds, Recharge, Et, Entries, entries_at, no_entries, TermPair, fixed_term}
+use Rattle.budget_bounds.proofs.Common.{flow_term, is_term, part, singles, flow_pair, parts, term_pair, AreWithin, HeadsAreWithin, exact_part, entry_pair, exact_singles, exact_term, place_of, ◌>>=◌}
+use Rattle.budget_bounds.proofs.Common.{all_terms, bounds_in, budget_of, is_small, no_pair, term_of, terms_of, too_large, EnclosesBudgets, CoverEncloses, ReachesAsFar, total_below, ExactFlow}
+use Rattle.budget_bounds.proofs.Common.{ExactFixed, ExactCell, cell_at, no_cell, fixed_flow, river_flow, drain_flow, evap_flow, FlowEncloses, FixedEncloses, RiverEncloses, DrainEncloses, EvapEncloses}
+use Rattle.budget_bounds.proofs.Common.{CellEncloses, EnclosesStep, FixedKind, FlowKind}
+use Rattle.decimal_input.specs.{Fraction, fraction_total, EnclosesSigned, Fractions.den}
+use Rattle.cell_balance.proofs.{EntryBounds.bounds_hold, Zips.AllZip-at, Zips.AllZip-length, Enclosing.in_encloses, Enclosing.out_encloses, Enclosing.total_encloses, Enclosing.below_encloses}
+use Rattle.cell_balance.proofs.{Enclosing.AllZip-filter, Enclosing.AllZip-map, Deep.le_trans_z}
 use Rattle.budget_bounds.specs.declared.pair.Budget.{Budget}
 use Rattle.std.specs.Prelude.{Result, Ok, Err, if◌then◌else◌, IfOk}
-use Rattle.step_problem.specs.declared.place.NoBound.{NoBound}
-use Rattle.decimal_input.specs.Fractions.{den}
+use Rattle.step_problem.specs.{declared.place.NoBound.NoBound, drain_flow as drain_bound, evap_flow as evap_bound, fixed_flow as fixed_bound, river_flow as river_bound}
 use Rattle.decimal_input.proofs.FloorLaws.{mul_mono_right}
-use Rattle.cell_balance.proofs.Deep.{le_trans_z}
-use Rattle.step_problem.specs.{drain_flow as drain_bound, evap_flow as evap_bound, fixed_flow as fixed_bound, river_flow as river_bound}
 
 part_encloses : (dir : Dir) (k : ℕ) (x : TermPair) (f : Fraction) → EnclosesSigned x.lo x.hi k f → EnclosesSigned (part dir x).lo (part dir x).hi k (exact_part dir f)
 part_encloses In k x f h = in_encloses x.lo x.hi k f h

@@ -1,21 +1,16 @@
 -- The exact budget of an exact step at heads that are fractions, and what it means that bounds enclose it (TM 6-A16, chapter 3, the volumetric budget).
 use Rattle.std.specs.Prelude.{ℕ, ◌+◌, ◌<◌, List, map, length, ℤ, pos, ◌^◌, ◌+ℤ◌, ◌≤ℤ◌, if◌then◌else◌, [], ◌∷◌, Result, Ok, Err, slice_index_or}
-use Rattle.std.specs.List.{filter}
+use Rattle.std.specs.{List.filter, Int.int_min}
 use Rattle.decimal_input.specs.{Fraction, whole, opposite, fraction_total, EnclosesSigned}
-use Rattle.step_problem.specs.declared.place.Dir.{Dir}
-use Rattle.step_problem.specs.declared.place.Dir.TheVariants.{In, Out}
-use Rattle.step_problem.specs.declared.place.Term.{Term}
-use Rattle.step_problem.specs.declared.place.Term.TheVariants.{Storage, ConstantHead, Wells, Drains, RiverLeakage, HeadDepBounds, Recharge, Et}
-use Rattle.step_problem.specs.Entries.{Entries}
+use Rattle.step_problem.specs.{declared.place.Dir.Dir, declared.place.Dir.TheVariants.In, declared.place.Dir.TheVariants.Out, declared.place.Term.Term}
+use Rattle.step_problem.specs.{declared.place.Term.TheVariants.Storage, declared.place.Term.TheVariants.ConstantHead, declared.place.Term.TheVariants.Wells}
+use Rattle.step_problem.specs.{declared.place.Term.TheVariants.Drains, declared.place.Term.TheVariants.RiverLeakage}
+use Rattle.step_problem.specs.{declared.place.Term.TheVariants.HeadDepBounds, declared.place.Term.TheVariants.Recharge, declared.place.Term.TheVariants.Et}
+use Rattle.step_problem.specs.{Entries.Entries, declared.heads.Bound.Bound, IsMagnitudeAtMost, IsHead, declared.place.NoBound.NoBound}
 use Rattle.cell_balance.specs.{ExactFlow, ExactFixed, ExactCell, cell_at, greater, fixed_flow, river_flow, drain_flow, evap_flow, share, LiesBetween}
 use Rattle.cell_balance.specs.{total_below, EnclosesStep}
-use Rattle.budget_bounds.specs.declared.pair.Budget.{Budget}
+use Rattle.budget_bounds.specs.{declared.pair.Budget.Budget, declared.pair.TermPair.TermPair}
 use Rattle.budget_bounds.specs.Terms.{fixed_term, flow_term, is_term, bounds_in, term_limit, all_terms, is_small, no_pair, place_of, too_large, ◌>>=◌}
-use Rattle.std.specs.Int.{int_min}
-use Rattle.step_problem.specs.declared.heads.Bound.{Bound}
-use Rattle.step_problem.specs.{IsMagnitudeAtMost, IsHead}
-use Rattle.budget_bounds.specs.declared.pair.TermPair.{TermPair}
-use Rattle.step_problem.specs.declared.place.NoBound.{NoBound}
 
 -- the known heads, and the constant flows, whose flows are of a term
 abbrev pub exact_fixed_of : Term → List ExactFixed → List ExactFixed

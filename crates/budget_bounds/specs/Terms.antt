@@ -1,25 +1,16 @@
 -- The bounds of a budget's terms, or the first term that is too large for the listing.
 use Rattle.std.specs.Prelude.{ℕ, ◌^◌, Bool, ◌&&◌, if◌then◌else◌, List, [], ◌∷◌, length, ℤ, pos, Result, Ok, Err, slice_index_or, nat_eq, map, neg_ℤ}
-use Rattle.std.specs.Int.Signed.{lt_z}
-use Rattle.step_problem.specs.declared.place.Dir.{Dir}
-use Rattle.step_problem.specs.declared.place.Dir.TheVariants.{In, Out}
-use Rattle.step_problem.specs.declared.place.Term.{Term}
-use Rattle.step_problem.specs.declared.place.Term.TheVariants.{Storage, ConstantHead, Wells, Drains, RiverLeakage, HeadDepBounds, Recharge, Et}
-use Rattle.step_problem.specs.declared.place.NoBound.{NoBound}
-use Rattle.step_problem.specs.declared.refusal.StepRefusal.TheVariants.{FlowTooLarge}
-use Rattle.step_problem.specs.{number_of, entries_at, total, fixed_flow, river_flow, drain_flow, evap_flow}
-use Rattle.step_problem.specs.declared.heads.Side.{Side}
-use Rattle.step_problem.specs.declared.heads.Side.TheVariants.{Low, High}
-use Rattle.step_problem.specs.Entries.{Entries}
+use Rattle.std.specs.{Int.Signed.lt_z, List.filter, Int.int_max}
+use Rattle.step_problem.specs.{declared.place.Dir.Dir, declared.place.Dir.TheVariants.In, declared.place.Dir.TheVariants.Out, declared.place.Term.Term}
+use Rattle.step_problem.specs.{declared.place.Term.TheVariants.Storage, declared.place.Term.TheVariants.ConstantHead, declared.place.Term.TheVariants.Wells}
+use Rattle.step_problem.specs.{declared.place.Term.TheVariants.Drains, declared.place.Term.TheVariants.RiverLeakage}
+use Rattle.step_problem.specs.{declared.place.Term.TheVariants.HeadDepBounds, declared.place.Term.TheVariants.Recharge, declared.place.Term.TheVariants.Et}
+use Rattle.step_problem.specs.{declared.place.NoBound.NoBound, declared.refusal.StepRefusal.TheVariants.FlowTooLarge, number_of, entries_at, total, fixed_flow}
+use Rattle.step_problem.specs.{river_flow, drain_flow, evap_flow, declared.heads.Side.Side, declared.heads.Side.TheVariants.Low}
+use Rattle.step_problem.specs.{declared.heads.Side.TheVariants.High, Entries.Entries, declared.entry.FixedKind.FixedKind, declared.entry.FlowKind.FlowKind}
+use Rattle.step_problem.specs.{declared.entry.Fixed.Fixed, declared.entry.Flow.Flow}
 use Rattle.cell_balance.specs.{sum_below}
-use Rattle.budget_bounds.specs.declared.pair.TermPair.{TermPair}
-use Rattle.budget_bounds.specs.declared.pair.Budget.{Budget}
-use Rattle.std.specs.List.{filter}
-use Rattle.std.specs.Int.{int_max}
-use Rattle.step_problem.specs.declared.entry.FixedKind.{FixedKind}
-use Rattle.step_problem.specs.declared.entry.FlowKind.{FlowKind}
-use Rattle.step_problem.specs.declared.entry.Fixed.{Fixed}
-use Rattle.step_problem.specs.declared.entry.Flow.{Flow}
+use Rattle.budget_bounds.specs.{declared.pair.TermPair.TermPair, declared.pair.Budget.Budget}
 use Rattle.step_problem.specs.declared.entry.FixedKind.TheVariants as kinds
 use Rattle.step_problem.specs.declared.entry.FlowKind.TheVariants as packages
 use Rattle.step_problem.specs.declared.place.Place.TheVariants as places

@@ -1,17 +1,13 @@
 -- The comparison in whole numbers: a certificate over a barrier encloses every solution that the barrier does.
-use Rattle.cell_balance.proofs.Common.{◌≡◌, ℕ, ◌*◌, ◌<◌, ◌⊎◌, inl, inr, arith, ℤ, pos, ◌*ℤ◌, ◌≤ℤ◌, ◌<ℤ◌, List, length, refl, ◌+ℤ◌, ◌-ℤ◌, AllZip, ints, zero-*ℤ}
-use Rattle.cell_balance.proofs.Common.{Entries, entries_at, flow_bound, IsHeldBelow, mul_mono_right, Side, Low, High, Flow, Link}
+use Rattle.cell_balance.proofs.Common.{◌≡◌, ℕ, ◌*◌, ◌<◌, ◌⊎◌, inl, inr, arith, ℤ, pos, ◌*ℤ◌, ◌≤ℤ◌, ◌<ℤ◌, List, length, refl, ◌+ℤ◌, ◌-ℤ◌, AllZip, ints, zero-*ℤ, Entries, entries_at, flow_bound}
+use Rattle.cell_balance.proofs.Common.{IsHeldBelow, mul_mono_right, Side, Low, High, Flow, Link}
 use Rattle.step_problem.specs.{balance, link_flow, fixed_flow, river_flow, drain_flow, evap_flow}
-use Rattle.cell_balance.proofs.Deep.{Bounds, bound_bounds, bounds_trans, add_mul, sub_mul, bounds_same, entry_bounds, total_bounds}
-use Rattle.cell_balance.proofs.Zips.{AllZip-length, WholeCell, whole_at, whole_balance, CellWithin, WholeLink, whole_link, whole_fixed, whole_river}
-use Rattle.cell_balance.proofs.Zips.{whole_drain, whole_evap, FlowWithin, LinkWithin, FixedWithin, RiverWithin, DrainWithin, EvapWithin}
-use Rattle.cell_balance.proofs.Dry.{IsMutual}
-use Rattle.cell_balance.proofs.Comparison.{heads_compare}
-use Rattle.cell_balance.proofs.Conducting.{both_ways}
-use Rattle.cell_balance.proofs.HeldBelow.{held_below, cell_within}
-use Rattle.cell_balance.proofs.WholeBalances.{ramps_from, a_of, b_of, q_of, balance_is_net_flow}
-use Rattle.cell_balance.proofs.Gaps.Kind.{OfFixed, OfRiver, OfDrain, OfEvap}
-use Rattle.cell_balance.proofs.Gaps.{seen_bounds, fixed_seen, river_seen, drain_seen, evap_seen}
+use Rattle.cell_balance.proofs.{Deep.Bounds, Deep.bound_bounds, Deep.bounds_trans, Deep.add_mul, Deep.sub_mul, Deep.bounds_same, Deep.entry_bounds, Deep.total_bounds, Zips.AllZip-length}
+use Rattle.cell_balance.proofs.{Zips.WholeCell, Zips.whole_at, Zips.whole_balance, Zips.CellWithin, Zips.WholeLink, Zips.whole_link, Zips.whole_fixed, Zips.whole_river, Zips.whole_drain}
+use Rattle.cell_balance.proofs.{Zips.whole_evap, Zips.FlowWithin, Zips.LinkWithin, Zips.FixedWithin, Zips.RiverWithin, Zips.DrainWithin, Zips.EvapWithin, Dry.IsMutual, Comparison.heads_compare}
+use Rattle.cell_balance.proofs.{Conducting.both_ways, HeldBelow.held_below, HeldBelow.cell_within, WholeBalances.ramps_from, WholeBalances.a_of, WholeBalances.b_of, WholeBalances.q_of}
+use Rattle.cell_balance.proofs.{WholeBalances.balance_is_net_flow, Gaps.Kind.OfFixed, Gaps.Kind.OfRiver, Gaps.Kind.OfDrain, Gaps.Kind.OfEvap, Gaps.seen_bounds, Gaps.fixed_seen, Gaps.river_seen}
+use Rattle.cell_balance.proofs.{Gaps.drain_seen, Gaps.evap_seen}
 
 -- The balance of a cell's bounds on a side, scaled, bounds the balance of its whole numbers at the same heads.
 flow_bounds : (side : Side) (m n : ℕ) (p : Flow) (q : ℤ) → FlowWithin m n p q → Bounds side (flow_bound side p *ℤ pos (m * n)) q

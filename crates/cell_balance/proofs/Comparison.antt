@@ -1,10 +1,8 @@
 -- Where a step is held from below, heads at which no cell gains water lie nowhere below heads at which no cell loses water.
-use Rattle.cell_balance.proofs.Common.{◌*ℤ◌, ◌+ℤ◌, ◌-ℤ◌, ◌<ℤ◌, ◌<◌, ◌≡◌, ◌≤ℤ◌, Bool, List, arith, inl, inr, neg_ℤ, pos, refl, suc, true, zero, ℕ, ℤ, int_lt}
-use Rattle.cell_balance.proofs.Common.{zero-*ℤ, by_lt_z, ints, total, mul_mono, mul_le, mul_sub, cases_eq, sum_below}
-use Rattle.cell_balance.proofs.Scaling.{cancel_le, not_zero, positive_natural}
-use Rattle.cell_balance.proofs.Sums.{sum_at_most, max_of, carried_gain}
-use Rattle.cell_balance.proofs.Ramps.{Ramp, ramp_flow, full_rate, link_flow, IsClosed, AreMutual, net_flow, deep, IsHeldFromBelow}
-use Rattle.cell_balance.proofs.RampFlows.{flows_fall, flows_within_full}
+use Rattle.cell_balance.proofs.Common.{◌*ℤ◌, ◌+ℤ◌, ◌-ℤ◌, ◌<ℤ◌, ◌<◌, ◌≡◌, ◌≤ℤ◌, Bool, List, arith, inl, inr, neg_ℤ, pos, refl, suc, true, zero, ℕ, ℤ, int_lt, zero-*ℤ, by_lt_z, ints, total, mul_mono}
+use Rattle.cell_balance.proofs.Common.{mul_le, mul_sub, cases_eq, sum_below}
+use Rattle.cell_balance.proofs.{Scaling.cancel_le, Scaling.not_zero, Scaling.positive_natural, Sums.sum_at_most, Sums.max_of, Sums.carried_gain, Ramps.Ramp, Ramps.ramp_flow, Ramps.full_rate}
+use Rattle.cell_balance.proofs.{Ramps.link_flow, Ramps.IsClosed, Ramps.AreMutual, Ramps.net_flow, Ramps.deep, Ramps.IsHeldFromBelow, RampFlows.flows_fall, RampFlows.flows_within_full}
 
 -- Where two sums are no further apart than their terms, no two terms are apart.
 -- where two sums are no further apart, no two terms are

@@ -1,13 +1,9 @@
 -- Links, known heads and ramps that conduct, from sums that do; and sums that are 0.
-use Rattle.cell_balance.proofs.Common.{[], ◌*ℤ◌, ◌+ℤ◌, ◌<ℤ◌, ◌<◌, ◌∷◌, ◌≡◌, ◌≤ℤ◌, All, Bool, List, arith, cond, false, inl, inr, nat_eq, pos, refl, subst, true}
-use Rattle.cell_balance.proofs.Common.{ℕ, ℤ, AllZip, zero-*ℤ, cases_eq, eq-eqb, ne_eqb, ints, All-cons, All-head, All-nil, All-tail, total, ◌-ℤ◌, ◌∙◌, length}
-use Rattle.cell_balance.proofs.Common.{ap, sum_inside}
-use Rattle.cell_balance.proofs.Dry.{total-none, weight, by_weight, IsMutual, dry_balance, dry_fixed}
-use Rattle.cell_balance.proofs.Zips.{WholeEntry, WholeLink, WholeCell, whole_at, whole_link, whole_fixed, whole_deep, whole_balance, IsDry}
-use Rattle.cell_balance.proofs.WholeBalances.{known_conductance, known_flow, a_of}
-use Rattle.cell_balance.proofs.Ramps.{AreMutual}
-use Rattle.cell_balance.proofs.Sums.{link_flows_cancel, sum-same, sum_inside-add, sum_inside_at_most}
-use Rattle.cell_balance.proofs.Deep.{total_nonneg}
+use Rattle.cell_balance.proofs.Common.{[], ◌*ℤ◌, ◌+ℤ◌, ◌<ℤ◌, ◌<◌, ◌∷◌, ◌≡◌, ◌≤ℤ◌, All, Bool, List, arith, cond, false, inl, inr, nat_eq, pos, refl, subst, true, ℕ, ℤ, AllZip, zero-*ℤ, cases_eq}
+use Rattle.cell_balance.proofs.Common.{eq-eqb, ne_eqb, ints, All-cons, All-head, All-nil, All-tail, total, ◌-ℤ◌, ◌∙◌, length, ap, sum_inside}
+use Rattle.cell_balance.proofs.{Dry.total-none, Dry.weight, Dry.by_weight, Dry.IsMutual, Dry.dry_balance, Dry.dry_fixed, Zips.WholeEntry, Zips.WholeLink, Zips.WholeCell, Zips.whole_at}
+use Rattle.cell_balance.proofs.{Zips.whole_link, Zips.whole_fixed, Zips.whole_deep, Zips.whole_balance, Zips.IsDry, WholeBalances.known_conductance, WholeBalances.known_flow, WholeBalances.a_of}
+use Rattle.cell_balance.proofs.{Ramps.AreMutual, Sums.link_flows_cancel, Sums.sum-same, Sums.sum_inside-add, Sums.sum_inside_at_most, Deep.total_nonneg}
 
 -- a fact of each right element passes to the left one
 pub All-back : {X Y : Type 0} (R : X → Y → Type 0) (P : X → Type 0) (Q : Y → Type 0) → ((x : X) (y : Y) → R x y → Q y → P x) → (xs : List X) (ys : List Y) → AllZip R xs ys → All Q ys → All P xs

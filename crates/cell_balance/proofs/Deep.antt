@@ -1,8 +1,7 @@
 -- The least deep flow of a cell is at most the exact one.
-use Rattle.cell_balance.proofs.Common.{ℕ, ◌*◌, arith, ℤ, pos, negsuc, ◌+ℤ◌, ◌-ℤ◌, ◌*ℤ◌, ◌≤ℤ◌, unsigned_abs, ◌≡◌, refl, neg_ℤ, List, [], ◌∷◌, All, int_max, ints}
-use Rattle.cell_balance.proofs.Common.{clamps, River, Evap, Entries, total, branch_flow, bound_on, IsBetweenSigned, deep_low, mul_mono_right, zero-*ℤ, Low}
-use Rattle.cell_balance.proofs.Common.{High, All-head, All-tail, diffs, as_diff, same_diff, mul_mono, least_times, most_times, AllZip, IsBetweenWhole, Side}
-use Rattle.cell_balance.proofs.Common.{deep_river, total_mono_all}
+use Rattle.cell_balance.proofs.Common.{ℕ, ◌*◌, arith, ℤ, pos, negsuc, ◌+ℤ◌, ◌-ℤ◌, ◌*ℤ◌, ◌≤ℤ◌, unsigned_abs, ◌≡◌, refl, neg_ℤ, List, [], ◌∷◌, All, int_max, ints, clamps, River, Evap, Entries, total}
+use Rattle.cell_balance.proofs.Common.{branch_flow, bound_on, IsBetweenSigned, deep_low, mul_mono_right, zero-*ℤ, Low, High, All-head, All-tail, diffs, as_diff, same_diff, mul_mono, least_times}
+use Rattle.cell_balance.proofs.Common.{most_times, AllZip, IsBetweenWhole, Side, deep_river, total_mono_all}
 use Rattle.step_problem.specs.{full_rate}
 use Rattle.cell_balance.proofs.Scaling.{max_times}
 use Rattle.cell_balance.proofs.Zips.{WholeEntry, WholeCell, whole_deep_river, whole_full, whole_deep, FlowWithin, RiverWithin, EvapWithin, CellWithin}

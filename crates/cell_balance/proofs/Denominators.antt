@@ -1,6 +1,6 @@
 -- The fractions of a step have a common denominator.
-use Rattle.cell_balance.proofs.Common.{◌≡◌, ℕ, ◌*◌, ◌<◌, refl, ap, sym, ◌∙◌, arith, ℤ, pos, ◌*ℤ◌, List, [], ◌∷◌, AllZip, mul-pos, Ratio, Fraction, den, IsOver}
-use Rattle.cell_balance.proofs.Common.{IsShare, mul_assoc, ExactFlow, ExactLink, ExactFixed, ExactRiver, ExactDrain, ExactEvap, ExactCell}
+use Rattle.cell_balance.proofs.Common.{◌≡◌, ℕ, ◌*◌, ◌<◌, refl, ap, sym, ◌∙◌, arith, ℤ, pos, ◌*ℤ◌, List, [], ◌∷◌, AllZip, mul-pos, Ratio, Fraction, den, IsOver, IsShare, mul_assoc, ExactFlow}
+use Rattle.cell_balance.proofs.Common.{ExactLink, ExactFixed, ExactRiver, ExactDrain, ExactEvap, ExactCell}
 use Rattle.decimal_input.specs.Ratios.{den as ratio_den}
 
 -- d goes into n

@@ -1,11 +1,9 @@
 -- Below all bottoms and drains a cell gets at least its deep flow besides what its links and fixed links give; over any set of cells only the links that leave it count.
-use Rattle.cell_balance.proofs.Common.{◌≡◌, ℕ, ◌<◌, ◌⊎◌, inl, inr, refl, sym, ◌∙◌, arith, ℤ, pos, neg_ℤ, ◌+ℤ◌, ◌-ℤ◌, ◌≤ℤ◌, List, length, All, Bool, true, false}
-use Rattle.cell_balance.proofs.Common.{cond, ◌*ℤ◌, [], ◌∷◌, nat_eq, int_max, int_min, ints, clamps, zero-*ℤ, *ℤ-zero, total, mul_nonneg, mul_mono, mul_neg}
-use Rattle.cell_balance.proofs.Common.{sum_inside, sum_below, All-head, All-tail}
-use Rattle.cell_balance.proofs.Deep.{total-same, total_nonneg, total_at_most, total_neg, add_mul}
-use Rattle.cell_balance.proofs.Sums.{sum-same, sum-add, sum-zero, sum-one, turned_cancel}
-use Rattle.cell_balance.proofs.Zips.{WholeLink, WholeEntry, WholeCell, whole_link, whole_fixed, whole_river, whole_drain, whole_evap, whole_balance}
-use Rattle.cell_balance.proofs.Zips.{whole_deep_river, whole_full, whole_deep, whole_at, IsDry}
+use Rattle.cell_balance.proofs.Common.{◌≡◌, ℕ, ◌<◌, ◌⊎◌, inl, inr, refl, sym, ◌∙◌, arith, ℤ, pos, neg_ℤ, ◌+ℤ◌, ◌-ℤ◌, ◌≤ℤ◌, List, length, All, Bool, true, false, cond, ◌*ℤ◌, [], ◌∷◌, nat_eq, int_max}
+use Rattle.cell_balance.proofs.Common.{int_min, ints, clamps, zero-*ℤ, *ℤ-zero, total, mul_nonneg, mul_mono, mul_neg, sum_inside, sum_below, All-head, All-tail}
+use Rattle.cell_balance.proofs.{Deep.total-same, Deep.total_nonneg, Deep.total_at_most, Deep.total_neg, Deep.add_mul, Sums.sum-same, Sums.sum-add, Sums.sum-zero, Sums.sum-one, Sums.turned_cancel}
+use Rattle.cell_balance.proofs.{Zips.WholeLink, Zips.WholeEntry, Zips.WholeCell, Zips.whole_link, Zips.whole_fixed, Zips.whole_river, Zips.whole_drain, Zips.whole_evap, Zips.whole_balance}
+use Rattle.cell_balance.proofs.{Zips.whole_deep_river, Zips.whole_full, Zips.whole_deep, Zips.whole_at, Zips.IsDry}
 
 -- Over all cells the flows over links cancel, and over any set only the links that leave it count.
 -- what the links of a list conduct to the cell k

@@ -1,13 +1,11 @@
 -- Bounds that enclose an exact step enclose its whole numbers: conductances over m * 10^s, heads over n * 10^9; and such a step is linked.
-use Rattle.cell_balance.proofs.Common.{◌≡◌, ℕ, ◌+◌, ◌*◌, ◌^◌, ◌<◌, ◌≤◌, ap, ◌∙◌, subst, arith, ℤ, pos, ◌*ℤ◌, List, All, AllZip, mul-le-mul_right}
-use Rattle.cell_balance.proofs.Common.{le_of_mul-le-mul_right, Ratio, Fraction, den, IsOver, Encloses, EnclosesSigned, IsShare, IsBetweenWhole, IsBetweenSigned}
-use Rattle.cell_balance.proofs.Common.{cancel_right, mul_mono_right, last_factors_swap, Flow, Link, Entries, mul_assoc, ExactFlow, ExactLink, ExactCell}
-use Rattle.cell_balance.proofs.Common.{FlowEncloses, LinkEncloses, FixedEncloses, RiverEncloses, DrainEncloses, EvapEncloses, CellEncloses, sym, length}
-use Rattle.cell_balance.proofs.Common.{All-get_or, All-from_get_or, entries_at, no_entries, IsProblem, LinkFits, cell_at, no_cell, AreLinked, no_link}
-use Rattle.cell_balance.proofs.Common.{EnclosesStep, mul_comm}
+use Rattle.cell_balance.proofs.Common.{◌≡◌, ℕ, ◌+◌, ◌*◌, ◌^◌, ◌<◌, ◌≤◌, ap, ◌∙◌, subst, arith, ℤ, pos, ◌*ℤ◌, List, All, AllZip, mul-le-mul_right, le_of_mul-le-mul_right, Ratio, Fraction, den, IsOver}
+use Rattle.cell_balance.proofs.Common.{Encloses, EnclosesSigned, IsShare, IsBetweenWhole, IsBetweenSigned, cancel_right, mul_mono_right, last_factors_swap, Flow, Link, Entries, mul_assoc, ExactFlow}
+use Rattle.cell_balance.proofs.Common.{ExactLink, ExactCell, FlowEncloses, LinkEncloses, FixedEncloses, RiverEncloses, DrainEncloses, EvapEncloses, CellEncloses, sym, length, All-get_or}
+use Rattle.cell_balance.proofs.Common.{All-from_get_or, entries_at, no_entries, IsProblem, LinkFits, cell_at, no_cell, AreLinked, no_link, EnclosesStep, mul_comm}
 use Rattle.std.proofs.lemmas.Nat.{pow-add}
-use Rattle.cell_balance.proofs.Zips.{AllZip-compose, AllZip-at, AllZip-length, All-zip, WholeLink, WholeEntry, WholeCell, FlowWithin, LinkWithin, EntryWithin}
-use Rattle.cell_balance.proofs.Zips.{FixedWithin, RiverWithin, DrainWithin, EvapWithin, CellWithin}
+use Rattle.cell_balance.proofs.Zips.{AllZip-compose, AllZip-at, AllZip-length, All-zip, WholeLink, WholeEntry, WholeCell, FlowWithin, LinkWithin, EntryWithin, FixedWithin, RiverWithin, DrainWithin}
+use Rattle.cell_balance.proofs.Zips.{EvapWithin, CellWithin}
 use Rattle.cell_balance.proofs.Over.{FlowOver, LinkOver, EntryOver, FixedOver, RiverOver, DrainOver, EvapOver, CellOver}
 use Rattle.step_problem.specs.{no_link as no_bounds}
 

@@ -1,18 +1,13 @@
 -- The comparison: from fractions to whole numbers and back.
-use Rattle.cell_balance.proofs.Common.{◌≡◌, ℕ, ◌-◌, ◌*◌, ◌^◌, ◌<◌, sym, ◌∙◌, subst, arith, ℤ, pos, ◌*ℤ◌, List, length, mul-pos, refl, AllZip, IsOver, Ratio}
-use Rattle.cell_balance.proofs.Common.{Fraction, cancel_right, mul_mono_right, last_factors_swap, mul_assoc, ◌≤ℤ◌, ◌⊎◌, inl, inr, IsProblem, ExactCell, cell_at}
-use Rattle.cell_balance.proofs.Common.{no_cell, balance, share, SolvesStep, Compares, EnclosesStep, ExactFlow, ExactLink, Entries, Side, Low, High, den}
-use Rattle.cell_balance.proofs.Common.{mul_comm, LiesBetween, IsHeldBelow, entries_at, lower_balance, upper_balance}
-use Rattle.cell_balance.proofs.Zips.{AllZip-at, AllZip-length, CellWithin, WholeCell, whole_at, no_whole, whole_balance, WholeLink, WholeEntry}
-use Rattle.cell_balance.proofs.Scaling.{zero_over}
-use Rattle.cell_balance.proofs.Over.{CellOver, balance_over, FlowOver, LinkOver, EntryOver, FixedOver, RiverOver, DrainOver, EvapOver}
-use Rattle.cell_balance.proofs.Denominators.{Goes, share_over, fraction_over, left_goes, right_goes, flow_den, link_den, entry_den, fixed_den, river_den}
-use Rattle.cell_balance.proofs.Denominators.{drain_den, evap_den, cell_den, product, all_over_product, step_common}
-use Rattle.cell_balance.proofs.Enclosed.{step_within, entries_are_linked, links_good}
-use Rattle.cell_balance.proofs.Mutual.{mutual_whole}
-use Rattle.cell_balance.proofs.Compare.{compare}
-use Rattle.cell_balance.proofs.Deep.{Bounds, le_trans_z}
-use Rattle.cell_balance.proofs.Dry.{IsMutual}
+use Rattle.cell_balance.proofs.Common.{◌≡◌, ℕ, ◌-◌, ◌*◌, ◌^◌, ◌<◌, sym, ◌∙◌, subst, arith, ℤ, pos, ◌*ℤ◌, List, length, mul-pos, refl, AllZip, IsOver, Ratio, Fraction, cancel_right, mul_mono_right}
+use Rattle.cell_balance.proofs.Common.{last_factors_swap, mul_assoc, ◌≤ℤ◌, ◌⊎◌, inl, inr, IsProblem, ExactCell, cell_at, no_cell, balance, share, SolvesStep, Compares, EnclosesStep, ExactFlow}
+use Rattle.cell_balance.proofs.Common.{ExactLink, Entries, Side, Low, High, den, mul_comm, LiesBetween, IsHeldBelow, entries_at, lower_balance, upper_balance}
+use Rattle.cell_balance.proofs.{Zips.AllZip-at, Zips.AllZip-length, Zips.CellWithin, Zips.WholeCell, Zips.whole_at, Zips.no_whole, Zips.whole_balance, Zips.WholeLink, Zips.WholeEntry}
+use Rattle.cell_balance.proofs.{Scaling.zero_over, Over.CellOver, Over.balance_over, Over.FlowOver, Over.LinkOver, Over.EntryOver, Over.FixedOver, Over.RiverOver, Over.DrainOver, Over.EvapOver}
+use Rattle.cell_balance.proofs.{Denominators.Goes, Denominators.share_over, Denominators.fraction_over, Denominators.left_goes, Denominators.right_goes, Denominators.flow_den, Denominators.link_den}
+use Rattle.cell_balance.proofs.{Denominators.entry_den, Denominators.fixed_den, Denominators.river_den, Denominators.drain_den, Denominators.evap_den, Denominators.cell_den, Denominators.product}
+use Rattle.cell_balance.proofs.{Denominators.all_over_product, Denominators.step_common, Enclosed.step_within, Enclosed.entries_are_linked, Enclosed.links_good, Mutual.mutual_whole, Compare.compare}
+use Rattle.cell_balance.proofs.{Deep.Bounds, Deep.le_trans_z, Dry.IsMutual}
 use Rattle.decimal_input.specs.Ratios.{den as ratio_den}
 
 -- An exact step with a common denominator has whole numbers.

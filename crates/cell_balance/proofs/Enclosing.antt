@@ -1,13 +1,10 @@
 -- Sums of enclosed fractions, and their parts, are enclosed.
-use Rattle.cell_balance.proofs.Common.{◌≡◌, ℕ, zero, suc, ◌*◌, ◌^◌, ◌<◌, refl, arith, List, [], ◌∷◌, Bool, true, false, map, ℤ, pos, neg_ℤ, ◌+ℤ◌, mul-pos, ◌≤ℤ◌}
-use Rattle.cell_balance.proofs.Common.{sym, ap, ◌∙◌, ◌*ℤ◌, ◌<ℤ◌, filter, AllZip, int_max, ints, clamps, by_lt_z, Fraction, whole, opposite, fraction_total}
-use Rattle.cell_balance.proofs.Common.{EnclosesSigned, IsOver, den, plus, AtMost, Same, total, greater, sum_below, total_below, sum_inside, total_inside}
-use Rattle.cell_balance.proofs.Common.{IsBelow, le-add, le-antisym, le-of, negated_enclosed, cancel_right, mul_mono_right, last_factors_swap, zero-*ℤ}
-use Rattle.cell_balance.proofs.Common.{mul_assoc, mul_comm}
-use Rattle.cell_balance.proofs.Deep.{add_mul}
-use Rattle.cell_balance.proofs.Scaling.{IsOver-plus, IsOver-greater, IsOver-none, max_times, over_is_cross_product, crossed_back}
-use Rattle.cell_balance.proofs.Enclosed.{between_over}
-use Rattle.cell_balance.proofs.Denominators.{Goes, Goes-first, Goes-second, fraction_over}
+use Rattle.cell_balance.proofs.Common.{◌≡◌, ℕ, zero, suc, ◌*◌, ◌^◌, ◌<◌, refl, arith, List, [], ◌∷◌, Bool, true, false, map, ℤ, pos, neg_ℤ, ◌+ℤ◌, mul-pos, ◌≤ℤ◌, sym, ap, ◌∙◌, ◌*ℤ◌, ◌<ℤ◌, filter}
+use Rattle.cell_balance.proofs.Common.{AllZip, int_max, ints, clamps, by_lt_z, Fraction, whole, opposite, fraction_total, EnclosesSigned, IsOver, den, plus, AtMost, Same, total, greater, sum_below}
+use Rattle.cell_balance.proofs.Common.{total_below, sum_inside, total_inside, IsBelow, le-add, le-antisym, le-of, negated_enclosed, cancel_right, mul_mono_right, last_factors_swap, zero-*ℤ, mul_assoc}
+use Rattle.cell_balance.proofs.Common.{mul_comm}
+use Rattle.cell_balance.proofs.{Deep.add_mul, Scaling.IsOver-plus, Scaling.IsOver-greater, Scaling.IsOver-none, Scaling.max_times, Scaling.over_is_cross_product, Scaling.crossed_back}
+use Rattle.cell_balance.proofs.{Enclosed.between_over, Denominators.Goes, Denominators.Goes-first, Denominators.Goes-second, Denominators.fraction_over}
 
 -- Fractions and their whole numbers over one denominator: order, signs, equality, and sums over cells; single flows and their bounds.
 pub over_le : (d : ℕ) (f g : Fraction) (a b : ℤ) → IsOver d f a → IsOver d g b → AtMost f g → a ≤ℤ b

@@ -1,18 +1,12 @@
 -- The bounds of single flows enclose them, from their whole numbers.
-use Rattle.cell_balance.proofs.Common.{ℕ, ◌+◌, ◌*◌, ◌^◌, ◌<◌, refl, sym, subst, arith, ℤ, pos, ◌-ℤ◌, ◌*ℤ◌, ◌≤ℤ◌, mul-pos, ints, Ratio, Fraction, den, IsOver}
-use Rattle.cell_balance.proofs.Common.{EnclosesSigned, IsBetweenSigned, Link, least, most, ExactLink, link_flow, fixed_flow, river_flow, drain_flow, evap_flow}
-use Rattle.cell_balance.proofs.Common.{LinkEncloses, BoundsHold, Side, Low, High}
-use Rattle.cell_balance.proofs.Deep.{sub_mul, entry_bounds}
+use Rattle.cell_balance.proofs.Common.{ℕ, ◌+◌, ◌*◌, ◌^◌, ◌<◌, refl, sym, subst, arith, ℤ, pos, ◌-ℤ◌, ◌*ℤ◌, ◌≤ℤ◌, mul-pos, ints, Ratio, Fraction, den, IsOver, EnclosesSigned, IsBetweenSigned, Link}
+use Rattle.cell_balance.proofs.Common.{least, most, ExactLink, link_flow, fixed_flow, river_flow, drain_flow, evap_flow, LinkEncloses, BoundsHold, Side, Low, High}
+use Rattle.cell_balance.proofs.{Deep.sub_mul, Deep.entry_bounds, Gaps.Kind, Gaps.whole_flow, Gaps.IsSeen, Gaps.seen_bounds, Gaps.fixed_seen, Gaps.river_seen, Gaps.drain_seen, Gaps.evap_seen}
+use Rattle.cell_balance.proofs.{Gaps.Kind.OfFixed, Gaps.Kind.OfRiver, Gaps.Kind.OfDrain, Gaps.Kind.OfEvap, Enclosed.between_share, Enclosed.between_over, Enclosed.flow_denominator}
+use Rattle.cell_balance.proofs.{Enclosed.entry_within, Enclosing.enclosed_over, EntryFlows.difference_over, Denominators.Goes, Denominators.Goes-first, Denominators.Goes-second}
+use Rattle.cell_balance.proofs.{Denominators.fraction_over, Denominators.share_over, Denominators.left_goes, Denominators.right_goes, Denominators.link_den, Denominators.entry_den}
+use Rattle.cell_balance.proofs.{Denominators.some_entry, Zips.WholeEntry, Over.EntryOver, Over.fixed_over, Over.river_over, Over.drain_over, Over.evap_over, Encloses.entry_over_denominator}
 use Rattle.step_problem.specs.{link_flow as link_on, fixed_flow as fixed_on, river_flow as river_on, drain_flow as drain_on, evap_flow as evap_on}
-use Rattle.cell_balance.proofs.Gaps.{Kind, whole_flow, IsSeen, seen_bounds, fixed_seen, river_seen, drain_seen, evap_seen}
-use Rattle.cell_balance.proofs.Gaps.Kind.{OfFixed, OfRiver, OfDrain, OfEvap}
-use Rattle.cell_balance.proofs.Enclosed.{between_share, between_over, flow_denominator, entry_within}
-use Rattle.cell_balance.proofs.Enclosing.{enclosed_over}
-use Rattle.cell_balance.proofs.EntryFlows.{difference_over}
-use Rattle.cell_balance.proofs.Denominators.{Goes, Goes-first, Goes-second, fraction_over, share_over, left_goes, right_goes, link_den, entry_den, some_entry}
-use Rattle.cell_balance.proofs.Zips.{WholeEntry}
-use Rattle.cell_balance.proofs.Over.{EntryOver, fixed_over, river_over, drain_over, evap_over}
-use Rattle.cell_balance.proofs.Encloses.{entry_over_denominator}
 
 -- an entry's flow in whole numbers over d and d, with its head
 enclosed : (s d : ℕ) (f : Fraction) (z lo hi : ℤ) → 0 < d → IsOver (d * 10 ^ s * (d * 10 ^ 9)) f z → (lo *ℤ pos (d * d)) ≤ℤ z → z ≤ℤ (hi *ℤ pos (d * d)) → EnclosesSigned lo hi (s + 9) f

@@ -1,15 +1,12 @@
 -- What the manual says of single flows, from their whole numbers.
-use Rattle.cell_balance.proofs.Common.{◌≡◌, ℕ, zero, suc, ◌*◌, ◌<◌, ◌≤◌, refl, sym, ap, ◌∙◌, subst, arith, ℤ, pos, negsuc, neg_ℤ, ◌-ℤ◌, ◌*ℤ◌, ◌≤ℤ◌, ◌<ℤ◌}
-use Rattle.cell_balance.proofs.Common.{mul-pos, int_max, int_min, mul-le-mul_right, mul-le-mul, *ℤ-zero, ints, clamps, Ratio, Fraction, den, as_fraction}
-use Rattle.cell_balance.proofs.Common.{opposite, IsOver, IsShare, mul_nonneg, mul_neg, ExactFixed, ExactRiver, ExactDrain, ExactEvap, minus, fixed_flow}
-use Rattle.cell_balance.proofs.Common.{river_flow, drain_flow, evap_flow, full_rate, over_difference, FixedLaws, RiverLaws, DrainLaws, EvapLaws, FlowsAreRight}
-use Rattle.cell_balance.proofs.Scaling.{IsOver-times, IsOver-minus, IsOver-negated, IsOver-signed, over_zero}
-use Rattle.cell_balance.proofs.Enclosing.{over_le, le_over, same_over, negative_over, negative_below, positive_above, below_over}
-use Rattle.cell_balance.proofs.Denominators.{Goes-second, fraction_over, entry_den, some_entry}
-use Rattle.cell_balance.proofs.Over.{EntryOver, FixedOver, RiverOver, DrainOver, EvapOver, fixed_over, river_over, drain_over, evap_over, full_over}
-use Rattle.cell_balance.proofs.Encloses.{entry_over_denominator}
-use Rattle.cell_balance.proofs.Dry.{evap_within_full}
-use Rattle.cell_balance.proofs.Zips.{WholeEntry, whole_fixed, whole_river, whole_drain, whole_evap, whole_full}
+use Rattle.cell_balance.proofs.Common.{◌≡◌, ℕ, zero, suc, ◌*◌, ◌<◌, ◌≤◌, refl, sym, ap, ◌∙◌, subst, arith, ℤ, pos, negsuc, neg_ℤ, ◌-ℤ◌, ◌*ℤ◌, ◌≤ℤ◌, ◌<ℤ◌, mul-pos, int_max, int_min, mul-le-mul_right}
+use Rattle.cell_balance.proofs.Common.{mul-le-mul, *ℤ-zero, ints, clamps, Ratio, Fraction, den, as_fraction, opposite, IsOver, IsShare, mul_nonneg, mul_neg, ExactFixed, ExactRiver, ExactDrain}
+use Rattle.cell_balance.proofs.Common.{ExactEvap, minus, fixed_flow, river_flow, drain_flow, evap_flow, full_rate, over_difference, FixedLaws, RiverLaws, DrainLaws, EvapLaws, FlowsAreRight}
+use Rattle.cell_balance.proofs.{Scaling.IsOver-times, Scaling.IsOver-minus, Scaling.IsOver-negated, Scaling.IsOver-signed, Scaling.over_zero, Enclosing.over_le, Enclosing.le_over, Enclosing.same_over}
+use Rattle.cell_balance.proofs.{Enclosing.negative_over, Enclosing.negative_below, Enclosing.positive_above, Enclosing.below_over, Denominators.Goes-second, Denominators.fraction_over}
+use Rattle.cell_balance.proofs.{Denominators.entry_den, Denominators.some_entry, Over.EntryOver, Over.FixedOver, Over.RiverOver, Over.DrainOver, Over.EvapOver, Over.fixed_over, Over.river_over}
+use Rattle.cell_balance.proofs.{Over.drain_over, Over.evap_over, Over.full_over, Encloses.entry_over_denominator, Dry.evap_within_full, Zips.WholeEntry, Zips.whole_fixed, Zips.whole_river}
+use Rattle.cell_balance.proofs.{Zips.whole_drain, Zips.whole_evap, Zips.whole_full}
 
 -- what conducts has a positive share
 some_share : (d c : ℕ) (r : Ratio) → 0 < d → 0 < r.num → IsShare d r c → 0 < c

@@ -1,18 +1,12 @@
 -- The laws of exact balances, from their whole numbers.
-use Rattle.cell_balance.proofs.Common.{◌≡◌, ℕ, ◌*◌, ◌<◌, ◌⊎◌, inl, inr, refl, subst, arith, ℤ, pos, ◌*ℤ◌, ◌≤ℤ◌, List, length, All, Bool, true, mul-pos, AllZip}
-use Rattle.cell_balance.proofs.Common.{cases_eq, ints, clamps, Ratio, Fraction, fraction_total, IsOver, IsShare, AtMost, total, ExactCell, cell_at, no_cell}
-use Rattle.cell_balance.proofs.Common.{link_flow, balance, share, total_inside, IsClosed, deep_flow, LiesBelow, LinksCancel, BalanceFalls, BalanceRises, DryLaw}
-use Rattle.cell_balance.proofs.Common.{mul_mono_right, mul_mono, loss_falls, total_mono, mul_comm}
-use Rattle.cell_balance.proofs.Zips.{AllZip-at, AllZip-length, All-zip, IsDry, WholeCell, whole_at, no_whole, whole_link, whole_balance, whole_deep}
-use Rattle.cell_balance.proofs.Zips.{whole_fixed, whole_river, whole_drain, whole_evap}
-use Rattle.cell_balance.proofs.Scaling.{IsOver-total, over_zero, none_shared}
-use Rattle.cell_balance.proofs.Enclosing.{over_le, le_over, IsOver-inside}
-use Rattle.cell_balance.proofs.Over.{LinkOver, FixedOver, RiverOver, DrainOver, CellOver, deep_over, link_over, balance_over}
-use Rattle.cell_balance.proofs.Denominators.{cell_common, step_common}
-use Rattle.cell_balance.proofs.Encloses.{whole_cell, whole_step, share_is}
-use Rattle.cell_balance.proofs.Mutual.{mutual_whole}
-use Rattle.cell_balance.proofs.Conducting.{closed_cancel, dry_law}
-use Rattle.cell_balance.proofs.Deep.{total_at_most, same_z}
+use Rattle.cell_balance.proofs.Common.{◌≡◌, ℕ, ◌*◌, ◌<◌, ◌⊎◌, inl, inr, refl, subst, arith, ℤ, pos, ◌*ℤ◌, ◌≤ℤ◌, List, length, All, Bool, true, mul-pos, AllZip, cases_eq, ints, clamps, Ratio, Fraction}
+use Rattle.cell_balance.proofs.Common.{fraction_total, IsOver, IsShare, AtMost, total, ExactCell, cell_at, no_cell, link_flow, balance, share, total_inside, IsClosed, deep_flow, LiesBelow}
+use Rattle.cell_balance.proofs.Common.{LinksCancel, BalanceFalls, BalanceRises, DryLaw, mul_mono_right, mul_mono, loss_falls, total_mono, mul_comm}
+use Rattle.cell_balance.proofs.{Zips.AllZip-at, Zips.AllZip-length, Zips.All-zip, Zips.IsDry, Zips.WholeCell, Zips.whole_at, Zips.no_whole, Zips.whole_link, Zips.whole_balance, Zips.whole_deep}
+use Rattle.cell_balance.proofs.{Zips.whole_fixed, Zips.whole_river, Zips.whole_drain, Zips.whole_evap, Scaling.IsOver-total, Scaling.over_zero, Scaling.none_shared, Enclosing.over_le}
+use Rattle.cell_balance.proofs.{Enclosing.le_over, Enclosing.IsOver-inside, Over.LinkOver, Over.FixedOver, Over.RiverOver, Over.DrainOver, Over.CellOver, Over.deep_over, Over.link_over}
+use Rattle.cell_balance.proofs.{Over.balance_over, Denominators.cell_common, Denominators.step_common, Encloses.whole_cell, Encloses.whole_step, Encloses.share_is, Mutual.mutual_whole}
+use Rattle.cell_balance.proofs.{Conducting.closed_cancel, Conducting.dry_law, Deep.total_at_most, Deep.same_z}
 
 -- A whole balance falls weakly in its own head and rises weakly in the others.
 pub whole_falls : (w : WholeCell) (v y : ℤ) (Y : ℕ → ℤ) → v ≤ℤ y → whole_balance w y Y ≤ℤ whole_balance w v Y

@@ -1,8 +1,7 @@
 -- The example meets all that the comparison asks.
-use Rattle.cell_balance.proofs.Common.{◌≡◌, ℕ, zero, suc, ◌<◌, ◌⊎◌, inl, inr, refl, sym, arith, pos, neg_ℤ, ◌≤ℤ◌, true, nat_eq, cases_eq, ne_eqb, eq-eqb, ints}
-use Rattle.cell_balance.proofs.Common.{entries_at, Constant, lower_balance, upper_balance, head_at, IsCertificate, SolvesStep, LiesBetween, LeadsTo, Leads}
-use Rattle.cell_balance.proofs.Common.{IsComponent, IsCarried, IsHeldBelow, IsComparable, example_problem, example_step, example_heads, example_barrier}
-use Rattle.cell_balance.proofs.Common.{example_lows, example_highs, balance, share, cell_at}
+use Rattle.cell_balance.proofs.Common.{◌≡◌, ℕ, zero, suc, ◌<◌, ◌⊎◌, inl, inr, refl, sym, arith, pos, neg_ℤ, ◌≤ℤ◌, true, nat_eq, cases_eq, ne_eqb, eq-eqb, ints, entries_at, Constant, lower_balance}
+use Rattle.cell_balance.proofs.Common.{upper_balance, head_at, IsCertificate, SolvesStep, LiesBetween, LeadsTo, Leads, IsComponent, IsCarried, IsHeldBelow, IsComparable, example_problem, example_step}
+use Rattle.cell_balance.proofs.Common.{example_heads, example_barrier, example_lows, example_highs, balance, share, cell_at}
 use Rattle.cell_balance.proofs.ExampleProblem.{of_three, example_fits, example_encloses}
 
 anchored : (c : ℕ) → c < 2 → Leads example_problem 0 c

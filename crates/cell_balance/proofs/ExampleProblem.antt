@@ -1,8 +1,7 @@
 -- The example's entries keep a problem's conditions, and enclose its exact step.
-use Rattle.cell_balance.proofs.Common.{◌≡◌, ℕ, zero, suc, ◌<◌, ◌≤◌, refl, arith, pos, neg_ℤ, [], ◌∷◌, All, Contains, ints, All-nil, All-cons, Encloses, Link}
-use Rattle.cell_balance.proofs.Common.{Fixed, Constant, Storage, entries_at, head_limit, IsHead, LinkFits, FixedFits, RiverFits, DrainFits, EvapFits, CellFits}
-use Rattle.cell_balance.proofs.Common.{LinksFit, IsProblem, HasLinkBack, HasEqualEnds, CellEncloses, EnclosesStep, example_problem, example_step, first_entries}
-use Rattle.cell_balance.proofs.Common.{second_entries, third_entries, first_cell, second_cell, third_cell, one, cell_at}
+use Rattle.cell_balance.proofs.Common.{◌≡◌, ℕ, zero, suc, ◌<◌, ◌≤◌, refl, arith, pos, neg_ℤ, [], ◌∷◌, All, Contains, ints, All-nil, All-cons, Encloses, Link, Fixed, Constant, Storage, entries_at}
+use Rattle.cell_balance.proofs.Common.{head_limit, IsHead, LinkFits, FixedFits, RiverFits, DrainFits, EvapFits, CellFits, LinksFit, IsProblem, HasLinkBack, HasEqualEnds, CellEncloses, EnclosesStep}
+use Rattle.cell_balance.proofs.Common.{example_problem, example_step, first_entries, second_entries, third_entries, first_cell, second_cell, third_cell, one, cell_at}
 
 single : {X : Type 0} (P : X → Type 0) (x : X) → P x → All P (x ∷ [])
 single P x h = All-cons P x [] h (All-nil P)

@@ -1,10 +1,9 @@
 -- Entries by kind: a flow is the conductance times a gap between heads, which falls with the cell's head, and its bounds.
-use Rattle.cell_balance.proofs.Common.{◌≡◌, ◌∙◌, ap, ℕ, ◌*◌, refl, sym, arith, ℤ, pos, neg_ℤ, ◌-ℤ◌, ◌*ℤ◌, int_max, int_min, ints, clamps, zero-*ℤ, mul_neg}
-use Rattle.cell_balance.proofs.Common.{IsBetweenWhole, Fixed, River, Drain, Evap, Side, Low, High, bound_on, branch_flow}
+use Rattle.cell_balance.proofs.Common.{◌≡◌, ◌∙◌, ap, ℕ, ◌*◌, refl, sym, arith, ℤ, pos, neg_ℤ, ◌-ℤ◌, ◌*ℤ◌, int_max, int_min, ints, clamps, zero-*ℤ, mul_neg, IsBetweenWhole, Fixed, River, Drain, Evap}
+use Rattle.cell_balance.proofs.Common.{Side, Low, High, bound_on, branch_flow}
 use Rattle.step_problem.specs.{fixed_flow, river_flow, drain_flow, evap_flow}
-use Rattle.cell_balance.proofs.Deep.{sub_mul, Bounds, bound_bounds, bounds_other, entry_bounds}
-use Rattle.cell_balance.proofs.Scaling.{max_times, min_times}
-use Rattle.cell_balance.proofs.Zips.{WholeEntry, whole_fixed, whole_river, whole_drain, whole_evap, FixedWithin, RiverWithin, DrainWithin, EvapWithin}
+use Rattle.cell_balance.proofs.{Deep.sub_mul, Deep.Bounds, Deep.bound_bounds, Deep.bounds_other, Deep.entry_bounds, Scaling.max_times, Scaling.min_times, Zips.WholeEntry, Zips.whole_fixed}
+use Rattle.cell_balance.proofs.{Zips.whole_river, Zips.whole_drain, Zips.whole_evap, Zips.FixedWithin, Zips.RiverWithin, Zips.DrainWithin, Zips.EvapWithin}
 
 pub data Kind : Type 0 where
   OfFixed : Kind

@@ -1,16 +1,12 @@
 -- What holds the components of a problem holds the closed sets of the whole numbers of each step that it encloses.
-use Rattle.cell_balance.proofs.Common.{*ℤ-zero, ◌*◌, arith, length, pos, mul-pos, ◌*ℤ◌, ◌<ℤ◌, ◌<◌, ◌≡◌, ◌≤ℤ◌, All, Bool, List, get_or, inl, inr, refl, subst}
-use Rattle.cell_balance.proofs.Common.{suc, sym, true, zero, ℕ, ℤ, ◌≤◌, Contains, AllZip, ints, All-contains, Contains-get_or, IsBetweenWhole, total}
-use Rattle.cell_balance.proofs.Common.{entries_at, no_entries, IsHeldBelow, LeadsTo, deep_low, sum_inside, IsCarried, IsComponent, Entries, Link}
-use Rattle.cell_balance.proofs.Zips.{AllZip-length, All-zip, WholeCell, WholeEntry, whole_at, whole_deep, CellWithin, FixedWithin, LinkWithin, AllZip-at}
-use Rattle.cell_balance.proofs.Zips.{no_whole, whole_balance, IsDry}
-use Rattle.cell_balance.proofs.Scaling.{conducting, positive_times}
-use Rattle.cell_balance.proofs.Sums.{sum_inside_times, sum_inside-zero}
-use Rattle.cell_balance.proofs.WholeBalances.{ramps_from, a_of, b_of, q_of, ramps_at_cell}
-use Rattle.cell_balance.proofs.Deep.{deep_less}
-use Rattle.cell_balance.proofs.Ramps.{IsClosed, extent, deep, IsHeldFromBelow}
-use Rattle.cell_balance.proofs.Conducting.{dry_law, All-back, links_lead_to_weight, weight_is_of_links, no_known_conductance, no_known_flow}
-use Rattle.cell_balance.proofs.Dry.{IsMutual, total-none}
+use Rattle.cell_balance.proofs.Common.{*ℤ-zero, ◌*◌, arith, length, pos, mul-pos, ◌*ℤ◌, ◌<ℤ◌, ◌<◌, ◌≡◌, ◌≤ℤ◌, All, Bool, List, get_or, inl, inr, refl, subst, suc, sym, true, zero, ℕ, ℤ, ◌≤◌, Contains}
+use Rattle.cell_balance.proofs.Common.{AllZip, ints, All-contains, Contains-get_or, IsBetweenWhole, total, entries_at, no_entries, IsHeldBelow, LeadsTo, deep_low, sum_inside, IsCarried, IsComponent}
+use Rattle.cell_balance.proofs.Common.{Entries, Link}
+use Rattle.cell_balance.proofs.{Zips.AllZip-length, Zips.All-zip, Zips.WholeCell, Zips.WholeEntry, Zips.whole_at, Zips.whole_deep, Zips.CellWithin, Zips.FixedWithin, Zips.LinkWithin, Zips.AllZip-at}
+use Rattle.cell_balance.proofs.{Zips.no_whole, Zips.whole_balance, Zips.IsDry, Scaling.conducting, Scaling.positive_times, Sums.sum_inside_times, Sums.sum_inside-zero, WholeBalances.ramps_from}
+use Rattle.cell_balance.proofs.{WholeBalances.a_of, WholeBalances.b_of, WholeBalances.q_of, WholeBalances.ramps_at_cell, Deep.deep_less, Ramps.IsClosed, Ramps.extent, Ramps.deep}
+use Rattle.cell_balance.proofs.{Ramps.IsHeldFromBelow, Conducting.dry_law, Conducting.All-back, Conducting.links_lead_to_weight, Conducting.weight_is_of_links, Conducting.no_known_conductance}
+use Rattle.cell_balance.proofs.{Conducting.no_known_flow, Dry.IsMutual, Dry.total-none}
 
 -- The cells of a carried component do not all lie below their bottoms and drains.
 -- one more link at the end of a way

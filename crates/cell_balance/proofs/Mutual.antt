@@ -1,11 +1,8 @@
 -- Where a step's cells are linked, any two cells conduct the same to each other.
-use Rattle.cell_balance.proofs.Common.{◌≡◌, ℕ, suc, zero, ◌*◌, ◌<◌, ◌⊎◌, inl, inr, refl, sym, ap, ◌∙◌, subst, arith, pos, List, [], ◌∷◌, length, get_or}
-use Rattle.cell_balance.proofs.Common.{Contains, AllZip, cases_eq, ne_eqb, eq-eqb, ints, All-get_or, Ratio, IsShare, ExactLink, mul-pos, ExactCell, cell_at}
-use Rattle.cell_balance.proofs.Common.{no_cell, HasLinkBack, AreLinked, no_link, eq_of_mul-eq-mul_right}
+use Rattle.cell_balance.proofs.Common.{◌≡◌, ℕ, suc, zero, ◌*◌, ◌<◌, ◌⊎◌, inl, inr, refl, sym, ap, ◌∙◌, subst, arith, pos, List, [], ◌∷◌, length, get_or, Contains, AllZip, cases_eq, ne_eqb, eq-eqb}
+use Rattle.cell_balance.proofs.Common.{ints, All-get_or, Ratio, IsShare, ExactLink, mul-pos, ExactCell, cell_at, no_cell, HasLinkBack, AreLinked, no_link, eq_of_mul-eq-mul_right}
 use Rattle.decimal_input.specs.Ratios.{Same, den}
-use Rattle.cell_balance.proofs.Zips.{AllZip-at, AllZip-length, All-zip, WholeLink, WholeCell, whole_at, no_whole}
-use Rattle.cell_balance.proofs.Dry.{weight, IsMutual}
-use Rattle.cell_balance.proofs.Over.{LinkOver, CellOver}
+use Rattle.cell_balance.proofs.{Zips.AllZip-at, Zips.AllZip-length, Zips.All-zip, Zips.WholeLink, Zips.WholeCell, Zips.whole_at, Zips.no_whole, Dry.weight, Dry.IsMutual, Over.LinkOver, Over.CellOver}
 
 abbrev pub no_whole_link : WholeLink
 no_whole_link = record { cell = 0; c = 0 }

@@ -1,13 +1,10 @@
 -- An exact step and its whole numbers: conductances over k, heads over m, flows over k * m.
-use Rattle.cell_balance.proofs.Common.{◌≡◌, ℕ, ◌*◌, subst, arith, ℤ, pos, ◌+ℤ◌, ◌-ℤ◌, ◌*ℤ◌, AllZip, int_max, int_min, ints, Fraction, IsOver, whole}
-use Rattle.cell_balance.proofs.Common.{as_fraction, times, Ratio, IsShare, total, ExactFlow, ExactLink, ExactFixed, ExactRiver, ExactDrain, ExactEvap}
-use Rattle.cell_balance.proofs.Common.{ExactCell, minus, greater, lesser, link_flow, fixed_flow, river_flow, drain_flow, evap_flow, balance, deep_flow}
-use Rattle.cell_balance.proofs.Common.{full_rate}
+use Rattle.cell_balance.proofs.Common.{◌≡◌, ℕ, ◌*◌, subst, arith, ℤ, pos, ◌+ℤ◌, ◌-ℤ◌, ◌*ℤ◌, AllZip, int_max, int_min, ints, Fraction, IsOver, whole, as_fraction, times, Ratio, IsShare, total}
+use Rattle.cell_balance.proofs.Common.{ExactFlow, ExactLink, ExactFixed, ExactRiver, ExactDrain, ExactEvap, ExactCell, minus, greater, lesser, link_flow, fixed_flow, river_flow, drain_flow, evap_flow}
+use Rattle.cell_balance.proofs.Common.{balance, deep_flow, full_rate}
 use Rattle.cell_balance.specs.{deep_river}
-use Rattle.cell_balance.proofs.Scaling.{IsOver-plus, IsOver-times, IsOver-negated, IsOver-minus, IsOver-none, IsOver-signed, IsOver-greater, IsOver-lesser}
-use Rattle.cell_balance.proofs.Scaling.{IsOver-total}
-use Rattle.cell_balance.proofs.Zips.{WholeLink, WholeEntry, WholeCell, whole_link, whole_fixed, whole_river, whole_drain, whole_evap, whole_balance, whole_deep}
-use Rattle.cell_balance.proofs.Zips.{whole_deep_river, whole_full}
+use Rattle.cell_balance.proofs.Scaling.{IsOver-plus, IsOver-times, IsOver-negated, IsOver-minus, IsOver-none, IsOver-signed, IsOver-greater, IsOver-lesser, IsOver-total}
+use Rattle.cell_balance.proofs.Zips.{WholeLink, WholeEntry, WholeCell, whole_link, whole_fixed, whole_river, whole_drain, whole_evap, whole_balance, whole_deep, whole_deep_river, whole_full}
 
 module _ (k m : ℕ) where
   pub record FlowOver (e : ExactFlow) (q : ℤ) : Type 0 where

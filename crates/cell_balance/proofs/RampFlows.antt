@@ -1,6 +1,6 @@
 -- The flows of ramps: they leave the cell, fall as its head rises, and where they are the same at two heads they are within the full rates.
-use Rattle.cell_balance.proofs.Common.{[], ◌*ℤ◌, ◌<ℤ◌, ◌∷◌, ◌≡◌, ◌≤ℤ◌, Bool, List, arith, cond, false, nat_eq, neg_ℤ, pos, suc, true, zero, ℕ, ℤ, *ℤ-zero}
-use Rattle.cell_balance.proofs.Common.{loss_falls, mul_add, clamps, ints, total, as_diff, diffs, mul_mono, same_diff, None, Option, Some}
+use Rattle.cell_balance.proofs.Common.{[], ◌*ℤ◌, ◌<ℤ◌, ◌∷◌, ◌≡◌, ◌≤ℤ◌, Bool, List, arith, cond, false, nat_eq, neg_ℤ, pos, suc, true, zero, ℕ, ℤ, *ℤ-zero, loss_falls, mul_add, clamps, ints, total}
+use Rattle.cell_balance.proofs.Common.{as_diff, diffs, mul_mono, same_diff, None, Option, Some}
 use Rattle.cell_balance.proofs.Scaling.{cancel_le}
 use Rattle.cell_balance.proofs.Ramps.{Ramp, rise, extent, ramp_flow, full_rate, rise_grows, rise_within_extent, extent_nonneg, rise_nonneg}
 

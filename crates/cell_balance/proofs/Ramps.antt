@@ -1,6 +1,6 @@
 -- A step in whole numbers, with ramps in place of its rivers, drains and evapotranspirations. Heads are whole numerators over d; every elevation is a whole number.
-use Rattle.cell_balance.proofs.Common.{◌*ℤ◌, ◌+ℤ◌, ◌-ℤ◌, ◌<ℤ◌, ◌<◌, ◌≡◌, ◌≤ℤ◌, Bool, List, cond, nat_eq, neg_ℤ, pos, true, ℕ, ℤ, int_max, int_min, total}
-use Rattle.cell_balance.proofs.Common.{sum_below, sum_inside, ◌∙◌, arith, sym, clamps, ints, mul_mono_right, None, Option, Some}
+use Rattle.cell_balance.proofs.Common.{◌*ℤ◌, ◌+ℤ◌, ◌-ℤ◌, ◌<ℤ◌, ◌<◌, ◌≡◌, ◌≤ℤ◌, Bool, List, cond, nat_eq, neg_ℤ, pos, true, ℕ, ℤ, int_max, int_min, total, sum_below, sum_inside, ◌∙◌, arith, sym}
+use Rattle.cell_balance.proofs.Common.{clamps, ints, mul_mono_right, None, Option, Some}
 use Rattle.cell_balance.proofs.Deep.{sub_mul}
 
 -- what leaves a cell: c * (head - foot) between foot and top, nothing below, no more above; a ramp without a top goes on

@@ -1,8 +1,7 @@
 -- Arithmetic of fractions goes over to whole numbers over a common denominator.
-use Rattle.cell_balance.proofs.Common.{◌≡◌, ℕ, zero, suc, ◌+◌, ◌*◌, ◌<◌, sym, ap, ◌∙◌, arith, ℤ, pos, neg_ℤ, ◌+ℤ◌, ◌-ℤ◌, ◌*ℤ◌, List, [], ◌∷◌, ◌≤◌, refl, negsuc}
-use Rattle.cell_balance.proofs.Common.{◌≤ℤ◌, ◌<ℤ◌, AllZip, int_max, int_min, ints, clamps, by_lt_z, zero-*ℤ, Ratio, Fraction, whole, as_fraction, opposite}
-use Rattle.cell_balance.proofs.Common.{fraction_total, IsOver, IsShare, den, plus, times, diffs, as_diff, same_diff, mul_mono, mul_add, neg_mul, total, minus}
-use Rattle.cell_balance.proofs.Common.{greater, lesser, mul_mono_right, last_factors_swap, mul-le-mul_right, *ℤ_comm}
+use Rattle.cell_balance.proofs.Common.{◌≡◌, ℕ, zero, suc, ◌+◌, ◌*◌, ◌<◌, sym, ap, ◌∙◌, arith, ℤ, pos, neg_ℤ, ◌+ℤ◌, ◌-ℤ◌, ◌*ℤ◌, List, [], ◌∷◌, ◌≤◌, refl, negsuc, ◌≤ℤ◌, ◌<ℤ◌, AllZip, int_max, int_min}
+use Rattle.cell_balance.proofs.Common.{ints, clamps, by_lt_z, zero-*ℤ, Ratio, Fraction, whole, as_fraction, opposite, fraction_total, IsOver, IsShare, den, plus, times, diffs, as_diff, same_diff}
+use Rattle.cell_balance.proofs.Common.{mul_mono, mul_add, neg_mul, total, minus, greater, lesser, mul_mono_right, last_factors_swap, mul-le-mul_right, *ℤ_comm}
 
 -- Order laws of products with whole conductances, and what holds at a cell whose excess over its solution is the greatest, on either side.
 -- a product with a positive number is zero only where the other factor is

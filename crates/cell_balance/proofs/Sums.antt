@@ -1,10 +1,7 @@
 -- Sums over the cells below a number, and the greatest value of a function there.
-use Rattle.cell_balance.proofs.Common.{◌≡◌, ℕ, suc, zero, ◌<◌, ◌⊎◌, inl, inr, refl, arith, ℤ, pos, ◌≤ℤ◌, ◌<ℤ◌, ◌≤◌, sym, ◌∙◌, neg_ℤ, ◌+ℤ◌, ◌*ℤ◌, cond, nat_eq}
-use Rattle.cell_balance.proofs.Common.{◌-ℤ◌, Bool, false, true, cases_lt, cases_eq, ne_eqb, eq-eqb, true≢false, ints, by_lt_z, zero-*ℤ, *ℤ-zero, sum_below}
-use Rattle.cell_balance.proofs.Common.{sum_inside, as_diff, diffs, mul_add, same_diff}
-use Rattle.cell_balance.proofs.Deep.{add_mul}
-use Rattle.cell_balance.proofs.Scaling.{cancel_le}
-use Rattle.cell_balance.proofs.Ramps.{link_flow, IsClosed, AreMutual}
+use Rattle.cell_balance.proofs.Common.{◌≡◌, ℕ, suc, zero, ◌<◌, ◌⊎◌, inl, inr, refl, arith, ℤ, pos, ◌≤ℤ◌, ◌<ℤ◌, ◌≤◌, sym, ◌∙◌, neg_ℤ, ◌+ℤ◌, ◌*ℤ◌, cond, nat_eq, ◌-ℤ◌, Bool, false, true, cases_lt}
+use Rattle.cell_balance.proofs.Common.{cases_eq, ne_eqb, eq-eqb, true≢false, ints, by_lt_z, zero-*ℤ, *ℤ-zero, sum_below, sum_inside, as_diff, diffs, mul_add, same_diff}
+use Rattle.cell_balance.proofs.{Deep.add_mul, Scaling.cancel_le, Ramps.link_flow, Ramps.IsClosed, Ramps.AreMutual}
 
 -- the greatest of e below n, or 0
 pub max_of : (e : ℕ → ℤ) (n : ℕ) → (m : ℤ) × (pos 0 ≤ℤ m) × ((k : ℕ) → k < n → e k ≤ℤ m) × ((m ≡ pos 0) ⊎ ((c : ℕ) × (c < n) × (e c ≡ m)))

@@ -1,10 +1,8 @@
 -- The balance of a cell in whole numbers is its net flow in the step with ramps.
-use Rattle.cell_balance.proofs.Common.{[], ◌*ℤ◌, ◌+ℤ◌, ◌-ℤ◌, ◌<◌, ◌∷◌, ◌≡◌, All, List, arith, length, map, neg_ℤ, pos, refl, sym, ℕ, ℤ, int_max, *ℤ-zero}
-use Rattle.cell_balance.proofs.Common.{clamps, ints, total, as_diff, diffs, same_diff, sum_below, ◌+◌, ◌∙◌, cond, nat_eq, subst, suc, zero, eq-eqb, ne_eqb}
-use Rattle.cell_balance.proofs.Common.{◌++◌, None, Some}
-use Rattle.cell_balance.proofs.Dry.{weight, by_weight}
-use Rattle.cell_balance.proofs.Zips.{WholeCell, WholeEntry, whole_at, whole_balance, whole_deep_river, whole_drain, whole_evap, whole_fixed, whole_river}
-use Rattle.cell_balance.proofs.Ramps.{Ramp, rise, net_flow}
+use Rattle.cell_balance.proofs.Common.{[], ◌*ℤ◌, ◌+ℤ◌, ◌-ℤ◌, ◌<◌, ◌∷◌, ◌≡◌, All, List, arith, length, map, neg_ℤ, pos, refl, sym, ℕ, ℤ, int_max, *ℤ-zero, clamps, ints, total, as_diff, diffs}
+use Rattle.cell_balance.proofs.Common.{same_diff, sum_below, ◌+◌, ◌∙◌, cond, nat_eq, subst, suc, zero, eq-eqb, ne_eqb, ◌++◌, None, Some}
+use Rattle.cell_balance.proofs.{Dry.weight, Dry.by_weight, Zips.WholeCell, Zips.WholeEntry, Zips.whole_at, Zips.whole_balance, Zips.whole_deep_river, Zips.whole_drain, Zips.whole_evap}
+use Rattle.cell_balance.proofs.{Zips.whole_fixed, Zips.whole_river, Ramps.Ramp, Ramps.rise, Ramps.net_flow}
 
 -- The ramps of a step in whole numbers: those of each cell are its rivers, drains and evapotranspirations.
 -- a cell's conductance to known heads, and what they and its constant and deep flows give at a head of 0

@@ -1,6 +1,6 @@
 -- Lists that are related place by place.
-use Rattle.cell_balance.proofs.Common.{◌≡◌, ℕ, suc, zero, ◌<◌, refl, ap, arith, List, [], ◌∷◌, length, get_or, All, AllZip, All-cons, All-head, All-tail}
-use Rattle.cell_balance.proofs.Common.{All-nil, int_max, int_min, total, IsBetweenWhole, IsBetweenSigned, Flow, Link, Fixed, River, Drain, Evap, Entries}
+use Rattle.cell_balance.proofs.Common.{◌≡◌, ℕ, suc, zero, ◌<◌, refl, ap, arith, List, [], ◌∷◌, length, get_or, All, AllZip, All-cons, All-head, All-tail, All-nil, int_max, int_min, total}
+use Rattle.cell_balance.proofs.Common.{IsBetweenWhole, IsBetweenSigned, Flow, Link, Fixed, River, Drain, Evap, Entries}
 use Rattle.std.specs.Prelude.{slice_index_or, ℤ, pos, neg_ℤ, ◌+ℤ◌, ◌-ℤ◌, ◌*ℤ◌, ◌*◌, ◌⊎◌, ◌≤ℤ◌}
 
 -- at one place

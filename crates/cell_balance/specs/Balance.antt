@@ -1,8 +1,7 @@
 -- The flow of each kind into a variable cell, and their sum, at heads that are fractions (TM 6-A16, chapters 2 and 6). A flow into the cell is positive.
 use Rattle.std.specs.Prelude.{ℕ, ◌+◌, ◌*◌, pos, ◌*ℤ◌, ◌≡◌, ◌-◌, ◌^◌, ◌<◌, List, length, ℤ, ◌≤ℤ◌, zero, suc, All, Bool, true, cond}
 use Rattle.std.specs.Int.{int_max, int_min}
-use Rattle.decimal_input.specs.{Fraction, whole, as_fraction, opposite, fraction_total}
-use Rattle.decimal_input.specs.Fractions.{den, plus, times, AtMost}
+use Rattle.decimal_input.specs.{Fraction, whole, as_fraction, opposite, fraction_total, Fractions.den, Fractions.plus, Fractions.times, Fractions.AtMost}
 use Rattle.cell_balance.specs.Steps.{ExactLink, ExactFixed, ExactRiver, ExactDrain, ExactEvap, ExactCell, cell_at}
 
 -- f - g

@@ -4,17 +4,11 @@
 use Rattle.std.specs.Prelude.{◌≡◌, ℕ, ◌+◌, List, ◌<◌, length, ℤ, zero, suc, ◌⊎◌, Contains, Bool, true, cond, pos, ◌+ℤ◌, ◌-ℤ◌, ◌<ℤ◌}
 use Rattle.std.specs.List.{AllZip}
 use Rattle.decimal_input.specs.{Encloses, EnclosesSigned}
-use Rattle.step_problem.specs.declared.entry.Flow.{Flow}
-use Rattle.step_problem.specs.declared.entry.Link.{Link}
-use Rattle.step_problem.specs.declared.entry.Fixed.{Fixed}
-use Rattle.step_problem.specs.declared.entry.River.{River}
-use Rattle.step_problem.specs.declared.entry.Drain.{Drain}
-use Rattle.step_problem.specs.declared.entry.Evap.{Evap}
-use Rattle.step_problem.specs.Entries.{Entries}
+use Rattle.step_problem.specs.{declared.entry.Flow.Flow, declared.entry.Link.Link, declared.entry.Fixed.Fixed, declared.entry.River.River}
+use Rattle.step_problem.specs.{declared.entry.Drain.Drain, declared.entry.Evap.Evap, Entries.Entries, declared.heads.Side.TheVariants.Low, entries_at, total}
+use Rattle.step_problem.specs.{deep_river, full_rate}
 use Rattle.cell_balance.specs.Steps.{ExactFlow, ExactLink, ExactFixed, ExactRiver, ExactDrain, ExactEvap, ExactCell, HasEqualEnds}
 use Rattle.cell_balance.specs.Balance.{SolvesStep, LiesBetween}
-use Rattle.step_problem.specs.declared.heads.Side.TheVariants.{Low}
-use Rattle.step_problem.specs.{entries_at, total, deep_river, full_rate}
 
 module _ (s : ℕ) where
   pub record FlowEncloses (p : Flow) (e : ExactFlow) : Type 0 where

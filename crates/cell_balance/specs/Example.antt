@@ -5,10 +5,8 @@
 -- decimal.
 use Rattle.std.specs.Prelude.{ℕ, List, [], ◌∷◌, ℤ, pos, neg_ℤ}
 use Rattle.decimal_input.specs.{Ratio, whole}
-use Rattle.step_problem.specs.declared.entry.FixedKind.TheVariants.{Constant, Storage}
-use Rattle.step_problem.specs.declared.entry.FlowKind.TheVariants.{Wells}
-use Rattle.step_problem.specs.Entries.{Entries}
-use Rattle.step_problem.specs.{Edges, head_at}
+use Rattle.step_problem.specs.{declared.entry.FixedKind.TheVariants.Constant, declared.entry.FixedKind.TheVariants.Storage}
+use Rattle.step_problem.specs.{declared.entry.FlowKind.TheVariants.Wells, Entries.Entries, Edges, head_at}
 use Rattle.cell_balance.specs.Steps.{ExactCell}
 
 abbrev pub one : Ratio

@@ -2,19 +2,14 @@
 use Rattle.std.specs.Prelude.{◌≡◌, ℕ, ◌<◌, List, length, All, Bool, true, ℤ, pos, ◌≤ℤ◌, ◌+◌, ◌*ℤ◌, ◌<ℤ◌}
 use Rattle.decimal_input.specs.{fraction_total, Fraction, as_fraction, opposite, EnclosesSigned}
 use Rattle.decimal_input.specs.Fractions.{AtMost, den, times, Same}
-use Rattle.step_problem.specs.Entries.{Entries}
-use Rattle.step_problem.specs.{IsProblem, Edges, head_at, IsCertificate, link_flow as link_bound, fixed_flow as fixed_bound, river_flow as river_bound}
-use Rattle.step_problem.specs.{drain_flow as drain_bound, evap_flow as evap_bound}
-use Rattle.step_problem.specs.declared.heads.Side.TheVariants.{Low, High}
+use Rattle.step_problem.specs.{Entries.Entries, IsProblem, Edges, head_at, IsCertificate, link_flow as link_bound, fixed_flow as fixed_bound}
+use Rattle.step_problem.specs.{river_flow as river_bound, drain_flow as drain_bound, evap_flow as evap_bound, declared.heads.Side.TheVariants.Low}
+use Rattle.step_problem.specs.{declared.heads.Side.TheVariants.High, declared.entry.Link.Link, declared.entry.Fixed.Fixed, declared.entry.River.River}
+use Rattle.step_problem.specs.{declared.entry.Drain.Drain, declared.entry.Evap.Evap}
 use Rattle.cell_balance.specs.Steps.{ExactCell, cell_at, AreLinked, ExactLink, ExactFixed, ExactRiver, ExactDrain, ExactEvap}
 use Rattle.cell_balance.specs.Balance.{link_flow, balance, share, SolvesStep, LiesBetween, minus, fixed_flow, river_flow, drain_flow, evap_flow, total_inside}
 use Rattle.cell_balance.specs.Balance.{IsClosed, deep_flow, LiesBelow, deep_river, full_rate}
 use Rattle.cell_balance.specs.Enclosures.{EnclosesStep, LinkEncloses, FixedEncloses, RiverEncloses, DrainEncloses, EvapEncloses, IsHeldBelow}
-use Rattle.step_problem.specs.declared.entry.Link.{Link}
-use Rattle.step_problem.specs.declared.entry.Fixed.{Fixed}
-use Rattle.step_problem.specs.declared.entry.River.{River}
-use Rattle.step_problem.specs.declared.entry.Drain.{Drain}
-use Rattle.step_problem.specs.declared.entry.Evap.{Evap}
 
 -- over a set of cells closed under links, the flows over links cancel
 abbrev pub LinksCancel : Type 0

@@ -2,10 +2,8 @@
 -- (TM 6-A16, chapters 2, 5 and 6). Conductances, heads and flows are exact fractions, in the model's units of length
 -- and time.
 use Rattle.std.specs.Prelude.{ℕ, List, [], slice_index_or, ◌≡◌, ◌<◌, length, All, Contains}
-use Rattle.decimal_input.specs.{Ratio, Fraction}
-use Rattle.decimal_input.specs.Ratios.{Same}
-use Rattle.step_problem.specs.declared.entry.FixedKind.{FixedKind}
-use Rattle.step_problem.specs.declared.entry.FlowKind.{FlowKind}
+use Rattle.decimal_input.specs.{Ratio, Fraction, Ratios.Same}
+use Rattle.step_problem.specs.{declared.entry.FixedKind.FixedKind, declared.entry.FlowKind.FlowKind}
 
 -- A flow that no head changes: a well, or the recharge that the cell receives (TM 6-A16, chapter 6, WEL and RCH).
 pub record ExactFlow : Type 0 where

@@ -1,9 +1,7 @@
 -- The search for a relaxed head.
-use Rattle.cell_relax.proofs.Common.{◌≡◌, ℕ, ◌⊎◌, inl, inr, refl, arith, sym, ◌∙◌, subst, List, ℤ, pos, ◌-ℤ◌, ◌≤ℤ◌, ◌<ℤ◌, ◌+◌, ◌<◌, ap, [], ◌∷◌, ◌++◌, length}
-use Rattle.cell_relax.proofs.Common.{take, slice_set, All, get_or, ints, by_lt_z, Side, Low, High, Entries, entries_at, ends_in, IsHead, balance, no_link}
-use Rattle.cell_relax.proofs.Common.{link_at, balance_falls, IsAsTight, LetsMove, Moves, IsRelaxedOn, turned_on}
-use Rattle.std.proofs.lemmas.List.{take_more, take_more_set, map-append}
-use Rattle.std.proofs.lemmas.List.Elements.{All-map}
+use Rattle.cell_relax.proofs.Common.{◌≡◌, ℕ, ◌⊎◌, inl, inr, refl, arith, sym, ◌∙◌, subst, List, ℤ, pos, ◌-ℤ◌, ◌≤ℤ◌, ◌<ℤ◌, ◌+◌, ◌<◌, ap, [], ◌∷◌, ◌++◌, length, take, slice_set, All, get_or, ints}
+use Rattle.cell_relax.proofs.Common.{by_lt_z, Side, Low, High, Entries, entries_at, ends_in, IsHead, balance, no_link, link_at, balance_falls, IsAsTight, LetsMove, Moves, IsRelaxedOn, turned_on}
+use Rattle.std.proofs.{lemmas.List.take_more, lemmas.List.take_more_set, lemmas.List.map-append, lemmas.List.Elements.All-map}
 use Rattle.step_problem.specs.declared.entry.Link.{Link}
 
 turned_back : (side : Side) (v : ℤ) → turned_on side (turned_on side v) ≡ v

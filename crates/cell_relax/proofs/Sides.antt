@@ -1,6 +1,6 @@
 -- Both sides of a problem, by one variable.
-use Rattle.cell_relax.proofs.Common.{◌≡◌, ℕ, ◌<◌, ◌⊎◌, inl, inr, arith, sym, subst, List, length, ℤ, ints, by_lt_z, Side, Low, High, Entries, IsHead, IsProblem}
-use Rattle.cell_relax.proofs.Common.{low_side, high_side, heads_on, IsAsTight, Moves, other, clamps, tighter_of, AreWords}
+use Rattle.cell_relax.proofs.Common.{◌≡◌, ℕ, ◌<◌, ◌⊎◌, inl, inr, arith, sym, subst, List, length, ℤ, ints, by_lt_z, Side, Low, High, Entries, IsHead, IsProblem, low_side, high_side, heads_on}
+use Rattle.cell_relax.proofs.Common.{IsAsTight, Moves, other, clamps, tighter_of, AreWords}
 use Rattle.step_problem.specs.declared.heads.Bound.{Bound}
 use Rattle.step_problem.proofs.Sides.{IsSide}
 

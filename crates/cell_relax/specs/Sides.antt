@@ -1,11 +1,8 @@
 -- The order of tightness and the moves of either side.
 use Rattle.std.specs.Prelude.{ℕ, ◌<◌, List, length, ℤ, pos, neg_ℤ, ◌≤ℤ◌, ◌≡◌, slice_index_or, All}
 use Rattle.std.specs.Int.{int_max, int_min}
-use Rattle.step_problem.specs.declared.heads.Side.{Side}
-use Rattle.step_problem.specs.declared.heads.Side.TheVariants.{Low, High}
-use Rattle.step_problem.specs.Entries.{Entries}
-use Rattle.step_problem.specs.{entries_at, balance, IsRelaxed, IsHead, no_bound, lower_at, upper_at}
-use Rattle.step_problem.specs.declared.heads.Bound.{Bound}
+use Rattle.step_problem.specs.{declared.heads.Side.Side, declared.heads.Side.TheVariants.Low, declared.heads.Side.TheVariants.High, Entries.Entries, entries_at}
+use Rattle.step_problem.specs.{balance, IsRelaxed, IsHead, no_bound, lower_at, upper_at, declared.heads.Bound.Bound}
 
 -- Heads of a problem's cells, kept as one bound for each cell.
 -- the head of a bound on one side

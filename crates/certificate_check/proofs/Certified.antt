@@ -1,6 +1,5 @@
 -- A certificate encloses what its barrier encloses.
-use Rattle.certificate_check.proofs.Common.{ℕ, ◌<◌, List, length, ℤ, Edges, head_at, IsCertificate, IsProblem, pair_certifies, SettledPairEncloses}
-use Rattle.certificate_check.proofs.Common.{certified_bounds_enclose}
+use Rattle.certificate_check.proofs.Common.{ℕ, ◌<◌, List, length, ℤ, Edges, head_at, IsCertificate, IsProblem, pair_certifies, SettledPairEncloses, certified_bounds_enclose}
 use Rattle.step_problem.specs.Entries.{Entries}
 use Rattle.cell_balance.specs.{ExactCell, EnclosesStep, EnclosesSolutions, SolvesStep, LiesBetween, IsHeldBelow}
 

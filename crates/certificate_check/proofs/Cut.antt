@@ -1,12 +1,10 @@
 -- A certificate over a cut barrier encloses every solution, and one over the clamped barrier fails only where a bound was cut.
-use Rattle.certificate_check.proofs.Common.{lower_at, upper_at, head_at, ℕ, ℤ, ◌^◌, inl, inr, subst, arith, pos, neg_ℤ, ◌*ℤ◌, ◌≤ℤ◌, ◌<ℤ◌, Low, High, head_limit}
-use Rattle.certificate_check.proofs.Common.{pair_certifies, HoldsAt, CertificateEncloses, FailsOnlyWhereCut, CertificateExcludesRefusal, RangeRefusalIsOne}
-use Rattle.certificate_check.proofs.Common.{ClampedPairEncloses, bounds_enclose}
+use Rattle.certificate_check.proofs.Common.{lower_at, upper_at, head_at, ℕ, ℤ, ◌^◌, inl, inr, subst, arith, pos, neg_ℤ, ◌*ℤ◌, ◌≤ℤ◌, ◌<ℤ◌, Low, High, head_limit, pair_certifies, HoldsAt}
+use Rattle.certificate_check.proofs.Common.{CertificateEncloses, FailsOnlyWhereCut, CertificateExcludesRefusal, RangeRefusalIsOne, ClampedPairEncloses, bounds_enclose}
 use Rattle.std.proofs.lemmas.Int.{by_lt_z, clamps, ints}
 use Rattle.decimal_input.proofs.FloorLaws.{le-trans, mul_mono_right}
 use Rattle.barrier_vector.specs.{clamp, clamped_edges, range_on}
-use Rattle.barrier_vector.proofs.Cutting.{refusal_is_one}
-use Rattle.barrier_vector.proofs.Outlining.{clamped_at}
+use Rattle.barrier_vector.proofs.{Cutting.refusal_is_one, Outlining.clamped_at}
 use Rattle.certificate_check.proofs.Certified.{certificate_compares}
 
 -- a head at or past a bound that was not cut lies where the bound does, and no head lies at one that was cut

@@ -1,15 +1,10 @@
 -- Where a certificate holds, and the first place where it fails.
 use Rattle.std.specs.Prelude.{◌≡◌, ℕ, ◌<◌, ◌⊎◌, List, length, pos, ◌≤ℤ◌, ℤ, neg_ℤ}
-use Rattle.step_problem.specs.declared.heads.Bound.{Bound}
-use Rattle.step_problem.specs.declared.heads.Side.{Side}
-use Rattle.step_problem.specs.declared.heads.Side.TheVariants.{Low, High}
-use Rattle.step_problem.specs.declared.place.NoBound.{NoBound}
-use Rattle.step_problem.specs.Entries.{Entries}
-use Rattle.step_problem.specs.{entries_at, lower_balance, upper_balance, Edges, head_at, lower_at, upper_at, IsBarrier, IsSettledPair, IsCertificate, IsProblem}
-use Rattle.step_problem.specs.{head_limit, bound_on}
+use Rattle.step_problem.specs.{declared.heads.Bound.Bound, declared.heads.Side.Side, declared.heads.Side.TheVariants.Low, declared.heads.Side.TheVariants.High}
+use Rattle.step_problem.specs.{declared.place.NoBound.NoBound, Entries.Entries, entries_at, lower_balance, upper_balance, Edges, head_at, lower_at, upper_at}
+use Rattle.step_problem.specs.{IsBarrier, IsSettledPair, IsCertificate, IsProblem, head_limit, bound_on}
 use Rattle.barrier_vector.specs.{range_on, Refuses, EnclosesUncut, clamped_edges, IsOutOfRange}
-use Rattle.certificate_check.specs.declared.Verdict.{Verdict}
-use Rattle.certificate_check.specs.declared.Verdict.TheVariants.{Yes, No}
+use Rattle.certificate_check.specs.{declared.Verdict.Verdict, declared.Verdict.TheVariants.Yes, declared.Verdict.TheVariants.No}
 use Rattle.cell_relax.specs.{AreWords}
 use Rattle.cell_balance.specs.{IsHeldBelow, ExactCell, EnclosesStep, EnclosesSolutions, SolvesStep, LiesBetween}
 

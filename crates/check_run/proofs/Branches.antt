@@ -1,19 +1,15 @@
 -- The branches of a step's problem, and of a hull of two, are those of the first deck's cells; so its faces join the pairs of zones that share a face.
-use Rattle.check_run.proofs.Common.{cell_hull, cell_shape, fixed_hull, fixed_shape, map, zip_with, ◌≡◌, inl, inr, ℕ, suc, ◌<◌, ◌++◌, ◌⊎◌, Bool, true, false}
-use Rattle.check_run.proofs.Common.{cond, List, [], ◌∷◌, length, get_or, Option, Some, None, refl, sym, ap, ◌∙◌, subst, arith, ℤ, AllZip, flat_map, filter_map}
-use Rattle.check_run.proofs.Common.{nat_lt, slice_index, and_from, and_parts, cases_Bool, leb-true, lt-ltb, nat_tests, Bound, Entries, entries_at, no_entries}
-use Rattle.check_run.proofs.Common.{FlowModel, TimeStep, cell_count, HasSize, is_variable, is_constant, is_active, index_of, variable_cells, FixedSource}
-use Rattle.check_run.proofs.Common.{as_general, constant_faces, fixed_sources, local_entries, storage_at, variable_faces, passing, at_rank, below_is, index_is}
-use Rattle.check_run.proofs.Common.{index_below, IsProblemBy, Face, share, any_in, in_any, cell_faces, face_between, face_from, faces, faces_by_kind}
-use Rattle.check_run.proofs.Common.{fixed_faces, link_faces, is_lower_zone, ZonePair, share_face, joins, face_of, join_of, shares, AllZip-at, AllZip-length}
-use Rattle.check_run.proofs.Common.{flat-In, IsProblemOf, ToConstant, ToGeneral, FromStorage, is_between, eqb-true, ◌==◌, left_of, right_of, zip_image}
-use Rattle.check_run.proofs.Common.{cells_of, whole_cell, whole_link, whole_fixed, IsModel, IfSome, IsSecond, hull_parts}
-use Rattle.model_types.proofs.Members.{In-map, In}
+use Rattle.check_run.proofs.Common.{cell_hull, cell_shape, fixed_hull, fixed_shape, map, zip_with, ◌≡◌, inl, inr, ℕ, suc, ◌<◌, ◌++◌, ◌⊎◌, Bool, true, false, cond, List, [], ◌∷◌, length, get_or}
+use Rattle.check_run.proofs.Common.{Option, Some, None, refl, sym, ap, ◌∙◌, subst, arith, ℤ, AllZip, flat_map, filter_map, nat_lt, slice_index, and_from, and_parts, cases_Bool, leb-true, lt-ltb}
+use Rattle.check_run.proofs.Common.{nat_tests, Bound, Entries, entries_at, no_entries, FlowModel, TimeStep, cell_count, HasSize, is_variable, is_constant, is_active, index_of, variable_cells}
+use Rattle.check_run.proofs.Common.{FixedSource, as_general, constant_faces, fixed_sources, local_entries, storage_at, variable_faces, passing, at_rank, below_is, index_is, index_below, IsProblemBy}
+use Rattle.check_run.proofs.Common.{Face, share, any_in, in_any, cell_faces, face_between, face_from, faces, faces_by_kind, fixed_faces, link_faces, is_lower_zone, ZonePair, share_face, joins}
+use Rattle.check_run.proofs.Common.{face_of, join_of, shares, AllZip-at, AllZip-length, flat-In, IsProblemOf, ToConstant, ToGeneral, FromStorage, is_between, eqb-true, ◌==◌, left_of, right_of}
+use Rattle.check_run.proofs.Common.{zip_image, cells_of, whole_cell, whole_link, whole_fixed, IsModel, IfSome, IsSecond, hull_parts}
+use Rattle.model_types.proofs.{Members.In-map, Members.In, Leads.end_within, Leads.face_back, Leads.faces_are, Leads.faces_have, Leads.passing_are, Leads.turned, Leads.IsFaceOf, Leads.passing_have}
 use Rattle.problem_builder.proofs.Members.{In-append, In-variable, variable-In, fixed_source, constant_active, variable_active}
-use Rattle.step_problem.specs.declared.entry.Fixed.{Fixed}
-use Rattle.step_problem.specs.declared.entry.FixedKind.TheVariants.{Constant, Storage, General}
-use Rattle.step_problem.specs.declared.entry.Link.{Link}
-use Rattle.model_types.proofs.Leads.{end_within, face_back, faces_are, faces_have, passing_are, turned, IsFaceOf, passing_have}
+use Rattle.step_problem.specs.{declared.entry.Fixed.Fixed, declared.entry.FixedKind.TheVariants.Constant, declared.entry.FixedKind.TheVariants.Storage, declared.entry.FixedKind.TheVariants.General}
+use Rattle.step_problem.specs.{declared.entry.Link.Link}
 use Rattle.model_types.specs.declared.face.Face.{Face as ModelFace}
 use Rattle.std.specs.Option.{option_to_list}
 

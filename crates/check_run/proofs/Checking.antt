@@ -1,12 +1,9 @@
 -- A check, step by step.
-use Rattle.check_run.proofs.Common.{Limits, All, Contains, ◌≡◌, ℕ, suc, List, [], ◌∷◌, ◌+◌, ◌<◌, ◌≤◌, subst, sym, ap, refl, arith, ◌∙◌, inl, inr, drop, length}
-use Rattle.check_run.proofs.Common.{get_or, Option, AllZip, All-head, All-tail, All-contains_itself, drop_more, drop_all, Bound, ZoneFlow, TimeStep, times}
-use Rattle.check_run.proofs.Common.{AreGridHeads, pairs_in, ListedStep, AreFlows, IsListedAt, AreListed, AllZip-length, IsListedStep, step_in, BoundsMoves}
-use Rattle.check_run.proofs.Common.{CheckFault, ListingVerdict, Certified, Fails, Refused, FailsBy, IsVerdictAt, heads_before, Passes, Checks, StopsAt}
-use Rattle.check_run.proofs.Common.{IsVerdict, ListingEncloses, checked_task, step_of, steps_of, Decks, AreDecks, EnclosesStarts, HaveOneHistory}
-use Rattle.check_run.proofs.Common.{histories_bound, AreStartHeadsFor}
-use Rattle.check_run.proofs.Passed.{ArePassed, all_move, have_one}
-use Rattle.check_run.proofs.RunText.{grid_of}
+use Rattle.check_run.proofs.Common.{Limits, All, Contains, ◌≡◌, ℕ, suc, List, [], ◌∷◌, ◌+◌, ◌<◌, ◌≤◌, subst, sym, ap, refl, arith, ◌∙◌, inl, inr, drop, length, get_or, Option, AllZip, All-head}
+use Rattle.check_run.proofs.Common.{All-tail, All-contains_itself, drop_more, drop_all, Bound, ZoneFlow, TimeStep, times, AreGridHeads, pairs_in, ListedStep, AreFlows, IsListedAt, AreListed}
+use Rattle.check_run.proofs.Common.{AllZip-length, IsListedStep, step_in, BoundsMoves, CheckFault, ListingVerdict, Certified, Fails, Refused, FailsBy, IsVerdictAt, heads_before, Passes, Checks}
+use Rattle.check_run.proofs.Common.{StopsAt, IsVerdict, ListingEncloses, checked_task, step_of, steps_of, Decks, AreDecks, EnclosesStarts, HaveOneHistory, histories_bound, AreStartHeadsFor}
+use Rattle.check_run.proofs.{Passed.ArePassed, Passed.all_move, Passed.have_one, RunText.grid_of}
 use Rattle.check_run.specs.declared.listing.CheckFault.TheVariants as fault
 
 -- what holds of the heads before a step and of the step, as they were lent

@@ -1,7 +1,6 @@
 -- What is first is one: a cell and its side, a term of a budget, and a pair of zones.
-use Rattle.check_run.proofs.Common.{◌≡◌, ◌∙◌, ℕ, ◌<◌, inl, inr, List, [], ◌∷◌, refl, sym, ap, subst, arith, AllZip, cases_order, Side, Low, High, Dir, Out}
-use Rattle.check_run.proofs.Common.{Term, ZoneFlow, Budget, IsFirstUncovered, line_of, CoversFlow, IsFirstNarrow, In, length, map, get_or, pos, get_or-map}
-use Rattle.check_run.proofs.Common.{length-map, ZonePair, zones_of_flow}
+use Rattle.check_run.proofs.Common.{◌≡◌, ◌∙◌, ℕ, ◌<◌, inl, inr, List, [], ◌∷◌, refl, sym, ap, subst, arith, AllZip, cases_order, Side, Low, High, Dir, Out, Term, ZoneFlow, Budget, IsFirstUncovered}
+use Rattle.check_run.proofs.Common.{line_of, CoversFlow, IsFirstNarrow, In, length, map, get_or, pos, get_or-map, length-map, ZonePair, zones_of_flow}
 use Rattle.budget_bounds.proofs.Enclosed.{same_place, place_within}
 use Rattle.step_problem.specs.declared.place.Place.TheVariants as places
 

@@ -1,9 +1,8 @@
 -- The flows between zones of a step's problem have the pairs of zones of the step's period.
-use Rattle.check_run.proofs.Common.{◌≡◌, ℕ, Bool, List, [], ◌∷◌, map, ap, ◌∙◌, subst, Option, Some, None, ℤ, filter, Bound, ZoneFlow, Entries, lower_at}
-use Rattle.check_run.proofs.Common.{upper_at, share, Decks, ZonePair, pairs_below, zones_of_flow, pairs_in, share_face, zone_pairs, AreFlowsOf, faces_of}
-use Rattle.check_run.proofs.Common.{BoundAll, BoundChoices, Bounds, EnclosesHistories, AllSteps, HistoriesBound, deck_task, AreDecks, start_head, times}
-use Rattle.check_run.proofs.Common.{TimeStep, IsProblemFor, Fraction, exact_step, heads_of, FlowModel, Task, ExactCell, Choice, step_from, Step, Whole, Steps}
-use Rattle.check_run.proofs.Common.{as_listed, ListingEncloses, checked_task, step_of, steps_of, Limits, flows_of_pairs, same_flows, refl}
+use Rattle.check_run.proofs.Common.{◌≡◌, ℕ, Bool, List, [], ◌∷◌, map, ap, ◌∙◌, subst, Option, Some, None, ℤ, filter, Bound, ZoneFlow, Entries, lower_at, upper_at, share, Decks, ZonePair, pairs_below}
+use Rattle.check_run.proofs.Common.{zones_of_flow, pairs_in, share_face, zone_pairs, AreFlowsOf, faces_of, BoundAll, BoundChoices, Bounds, EnclosesHistories, AllSteps, HistoriesBound, deck_task}
+use Rattle.check_run.proofs.Common.{AreDecks, start_head, times, TimeStep, IsProblemFor, Fraction, exact_step, heads_of, FlowModel, Task, ExactCell, Choice, step_from, Step, Whole, Steps, as_listed}
+use Rattle.check_run.proofs.Common.{ListingEncloses, checked_task, step_of, steps_of, Limits, flows_of_pairs, same_flows, refl}
 use Rattle.barrier_vector.proofs.Uniques.{same_tests}
 use Rattle.check_run.proofs.Branches.{HaveBranches, have_branches, pair_shares, shared_has}
 

@@ -1,14 +1,11 @@
 -- The heads of a step by the certificate that listed heads are: by what its calls gave; and that they are one, or fail at one place.
-use Rattle.check_run.proofs.Common.{Limits, ◌≡◌, ◌∙◌, ℕ, ◌<◌, inl, inr, List, length, map, refl, sym, ap, subst, arith, ints, cases_Bool, true, Bound, Side}
-use Rattle.check_run.proofs.Common.{Low, High, NoBound, Entries, entries_at, Edges, lower_at, upper_at, IsCertificate, HoldsAt, IsFirstFailing, TimeStep}
-use Rattle.check_run.proofs.Common.{cell_count, is_active, is_variable, bound_at, AreWords, CheckFault, ArePosed, ConstantsReach, IsConstantCell, IsFirstShort}
-use Rattle.check_run.proofs.Common.{ReachesAt, variable_bounds, Decks, IsBefore, IsPosed, HasNoPose, IsBarrierBy, edges_by, cut_by, same_problem, same_bound}
-use Rattle.check_run.proofs.Common.{same_bounds, ConstantPairIsOne, IsUnposed, Solved, clamped_edges, Posed, AllReach, AreChecked, CellFails, FailAt}
-use Rattle.check_run.proofs.Common.{HeadsFailBy, IsFirstUnreached, failing, short, clamps, active_constant, poses_one, posed_excludes, AreHeadsOf}
+use Rattle.check_run.proofs.Common.{Limits, ◌≡◌, ◌∙◌, ℕ, ◌<◌, inl, inr, List, length, map, refl, sym, ap, subst, arith, ints, cases_Bool, Bound, Side, Low, High, NoBound, Entries, entries_at, Edges}
+use Rattle.check_run.proofs.Common.{lower_at, upper_at, IsCertificate, HoldsAt, IsFirstFailing, TimeStep, cell_count, is_active, is_variable, bound_at, AreWords, CheckFault, ArePosed, ConstantsReach}
+use Rattle.check_run.proofs.Common.{IsConstantCell, IsFirstShort, ReachesAt, variable_bounds, Decks, IsBefore, IsPosed, HasNoPose, IsBarrierBy, edges_by, cut_by, same_problem, same_bound, same_bounds}
+use Rattle.check_run.proofs.Common.{ConstantPairIsOne, IsUnposed, Solved, clamped_edges, Posed, AllReach, AreChecked, CellFails, FailAt, HeadsFailBy, IsFirstUnreached, failing, short, clamps}
+use Rattle.check_run.proofs.Common.{active_constant, poses_one, posed_excludes, AreHeadsOf}
 use Rattle.barrier_vector.proofs.Outlining.{clamped_at}
-use Rattle.check_run.proofs.Firsts.{IsFirst, first_one}
-use Rattle.check_run.proofs.OneVerdict.{Laws}
-use Rattle.check_run.proofs.RunText.{bounds_are}
+use Rattle.check_run.proofs.{Firsts.IsFirst, Firsts.first_one, OneVerdict.Laws, RunText.bounds_are}
 use Rattle.model_types.specs.declared.limits.Limits.TheVariants.{Plain, Wide}
 use Rattle.check_run.specs.declared.listing.CheckFault.TheVariants as fault
 use Rattle.step_problem.specs.declared.place.Place.TheVariants as places

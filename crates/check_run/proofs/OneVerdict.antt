@@ -1,19 +1,16 @@
 -- A listing has one verdict.
-use Rattle.check_run.proofs.Common.{Limits, ◌≡◌, ◌≢◌, ◌∙◌, ℕ, ◌<◌, ◌⊎◌, inl, inr, List, [], ◌∷◌, length, Ok, Err, Option, refl, sym, ap, subst, AllZip}
-use Rattle.check_run.proofs.Common.{IsListedAt, pairs_in, Bound, Side, Low, High, Dir, NoBound, Term, ZoneFlow, Entries, entries_at, Edges, lower_at, upper_at}
-use Rattle.check_run.proofs.Common.{IsCertificate, Budget, Covers, IsFirstUncovered, HoldsAt, IsFirstFailing, TimeStep, times, AreGridHeads, IsPosed, HasNoPose}
-use Rattle.check_run.proofs.Common.{ListedStep, AreFlowsOf, HasLargeFlowOf, one_ok, one_err, ok_not_err, IsRest, first_in, rest_more, rest_whole}
-use Rattle.check_run.proofs.Common.{ListingVerdict, Certified, Fails, Refused, ConstantsReach, IsConstantCell, IsFirstShort, ReachesAt, CoversFlow}
-use Rattle.check_run.proofs.Common.{IsFirstNarrow, bounds, Passes, FailsAt, at_constant, at_variable, at_term, at_zones, IsRefused, no_heads, no_budget}
-use Rattle.check_run.proofs.Common.{no_flows, Checks, StopsAt, Decks, AreDecks, IsBefore, ProblemFits, StartHeadsAreOne, StartHeadsFit, IsBarrierBy, cut_by}
-use Rattle.check_run.proofs.Common.{VerdictIsOne, large_one, none_large, same_flows, same_problem, BarrierExcludesRefusal, CutBarrierIsOne}
-use Rattle.check_run.proofs.Common.{CutBarrierExcludesRefusal, CutRefusalIsOne, poses_one}
+use Rattle.check_run.proofs.Common.{Limits, ◌≡◌, ◌≢◌, ◌∙◌, ℕ, ◌<◌, ◌⊎◌, inl, inr, List, [], ◌∷◌, length, Ok, Err, Option, refl, sym, ap, subst, AllZip, IsListedAt, pairs_in, Bound, Side, Low, High}
+use Rattle.check_run.proofs.Common.{Dir, NoBound, Term, ZoneFlow, Entries, entries_at, Edges, lower_at, upper_at, IsCertificate, Budget, Covers, IsFirstUncovered, HoldsAt, IsFirstFailing, TimeStep}
+use Rattle.check_run.proofs.Common.{times, AreGridHeads, IsPosed, HasNoPose, ListedStep, AreFlowsOf, HasLargeFlowOf, one_ok, one_err, ok_not_err, IsRest, first_in, rest_more, rest_whole}
+use Rattle.check_run.proofs.Common.{ListingVerdict, Certified, Fails, Refused, ConstantsReach, IsConstantCell, IsFirstShort, ReachesAt, CoversFlow, IsFirstNarrow, bounds, Passes, FailsAt, at_constant}
+use Rattle.check_run.proofs.Common.{at_variable, at_term, at_zones, IsRefused, no_heads, no_budget, no_flows, Checks, StopsAt, Decks, AreDecks, IsBefore, ProblemFits, StartHeadsAreOne, StartHeadsFit}
+use Rattle.check_run.proofs.Common.{IsBarrierBy, cut_by, VerdictIsOne, large_one, none_large, same_flows, same_problem, BarrierExcludesRefusal, CutBarrierIsOne, CutBarrierExcludesRefusal}
+use Rattle.check_run.proofs.Common.{CutRefusalIsOne, poses_one}
 use Rattle.step_problem.specs.declared.place.Place.{Place}
 use Rattle.barrier_vector.specs.{RefusalIsOne as BarrierRefusalIsOne}
 use Rattle.step_chain.proofs.Refusals.{posed_excludes as step_posed_excludes}
 use Rattle.check_run.specs.{budget_at}
-use Rattle.check_run.proofs.Firsts.{IsFirst, first_one, narrow_one, never_narrow, term_one}
-use Rattle.check_run.proofs.RunText.{grid_of}
+use Rattle.check_run.proofs.{Firsts.IsFirst, Firsts.first_one, Firsts.narrow_one, Firsts.never_narrow, Firsts.term_one, RunText.grid_of}
 use Rattle.step_problem.specs.declared.place.Place.TheVariants as places
 
 -- what the check of one step says

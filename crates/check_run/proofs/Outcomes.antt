@@ -1,11 +1,9 @@
 -- What the check of a posed step says, by what its calls gave.
-use Rattle.check_run.proofs.Common.{Limits, ◌≡◌, ℕ, ◌∙◌, List, Contains, Ok, Err, Option, map, subst, sym, refl, Bound, Side, ZoneFlow, Entries, entries_at}
-use Rattle.check_run.proofs.Common.{lower_at, upper_at, IsCertificate, Budget, CoverEncloses, EnclosesBudgets, HeadsAreWithin, budget_of, EnclosesSolutions}
-use Rattle.check_run.proofs.Common.{IsFirstFailing, TimeStep, times, bound_at, BoundsMoves, CheckFault, AreNarrow, ArePosed, AreWide, FailsBy, IsCovered}
-use Rattle.check_run.proofs.Common.{IsUncovered, ConstantsReach, IsFirstShort, variable_bounds, HeadsHold, Passes, TermsHold, at_constant, at_variable, at_term}
+use Rattle.check_run.proofs.Common.{Limits, ◌≡◌, ℕ, ◌∙◌, List, Contains, Ok, Err, Option, map, subst, sym, refl, Bound, Side, ZoneFlow, Entries, entries_at, lower_at, upper_at, IsCertificate, Budget}
+use Rattle.check_run.proofs.Common.{CoverEncloses, EnclosesBudgets, HeadsAreWithin, budget_of, EnclosesSolutions, IsFirstFailing, TimeStep, times, bound_at, BoundsMoves, CheckFault, AreNarrow}
+use Rattle.check_run.proofs.Common.{ArePosed, AreWide, FailsBy, IsCovered, IsUncovered, ConstantsReach, IsFirstShort, variable_bounds, HeadsHold, Passes, TermsHold, at_constant, at_variable, at_term}
 use Rattle.check_run.proofs.Common.{at_zones, no_budget, no_flows, checked_task, step_of, Decks, AreDecks, ConstantPairEncloses, Posed}
-use Rattle.check_run.proofs.RunText.{bounds_are}
-use Rattle.check_run.proofs.Passing.{choice_moves}
+use Rattle.check_run.proofs.{RunText.bounds_are, Passing.choice_moves}
 use Rattle.step_problem.specs.declared.place.Place.TheVariants as places
 use Rattle.check_run.specs.declared.listing.CheckFault.TheVariants as fault
 

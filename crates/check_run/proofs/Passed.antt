@@ -1,10 +1,7 @@
 -- Steps that passed the check in turn: they bound every move of their decks, and the decks have one history each.
-use Rattle.check_run.proofs.Common.{Limits, Contains, ℕ, List, [], ◌∷◌, Option, map, refl, Bound, TimeStep, FlowModel, times, Fraction, AreGridHeads}
-use Rattle.check_run.proofs.Common.{HeadsEnclose, ListedStep, BoundsMoves, Passes, checked_task, step_of, steps_of, Decks, AreDecks, IsStartOf, AllBoundMoves}
-use Rattle.check_run.proofs.Common.{HaveOneBy, lies_encloses}
-use Rattle.exact_histories.proofs.OneTurn.{Lands}
-use Rattle.exact_histories.proofs.Turns.{AreTurns}
-use Rattle.exact_histories.proofs.HaveOne.{have_one_by}
+use Rattle.check_run.proofs.Common.{Limits, Contains, ℕ, List, [], ◌∷◌, Option, map, refl, Bound, TimeStep, FlowModel, times, Fraction, AreGridHeads, HeadsEnclose, ListedStep, BoundsMoves, Passes}
+use Rattle.check_run.proofs.Common.{checked_task, step_of, steps_of, Decks, AreDecks, IsStartOf, AllBoundMoves, HaveOneBy, lies_encloses}
+use Rattle.exact_histories.proofs.{OneTurn.Lands, Turns.AreTurns, HaveOne.have_one_by}
 
 module _ (limits : Limits) (ds : Decks) (s : ℕ) (zones : Option (List ℕ)) where
   -- a step of a time of the decks, which passed from heads in range, and bounds every move

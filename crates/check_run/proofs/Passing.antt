@@ -1,11 +1,9 @@
 -- A listed step that passes bounds every solution.
-use Rattle.check_run.proofs.Common.{◌≡◌, ℕ, ◌+◌, ◌<◌, true, List, length, Contains, Option, Some, None, sym, subst, arith, ℤ, ◌≤ℤ◌, AllZip, IfSome, Fraction}
-use Rattle.check_run.proofs.Common.{Bound, Low, High, ZoneFlow, Entries, lower_at, upper_at, Budget, CoverEncloses, Covers, EnclosesBudgets, HeadsAreWithin}
-use Rattle.check_run.proofs.Common.{EnclosesSolutions, heads_of, variable_heads, TimeStep, cell_count, is_constant, times, Choice, step_from, chosen_cells}
-use Rattle.check_run.proofs.Common.{IsActive, bound_at, EncloseExact, exact_faces, exact_flow, ZonePair, CoversFlow, AreWide, ConstantsReach, IsConstantCell}
-use Rattle.check_run.proofs.Common.{variable_bounds, checked_task, step_of, Decks, AreDecks, EnclosesChoices, IsChoiceOf, AreConstantHeadsFor}
-use Rattle.check_run.proofs.Common.{ConstantPairEncloses, BoundsMovesOf, AllZip-at, AllZip-length, get_or, EnclosesSigned, ExactCell, follows, EnclosesMoves}
-use Rattle.check_run.proofs.Common.{Solved, lies_encloses, IsCellNamed}
+use Rattle.check_run.proofs.Common.{◌≡◌, ℕ, ◌+◌, ◌<◌, true, List, length, Contains, Option, Some, None, sym, subst, arith, ℤ, ◌≤ℤ◌, AllZip, IfSome, Fraction, Bound, Low, High, ZoneFlow, Entries}
+use Rattle.check_run.proofs.Common.{lower_at, upper_at, Budget, CoverEncloses, Covers, EnclosesBudgets, HeadsAreWithin, EnclosesSolutions, heads_of, variable_heads, TimeStep, cell_count, is_constant}
+use Rattle.check_run.proofs.Common.{times, Choice, step_from, chosen_cells, IsActive, bound_at, EncloseExact, exact_faces, exact_flow, ZonePair, CoversFlow, AreWide, ConstantsReach, IsConstantCell}
+use Rattle.check_run.proofs.Common.{variable_bounds, checked_task, step_of, Decks, AreDecks, EnclosesChoices, IsChoiceOf, AreConstantHeadsFor, ConstantPairEncloses, BoundsMovesOf, AllZip-at}
+use Rattle.check_run.proofs.Common.{AllZip-length, get_or, EnclosesSigned, ExactCell, follows, EnclosesMoves, Solved, lies_encloses, IsCellNamed}
 use Rattle.decimal_input.specs.Fractions.{den}
 use Rattle.decimal_input.proofs.FloorLaws.{mul_mono_right}
 use Rattle.cell_balance.proofs.Deep.{le_trans_z}

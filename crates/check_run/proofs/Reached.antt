@@ -1,8 +1,7 @@
 -- The constant cells of a time whose listed bounds reach far enough.
-use Rattle.check_run.proofs.Common.{◌≡◌, ℕ, ◌+◌, ◌<◌, ◌≤◌, inl, inr, true, cond, List, Contains, sym, ap, ◌∙◌, subst, arith, cases_order, Bound, Side, Low}
-use Rattle.check_run.proofs.Common.{High, FlowModel, TimeStep, cell_count, is_constant, kind_of, times, bound_at, constant_not_variable, same_bound}
-use Rattle.check_run.proofs.Common.{IsConstantCell, ReachesAt, ReachesOn, Decks, AreDecks, AreConstantHeadsFor, ConstantPairIsOne, constant_kind, AllReach}
-use Rattle.check_run.proofs.Common.{IsFirstUnreached}
+use Rattle.check_run.proofs.Common.{◌≡◌, ℕ, ◌+◌, ◌<◌, ◌≤◌, inl, inr, true, cond, List, Contains, sym, ap, ◌∙◌, subst, arith, cases_order, Bound, Side, Low, High, FlowModel, TimeStep, cell_count}
+use Rattle.check_run.proofs.Common.{is_constant, kind_of, times, bound_at, constant_not_variable, same_bound, IsConstantCell, ReachesAt, ReachesOn, Decks, AreDecks, AreConstantHeadsFor}
+use Rattle.check_run.proofs.Common.{ConstantPairIsOne, constant_kind, AllReach, IsFirstUnreached}
 use Rattle.model_types.specs.declared.given_heads.Kind.TheVariants.{NoFlow, Constant, Variable}
 
 kind_constant : (m : FlowModel) (p c : ℕ) → is_constant m p c ≡ true → kind_of m p c ≡ Constant

@@ -1,17 +1,13 @@
 -- The steps of a run are steps that a listing can have.
-use Rattle.check_run.proofs.Common.{cell_hull, cell_shape, evap_hull, zip_with, Limits, ◌≡◌, ℕ, zero, suc, ◌+◌, ◌<◌, false, List, [], ◌∷◌, length, map, All, Ok}
-use Rattle.check_run.proofs.Common.{refl, sym, ap, subst, arith, ℤ, pos, negsuc, ◌+ℤ◌, ◌≤ℤ◌, ◌<ℤ◌, unsigned_abs, nat_abs, ◌^◌, ◌≤◌, Option, Some, None, AllZip}
-use Rattle.check_run.proofs.Common.{ints, All-weaker, Bound, Out, ZoneFlow, Entries, no_bound, lower_at, upper_at, Budget, TermPair, term_limit, Face}
-use Rattle.check_run.proofs.Common.{flows_between, pairs_in, AreNumbers, FlowModel, TimeStep, evap_sources, times, AreGridHeads, Solved, bound_at, HeadsFit}
-use Rattle.check_run.proofs.Common.{AreCellBounds, AreFlows, AreListed, IsCellBound, IsFlowPair, IsListedAt, IsListedStep, has_evt, zone_pair, Task, Step}
-use Rattle.check_run.proofs.Common.{Whole, AllSteps, IsStep, Steps, budget_at, AreFlowsOf, faces_of, IsRest, first_in, rest_more, rest_whole, as_listed}
-use Rattle.check_run.proofs.Common.{nat_tests, is_nonzero, IsProblemBy, IsBefore, StartHeadsFit, deck_task, Decks, AreDecks, PairKind, IsStepBy, pairs_of, Bool}
-use Rattle.check_run.proofs.Common.{In, no_entries, variable_cells, AllZip-at, IsProblemOf, total, is_chosen, IsZoneFlow, flows_of_pairs, same_flows, zip_image}
-use Rattle.check_run.proofs.Common.{cells_of, whole_cell, whole_evap, IsModel, IfSome, IsSecond, hull_parts}
-use Rattle.check_run.proofs.Branches.{hull_zip}
+use Rattle.check_run.proofs.Common.{cell_hull, cell_shape, evap_hull, zip_with, Limits, ◌≡◌, ℕ, zero, suc, ◌+◌, ◌<◌, false, List, [], ◌∷◌, length, map, All, Ok, refl, sym, ap, subst, arith, ℤ, pos}
+use Rattle.check_run.proofs.Common.{negsuc, ◌+ℤ◌, ◌≤ℤ◌, ◌<ℤ◌, unsigned_abs, nat_abs, ◌^◌, ◌≤◌, Option, Some, None, AllZip, ints, All-weaker, Bound, Out, ZoneFlow, Entries, no_bound, lower_at}
+use Rattle.check_run.proofs.Common.{upper_at, Budget, TermPair, term_limit, Face, flows_between, pairs_in, AreNumbers, FlowModel, TimeStep, evap_sources, times, AreGridHeads, Solved, bound_at}
+use Rattle.check_run.proofs.Common.{HeadsFit, AreCellBounds, AreFlows, AreListed, IsCellBound, IsFlowPair, IsListedAt, IsListedStep, has_evt, zone_pair, Task, Step, Whole, AllSteps, IsStep, Steps}
+use Rattle.check_run.proofs.Common.{budget_at, AreFlowsOf, faces_of, IsRest, first_in, rest_more, rest_whole, as_listed, nat_tests, is_nonzero, IsProblemBy, IsBefore, StartHeadsFit, deck_task, Decks}
+use Rattle.check_run.proofs.Common.{AreDecks, PairKind, IsStepBy, pairs_of, Bool, In, no_entries, variable_cells, AllZip-at, IsProblemOf, total, is_chosen, IsZoneFlow, flows_of_pairs, same_flows}
+use Rattle.check_run.proofs.Common.{zip_image, cells_of, whole_cell, whole_evap, IsModel, IfSome, IsSecond, hull_parts}
+use Rattle.check_run.proofs.{Branches.hull_zip, FlowPairs.flows_have_pairs, RunTerms.budget_are, RunTerms.terms_are_listed}
 use Rattle.step_problem.specs.declared.entry.Evap.{Evap}
-use Rattle.check_run.proofs.FlowPairs.{flows_have_pairs}
-use Rattle.check_run.proofs.RunTerms.{budget_are, terms_are_listed}
 
 -- Without EVT no cell evaporates.
 

@@ -1,12 +1,10 @@
 -- The steps of a run pass the check.
-use Rattle.check_run.proofs.Common.{Limits, ◌≡◌, ℕ, ◌<◌, inl, List, [], ◌∷◌, length, map, get_or, Ok, refl, sym, ap, ◌∙◌, subst, arith, Option, Bool, Some}
-use Rattle.check_run.proofs.Common.{None, AllZip, ints, get_or-map, length-map, Bound, Side, Low, High, ZoneFlow, Entries, no_bound, lower_at, upper_at}
-use Rattle.check_run.proofs.Common.{IsCertificate, IsProblem, PairKind, Budget, budget_of, TimeStep, cell_count, is_variable, variable_cells, times, IsAt}
-use Rattle.check_run.proofs.Common.{is_at, below_is, index_is, AreGridHeads, Solved, bound_at, HeadsFit, IsStepBy, edges_by, Task, Step, Whole, IsStep}
-use Rattle.check_run.proofs.Common.{budget_at, deck_task, pairs_of, Steps, IsRest, first_in, rest_more, rest_whole, Certified, CoversFlow, ConstantsReach}
-use Rattle.check_run.proofs.Common.{ReachesOn, variable_bounds, RunIsCertified, as_listed, Passes, Checks, same_bounds, pair_words, ConstantPairIsOne, IsBefore}
-use Rattle.check_run.proofs.Common.{ProblemFits, StartHeadsFit, AreDecks, IsProblemBy, Decks, FlowModel, cells_of, IsSecond, hull_parts, IsModel, IfSome}
-use Rattle.check_run.proofs.Common.{AreFlowsAt}
+use Rattle.check_run.proofs.Common.{Limits, ◌≡◌, ℕ, ◌<◌, inl, List, [], ◌∷◌, length, map, get_or, Ok, refl, sym, ap, ◌∙◌, subst, arith, Option, Bool, Some, None, AllZip, ints, get_or-map, length-map}
+use Rattle.check_run.proofs.Common.{Bound, Side, Low, High, ZoneFlow, Entries, no_bound, lower_at, upper_at, IsCertificate, IsProblem, PairKind, Budget, budget_of, TimeStep, cell_count, is_variable}
+use Rattle.check_run.proofs.Common.{variable_cells, times, IsAt, is_at, below_is, index_is, AreGridHeads, Solved, bound_at, HeadsFit, IsStepBy, edges_by, Task, Step, Whole, IsStep, budget_at}
+use Rattle.check_run.proofs.Common.{deck_task, pairs_of, Steps, IsRest, first_in, rest_more, rest_whole, Certified, CoversFlow, ConstantsReach, ReachesOn, variable_bounds, RunIsCertified, as_listed}
+use Rattle.check_run.proofs.Common.{Passes, Checks, same_bounds, pair_words, ConstantPairIsOne, IsBefore, ProblemFits, StartHeadsFit, AreDecks, IsProblemBy, Decks, FlowModel, cells_of, IsSecond}
+use Rattle.check_run.proofs.Common.{hull_parts, IsModel, IfSome, AreFlowsAt}
 use Rattle.check_run.proofs.RunText.{count_is}
 use Rattle.problem_builder.proofs.CellEnclosed.{ids_are}
 use Rattle.problem_hull.proofs.Hulls.{hull_keeps}

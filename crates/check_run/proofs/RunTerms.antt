@@ -1,8 +1,7 @@
 -- The terms of a step's budget are flows that a listing can have.
-use Rattle.check_run.proofs.Common.{◌≡◌, ℕ, zero, suc, ◌^◌, ◌<◌, Bool, true, false, List, [], ◌∷◌, length, nat_abs, Ok, Err, refl, sym, ap, ◌∙◌, subst, arith}
-use Rattle.check_run.proofs.Common.{ℤ, pos, negsuc, ◌≤ℤ◌, if◌then◌else◌, AllZip, ints, Dir, Out, NoBound, Term, Entries, entries_at, TermPair, Budget}
-use Rattle.check_run.proofs.Common.{all_terms, budget_of, is_small, no_pair, parts, term_limit, term_of, term_pair, terms_of, too_large, IsFlowPair, IsPairIf}
-use Rattle.check_run.proofs.Common.{is_printed, singles, and_parts, In, sum_below}
+use Rattle.check_run.proofs.Common.{◌≡◌, ℕ, zero, suc, ◌^◌, ◌<◌, Bool, true, false, List, [], ◌∷◌, length, nat_abs, Ok, Err, refl, sym, ap, ◌∙◌, subst, arith, ℤ, pos, negsuc, ◌≤ℤ◌, if◌then◌else◌}
+use Rattle.check_run.proofs.Common.{AllZip, ints, Dir, Out, NoBound, Term, Entries, entries_at, TermPair, Budget, all_terms, budget_of, is_small, no_pair, parts, term_limit, term_of, term_pair}
+use Rattle.check_run.proofs.Common.{terms_of, too_large, IsFlowPair, IsPairIf, is_printed, singles, and_parts, In, sum_below}
 use Rattle.std.specs.Int.Signed.{lt_z}
 use Rattle.step_problem.specs.declared.place.Term.TheVariants.{Et}
 use Rattle.problem_builder.proofs.Joined.{AllZip-weaker}

@@ -1,11 +1,10 @@
 -- The text of a run's listing is that of its steps, and is read as these.
-use Rattle.check_run.proofs.Common.{Limits, Option, ◌≡◌, ℕ, List, [], ◌∷◌, ◌++◌, map, get_or, Contains, Ok, refl, sym, ap, ◌∙◌, subst, arith, Bool, zero, suc}
-use Rattle.check_run.proofs.Common.{◌+◌, ◌<◌, true, length, concat, append_assoc, append-nil, get_or_default, get_or-map, length-map, Bound, FlowModel}
-use Rattle.check_run.proofs.Common.{TimeStep, times, IsModel, cell_count, is_variable, index_of, variable_cells, HeadsFit, bound_at, pairs_in, pairs_small}
-use Rattle.check_run.proofs.Common.{all_step_lines, ended_line, first_line, first_text, step_lines, step_text, IsTime, IsWritable, ListingsAreReadAgain}
-use Rattle.check_run.proofs.Common.{all_lines, listing_at, AreCellBounds, IsListedStep, Task, Step, Whole, AllSteps, IsStep, deck_task, listing, text_of, Steps}
-use Rattle.check_run.proofs.Common.{IsReadable, RunIsReadAgain, as_listed, variable_bounds, Decks, StartHeadsFit, time_of, Entries, entries_at, no_entries}
-use Rattle.check_run.proofs.Common.{no_bound, IsHead, AreWords, passing, at_rank, is_at, below_is, index_is, AreGridHeads, index_below, ListedStep}
+use Rattle.check_run.proofs.Common.{Limits, Option, ◌≡◌, ℕ, List, [], ◌∷◌, ◌++◌, map, get_or, Contains, Ok, refl, sym, ap, ◌∙◌, subst, arith, Bool, zero, suc, ◌+◌, ◌<◌, true, length, concat}
+use Rattle.check_run.proofs.Common.{append_assoc, append-nil, get_or_default, get_or-map, length-map, Bound, FlowModel, TimeStep, times, IsModel, cell_count, is_variable, index_of, variable_cells}
+use Rattle.check_run.proofs.Common.{HeadsFit, bound_at, pairs_in, pairs_small, all_step_lines, ended_line, first_line, first_text, step_lines, step_text, IsTime, IsWritable, ListingsAreReadAgain}
+use Rattle.check_run.proofs.Common.{all_lines, listing_at, AreCellBounds, IsListedStep, Task, Step, Whole, AllSteps, IsStep, deck_task, listing, text_of, Steps, IsReadable, RunIsReadAgain, as_listed}
+use Rattle.check_run.proofs.Common.{variable_bounds, Decks, StartHeadsFit, time_of, Entries, entries_at, no_entries, no_bound, IsHead, AreWords, passing, at_rank, is_at, below_is, index_is}
+use Rattle.check_run.proofs.Common.{AreGridHeads, index_below, ListedStep}
 use Rattle.listing_run.specs.{is_between}
 use Rattle.listing_io.specs.{end_line as last_row, listing as rows_of, text_of as text}
 use Rattle.std.proofs.lemmas.List.Concat.{flat_map-append}

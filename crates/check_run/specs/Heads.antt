@@ -1,16 +1,11 @@
 -- Whether listed heads of all cells are those of a step by its certificate, and the first cell where they aren't.
 use Rattle.std.specs.Prelude.{◌≡◌, ℕ, List}
-use Rattle.step_problem.specs.declared.heads.Bound.{Bound}
-use Rattle.step_problem.specs.declared.heads.Side.{Side}
+use Rattle.step_problem.specs.{declared.heads.Bound.Bound, declared.heads.Side.Side, Entries.Entries, Edges, certified, entries_at}
 use Rattle.step_problem.specs.declared.place.Place.TheVariants as places
-use Rattle.step_problem.specs.Entries.{Entries}
-use Rattle.step_problem.specs.{Edges, certified, entries_at}
 use Rattle.certificate_check.specs.{IsFirstFailing}
-use Rattle.model_types.specs.declared.limits.Limits.{Limits}
-use Rattle.model_types.specs.declared.time_steps.TimeStep.{TimeStep}
+use Rattle.model_types.specs.{declared.limits.Limits.Limits, declared.time_steps.TimeStep.TimeStep}
 use Rattle.deck_problems.specs.declared.decks.Decks.{Decks}
-use Rattle.step_chain.specs.declared.solved.Solved.{Solved}
-use Rattle.step_chain.specs.{HasNoPose, IsPosed, IsStepBy}
+use Rattle.step_chain.specs.{declared.solved.Solved.Solved, HasNoPose, IsPosed, IsStepBy}
 use Rattle.check_run.specs.declared.listing.CheckFault.{CheckFault}
 use Rattle.check_run.specs.declared.listing.CheckFault.TheVariants as fault
 use Rattle.check_run.specs.Steps.{AllReach, ConstantsReach, IsFirstUnreached, ReachesAt, variable_bounds}

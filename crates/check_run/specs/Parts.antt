@@ -1,37 +1,24 @@
 -- Facts that the calls of a check pass to each other.
 use Rattle.std.specs.Prelude.{◌≡◌, ℕ, zero, suc, List, map, Ok, Err, Option}
 use Rattle.std.specs.List.{AllZip}
-use Rattle.step_problem.specs.declared.heads.Bound.{Bound}
-use Rattle.step_problem.specs.declared.place.Dir.{Dir}
+use Rattle.step_problem.specs.{declared.heads.Bound.Bound, declared.place.Dir.Dir, declared.place.Term.Term, declared.place.ZoneFlow.ZoneFlow, Entries.Entries}
+use Rattle.step_problem.specs.{lower_at, upper_at, declared.refusal.BoundFault.BoundFault}
 use Rattle.step_problem.specs.declared.place.Place.TheVariants as places
-use Rattle.step_problem.specs.declared.place.Term.{Term}
-use Rattle.step_problem.specs.declared.place.ZoneFlow.{ZoneFlow}
-use Rattle.step_problem.specs.Entries.{Entries}
-use Rattle.step_problem.specs.{lower_at, upper_at}
-use Rattle.budget_bounds.specs.declared.pair.Budget.{Budget}
-use Rattle.budget_bounds.specs.{Covers, IsFirstUncovered, EnclosesBudgets, budget_of}
+use Rattle.budget_bounds.specs.{declared.pair.Budget.Budget, Covers, IsFirstUncovered, EnclosesBudgets, budget_of}
 use Rattle.barrier_vector.specs.{EnclosesUncut}
-use Rattle.step_problem.specs.declared.refusal.BoundFault.{BoundFault}
 use Rattle.step_problem.specs.declared.refusal.BoundFault.TheVariants as bound
 use Rattle.cell_balance.specs.{IsHeldBelow}
-use Rattle.model_types.specs.declared.limits.Limits.{Limits}
-use Rattle.model_types.specs.declared.time_steps.TimeStep.{TimeStep}
-use Rattle.model_types.specs.{variable_cells}
+use Rattle.model_types.specs.{declared.limits.Limits.Limits, declared.time_steps.TimeStep.TimeStep, variable_cells}
 use Rattle.problem_builder.specs.{IsActive, IsCellNamed}
-use Rattle.deck_problems.specs.declared.decks.Decks.{Decks}
-use Rattle.deck_problems.specs.{AreConstantHeadsFor, EnclosesChoices}
+use Rattle.deck_problems.specs.{declared.decks.Decks.Decks, AreConstantHeadsFor, EnclosesChoices}
 use Rattle.step_chain.specs.{IsPosed, HasNoPose}
 use Rattle.listing_run.specs.{AreFlowsOf, FlowsEnclose, HasLargeFlowOf}
-use Rattle.listing_io.specs.declared.listing.ListedStep.{ListedStep}
-use Rattle.listing_io.specs.{step_in}
-use Rattle.check_run.specs.declared.listing.CheckFault.{CheckFault}
+use Rattle.listing_io.specs.{declared.listing.ListedStep.ListedStep, step_in}
+use Rattle.check_run.specs.{declared.listing.CheckFault.CheckFault, declared.posed.Posed.Posed, declared.verdict.ListingVerdict.ListingVerdict}
+use Rattle.check_run.specs.{declared.verdict.ListingVerdict.TheVariants.Certified, Steps.CoversFlow, Steps.IsFirstNarrow, Steps.FailsAt, Steps.IsRefused}
+use Rattle.check_run.specs.{Verdicts.IsVerdict, Verdicts.ListingEncloses}
 use Rattle.check_run.specs.declared.listing.CheckFault.TheVariants as fault
-use Rattle.check_run.specs.declared.posed.Posed.{Posed}
-use Rattle.check_run.specs.declared.verdict.ListingVerdict.{ListingVerdict}
 use Rattle.check_run.specs.declared.verdict.ListingVerdict.TheVariants as verdict
-use Rattle.check_run.specs.declared.verdict.ListingVerdict.TheVariants.{Certified}
-use Rattle.check_run.specs.Steps.{CoversFlow, IsFirstNarrow, FailsAt, IsRefused}
-use Rattle.check_run.specs.Verdicts.{IsVerdict, ListingEncloses}
 use Rattle.exact_histories.specs.{HaveOneHistory}
 
 -- a fault of a step by that of its problem, its barrier or its zone flows

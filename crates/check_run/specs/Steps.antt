@@ -1,28 +1,17 @@
 -- Whether a step of a listing is certified, and the first place where it isn't.
 use Rattle.std.specs.Prelude.{◌≡◌, ℕ, List, Ok, Err, Option, Result, ◌<◌, true, map, ◌≤ℤ◌, [], ◌∷◌, ◌⊎◌}
 use Rattle.std.specs.List.{AllZip}
-use Rattle.step_problem.specs.declared.heads.Bound.{Bound}
-use Rattle.step_problem.specs.declared.heads.Side.{Side}
-use Rattle.step_problem.specs.declared.place.Dir.{Dir}
-use Rattle.step_problem.specs.declared.place.NoBound.{NoBound}
-use Rattle.step_problem.specs.declared.place.Place.{Place}
-use Rattle.step_problem.specs.declared.place.Term.{Term}
-use Rattle.step_problem.specs.declared.place.ZoneFlow.{ZoneFlow}
-use Rattle.step_problem.specs.Entries.{Entries}
-use Rattle.step_problem.specs.{entries_at, Edges, lower_at, upper_at, IsCertificate}
-use Rattle.budget_bounds.specs.declared.pair.Budget.{Budget}
-use Rattle.budget_bounds.specs.{Covers, IsFirstUncovered, budget_of}
+use Rattle.step_problem.specs.{declared.heads.Bound.Bound, declared.heads.Side.Side, declared.place.Dir.Dir, declared.place.NoBound.NoBound}
+use Rattle.step_problem.specs.{declared.place.Place.Place, declared.place.Term.Term, declared.place.ZoneFlow.ZoneFlow, Entries.Entries, entries_at, Edges}
+use Rattle.step_problem.specs.{lower_at, upper_at, IsCertificate, declared.heads.Side.TheVariants.Low, declared.heads.Side.TheVariants.High}
+use Rattle.budget_bounds.specs.{declared.pair.Budget.Budget, Covers, IsFirstUncovered, budget_of}
 use Rattle.certificate_check.specs.{IsFirstFailing}
-use Rattle.model_types.specs.declared.limits.Limits.{Limits}
-use Rattle.model_types.specs.declared.time_steps.TimeStep.{TimeStep}
-use Rattle.deck_problems.specs.declared.decks.Decks.{Decks}
+use Rattle.model_types.specs.{declared.limits.Limits.Limits, declared.time_steps.TimeStep.TimeStep, cell_count, is_constant, variable_cells}
+use Rattle.deck_problems.specs.{declared.decks.Decks.Decks, IsConstantPairFor}
 use Rattle.step_chain.specs.{IsPosed, HasNoPose}
 use Rattle.problem_builder.specs.{bound_at}
 use Rattle.listing_io.specs.declared.listing.ListedStep.{ListedStep}
 use Rattle.listing_run.specs.{AreFlowsOf, HasLargeFlowOf}
-use Rattle.step_problem.specs.declared.heads.Side.TheVariants.{Low, High}
-use Rattle.model_types.specs.{cell_count, is_constant, variable_cells}
-use Rattle.deck_problems.specs.{IsConstantPairFor}
 use Rattle.zone_pairs.specs.{zones_of_flow}
 use Rattle.step_problem.specs.declared.place.Place.TheVariants as places
 

@@ -1,24 +1,17 @@
 -- The verdict on a listing, and how a certified listing encloses every history.
 use Rattle.std.specs.Prelude.{◌≡◌, ℕ, ◌⊎◌, List, [], ◌∷◌, Option, false, ◌<◌, ◌≤◌, ◌^◌, map, nat_abs, Ok, Bool}
 use Rattle.step_problem.specs.declared.heads.Bound.{Bound}
-use Rattle.model_types.specs.declared.limits.Limits.{Limits}
-use Rattle.model_types.specs.declared.limits.Limits.TheVariants.{Plain}
-use Rattle.model_types.specs.declared.time_steps.TimeStep.{TimeStep}
-use Rattle.model_types.specs.{times}
-use Rattle.deck_problems.specs.declared.decks.Decks.{Decks}
-use Rattle.deck_problems.specs.{AreStartHeadsFor, AreDecks}
-use Rattle.listing_io.specs.declared.listing.ListedStep.{ListedStep}
-use Rattle.listing_run.specs.declared.steps.Task.{Task}
-use Rattle.listing_run.specs.declared.solving.Step.{Step}
-use Rattle.listing_run.specs.{deck_task, EnclosesHistories, is_between, listing, AllSteps}
+use Rattle.model_types.specs.{declared.limits.Limits.Limits, declared.limits.Limits.TheVariants.Plain, declared.time_steps.TimeStep.TimeStep, times}
+use Rattle.deck_problems.specs.{declared.decks.Decks.Decks, AreStartHeadsFor, AreDecks}
+use Rattle.listing_io.specs.{declared.listing.ListedStep.ListedStep, all_lines, listing_at, AreListed}
+use Rattle.listing_run.specs.{declared.steps.Task.Task, declared.solving.Step.Step, deck_task, EnclosesHistories, is_between, listing, AllSteps}
+use Rattle.listing_run.specs.{declared.text.ListingEnd.TheVariants.Whole}
 use Rattle.check_run.specs.declared.verdict.ListingVerdict.{ListingVerdict}
 use Rattle.check_run.specs.declared.verdict.ListingVerdict.TheVariants.{Certified, Fails, Refused}
 use Rattle.check_run.specs.Steps.{Passes, FailsAt, IsRefused}
 use Rattle.std.specs.List.{concat}
 use Rattle.zone_pairs.specs.{pairs_in, AreNumbers}
-use Rattle.listing_io.specs.{all_lines, listing_at, AreListed}
 use Rattle.run_puts.specs.{end_line}
-use Rattle.listing_run.specs.declared.text.ListingEnd.TheVariants.{Whole}
 
 module _ (limits : Limits) (d : Decks) (s : ℕ) (zones : Option (List ℕ)) where
   -- the check ends at this step with this verdict

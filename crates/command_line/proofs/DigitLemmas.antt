@@ -1,8 +1,7 @@
 -- The digits that words ask for are at most 18.
-use Rattle.command_line.proofs.Common.{◌≡◌, ℕ, ◌≤◌, Bool, true, false, cond, List, [], ◌∷◌, Option, Some, None, codes, refl, subst, arith, bytes_eq}
-use Rattle.command_line.proofs.Common.{digits_value, leb-true, and_parts, Text, Row, Kinds, fault_of, subcommand_of, first_of, heads_app, is_number, number_in}
-use Rattle.command_line.proofs.Common.{number_or, Wanted, AskedCheck, Check, batch_in, write_in, check_in, command_in, digits_in, make_in, rounds_in, run_in}
-use Rattle.command_line.proofs.Common.{wanted_if, order_of_words, watch_in, workers_in, flag_in, quick_if_unwatched, AskedText, CheckText, Words, listed_in}
+use Rattle.command_line.proofs.Common.{◌≡◌, ℕ, ◌≤◌, Bool, true, false, cond, List, [], ◌∷◌, Option, Some, None, codes, refl, subst, arith, bytes_eq, digits_value, leb-true, and_parts, Text, Row}
+use Rattle.command_line.proofs.Common.{Kinds, fault_of, subcommand_of, first_of, heads_app, is_number, number_in, number_or, Wanted, AskedCheck, Check, batch_in, write_in, check_in, command_in}
+use Rattle.command_line.proofs.Common.{digits_in, make_in, rounds_in, run_in, wanted_if, order_of_words, watch_in, workers_in, flag_in, quick_if_unwatched, AskedText, CheckText, Words, listed_in}
 use Rattle.command_line.proofs.Common.{CheckPlan, check_by, file_check_in, listing_check_in, omitted, plan_check_in, plan_in, run_by, text_check_in, unset}
 use Rattle.std.specs.Prelude.{◌&&◌, if◌then◌else◌, decimal, nat_le, option_and_then}
 

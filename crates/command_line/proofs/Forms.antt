@@ -1,8 +1,6 @@
 -- The form of a command that got one more part.
-use Rattle.command_line.proofs.Common.{App, HasForm, IfOk, Ok, Err, Result, ap, app_of, false, refl, rule_of, ◌≡◌, ◌∙◌, AddsArg, AddsSubcommand, Rule}
-use Rattle.command_line.proofs.Common.{with_rule, with_subcommand}
-use Rattle.clap.specs.declared.builder.arg.Arg.{Arg}
-use Rattle.clap.specs.declared.builder.command.Command.{Command}
+use Rattle.command_line.proofs.Common.{App, HasForm, IfOk, Ok, Err, Result, ap, app_of, false, refl, rule_of, ◌≡◌, ◌∙◌, AddsArg, AddsSubcommand, Rule, with_rule, with_subcommand}
+use Rattle.clap.specs.{declared.builder.arg.Arg.Arg, declared.builder.command.Command.Command}
 use Rattle.std.specs.declared.alloc.AllocError.{AllocError}
 
 pub argument_added : (rule : Rule) (c : Command) (a : Arg) (r : Result Command AllocError) → rule_of a ≡ rule → a.global ≡ false → IfOk r (AddsArg c a) →

@@ -1,16 +1,12 @@
 -- The number that a text writes plainly.
-use Rattle.command_line.proofs.Common.{◌≡◌, ℕ, Bool, true, false, ◌≤◌, ◌<◌, ◌^◌, List, Some, None, Ok, Result, decimal, refl, sym, ap, subst, ◌∙◌, arith, ◌≢◌}
-use Rattle.command_line.proofs.Common.{[], ◌∷◌, Option, inl, inr, bytes_eq, digits_value, ParsesUnsigned, and_parts, leb-true, le-leb, is_number, number_in}
-use Rattle.command_line.proofs.Common.{order_of_words, wanted_if, command_in, is_simple, is_simple_and_free, App, Text, Kinds, HasKind, IsAmong, kind_of}
-use Rattle.command_line.proofs.Common.{fault_of, HasMatchesOf, subcommand_of, subcommand_rows_of, heads_app, run_app, check_app, make_app, batch_app, write_app}
+use Rattle.command_line.proofs.Common.{◌≡◌, ℕ, Bool, true, false, ◌≤◌, ◌<◌, ◌^◌, List, Some, None, Ok, Result, decimal, refl, sym, ap, subst, ◌∙◌, arith, ◌≢◌, [], ◌∷◌, Option, inl, inr, bytes_eq}
+use Rattle.command_line.proofs.Common.{digits_value, ParsesUnsigned, and_parts, leb-true, le-leb, is_number, number_in, order_of_words, wanted_if, command_in, is_simple, is_simple_and_free, App, Text}
+use Rattle.command_line.proofs.Common.{Kinds, HasKind, IsAmong, kind_of, fault_of, HasMatchesOf, subcommand_of, subcommand_rows_of, heads_app, run_app, check_app, make_app, batch_app, write_app}
 use Rattle.command_line.proofs.Common.{settling, needing, spanning, with_flag, with_last_word, with_option, with_word, words_app}
 use Rattle.std.proofs.Common.{◌&&◌, nat_le, option_and_then}
-use Rattle.std.proofs.lemmas.Fmt.{parse-decimal, decimal_is_IsNumeral}
-use Rattle.std.proofs.lemmas.Slice.Eq.{bytes_eq-Decides}
+use Rattle.std.proofs.{lemmas.Fmt.parse-decimal, lemmas.Fmt.decimal_is_IsNumeral, lemmas.Slice.Eq.bytes_eq-Decides}
 use Rattle.clap.proofs.OnLiterals.{clap_on_literals}
-use Rattle.clap.specs.declared.error.Error.{Error}
-use Rattle.clap.specs.declared.error.kind.ErrorKind.{ErrorKind}
-use Rattle.clap.specs.declared.parser.matches.ArgMatches.{ArgMatches}
+use Rattle.clap.specs.{declared.error.Error.Error, declared.error.kind.ErrorKind.ErrorKind, declared.parser.matches.ArgMatches.ArgMatches}
 use Rattle.clap.specs.declared.error.kind.ErrorKind.TheVariants as kind
 
 -- where the test holds

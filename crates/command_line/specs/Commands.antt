@@ -1,10 +1,8 @@
 -- The command line, as clap sees it: one command with six subcommands, of which one is needed.
 use Rattle.std.specs.Prelude.{◌≡◌, Some, true, false, codes, List, ℕ}
-use Rattle.clap.specs.declared.builder.action.ArgAction.TheVariants.{SetTrue}
-use Rattle.clap.specs.declared.builder.command.Command.{Command}
-use Rattle.clap.specs.declared.builder.command.Command.TheViews.{out-Command as fields_of}
-use Rattle.clap.specs.Words.{App, Text, app_of, new_app, new_rule, with_rule, with_subcommand}
-use Rattle.clap.specs.Simple.{on_top}
+use Rattle.clap.specs.{declared.builder.action.ArgAction.TheVariants.SetTrue, declared.builder.command.Command.Command}
+use Rattle.clap.specs.{declared.builder.command.Command.TheViews.out-Command as fields_of, Words.App, Words.Text, Words.app_of, Words.new_app, Words.new_rule}
+use Rattle.clap.specs.{Words.with_rule, Words.with_subcommand, Simple.on_top}
 
 -- the command with one more positional word, which must be given
 unfoldable pub with_word : App → Text → App

@@ -1,19 +1,11 @@
 -- What the words of the command line ask for.
 use Rattle.std.specs.Prelude.{ℕ, Bool, true, false, List, [], ◌∷◌, Option, Some, None, cond, codes, option_map, option_and_then, ◌&&◌, decimal, nat_le}
 use Rattle.std.specs.Prelude.{if◌then◌else◌}
-use Rattle.std.specs.Option.{option_map_or}
-use Rattle.std.specs.Str.{bytes_eq}
+use Rattle.std.specs.{Option.option_map_or, Str.bytes_eq, Str.Parse.digits_value}
 use Rattle.clap.specs.Words.{Text, Row, Kinds, fault_of, subcommand_of, first_of}
-use Rattle.command_line.specs.Commands.{heads_app}
-use Rattle.command_line.specs.declared.order.BatchOrder.{BatchOrder}
-use Rattle.command_line.specs.declared.order.CheckOrder.{CheckOrder}
-use Rattle.command_line.specs.declared.order.Order.{Order}
-use Rattle.command_line.specs.declared.order.PlanOrder.{PlanOrder}
-use Rattle.command_line.specs.declared.order.RunOrder.{RunOrder}
-use Rattle.command_line.specs.declared.order.TextOrder.{TextOrder}
-use Rattle.model_types.specs.declared.limits.Limits.{Limits}
-use Rattle.model_types.specs.declared.limits.Limits.TheVariants.{Plain, Wide}
-use Rattle.std.specs.Str.Parse.{digits_value}
+use Rattle.command_line.specs.{Commands.heads_app, declared.order.BatchOrder.BatchOrder, declared.order.CheckOrder.CheckOrder, declared.order.Order.Order}
+use Rattle.command_line.specs.{declared.order.PlanOrder.PlanOrder, declared.order.RunOrder.RunOrder, declared.order.TextOrder.TextOrder}
+use Rattle.model_types.specs.{declared.limits.Limits.Limits, declared.limits.Limits.TheVariants.Plain, declared.limits.Limits.TheVariants.Wide}
 use denote.Ref.{Bor}
 use Rattle.command_line.specs.declared.order.Order.TheVariants as order
 

@@ -1,10 +1,8 @@
 -- Arithmetic on spans: operations keep the order, and exponents grow with each by 18 at most.
-use Rattle.conductance_bounds.proofs.Common.{ℕ, zero, ◌+◌, ◌≤◌, ◌<◌, arith, ℤ, pos, negsuc, neg_ℤ, ◌+ℤ◌, ◌-ℤ◌, unsigned_abs, int_min, int_max, ints, clamps}
-use Rattle.conductance_bounds.proofs.Common.{AtMost, plus, times, over, AtMost-trans, plus-AtMost, times-AtMost, over-AtMost, ten_pos, cross_of, Sd, value}
-use Rattle.conductance_bounds.proofs.Common.{IsDown, IsUp, IsNear, HasSize, Span, IsOrdered, reach, mul-pos, AreOperands, one_rounded, AreBounds, Lower, Number}
-use Rattle.conductance_bounds.proofs.Common.{Product, Quotient, Ratio, Same, Sum, Term, Upper, Within, bound, refl, rounded_decimal, IsSd, ◌∙◌, IsWithin}
-use Rattle.conductance_bounds.proofs.Sides.{positive_value}
-use Rattle.conductance_bounds.proofs.SpanBounds.{exact_rounded}
+use Rattle.conductance_bounds.proofs.Common.{ℕ, zero, ◌+◌, ◌≤◌, ◌<◌, arith, ℤ, pos, negsuc, neg_ℤ, ◌+ℤ◌, ◌-ℤ◌, unsigned_abs, int_min, int_max, ints, clamps, AtMost, plus, times, over, AtMost-trans}
+use Rattle.conductance_bounds.proofs.Common.{plus-AtMost, times-AtMost, over-AtMost, ten_pos, cross_of, Sd, value, IsDown, IsUp, IsNear, HasSize, Span, IsOrdered, reach, mul-pos, AreOperands}
+use Rattle.conductance_bounds.proofs.Common.{one_rounded, AreBounds, Lower, Number, Product, Quotient, Ratio, Same, Sum, Term, Upper, Within, bound, refl, rounded_decimal, IsSd, ◌∙◌, IsWithin}
+use Rattle.conductance_bounds.proofs.{Sides.positive_value, SpanBounds.exact_rounded}
 
 near_by : (e : ℤ) (n : ℕ) → unsigned_abs e ≤ n → IsNear e n
 near_by (pos k) n h = record { above = omega (arith, ints, h); below = omega (arith, ints, h) }

@@ -1,6 +1,6 @@
 -- Sizes of the blends of two heads.
-use Rattle.conductance_bounds.proofs.Common.{◌≡◌, ℕ, suc, ◌*◌, ◌≤◌, ◌<◌, ◌^◌, arith, ap, ◌∙◌, ℤ, pos, negsuc, ◌*ℤ◌, int_min, int_max, w128, mul-le-mul_right}
-use Rattle.conductance_bounds.proofs.Common.{ints, clamps, IsNear, IsHeadUnits, blend, ceiling_of, head_floor_of}
+use Rattle.conductance_bounds.proofs.Common.{◌≡◌, ℕ, suc, ◌*◌, ◌≤◌, ◌<◌, ◌^◌, arith, ap, ◌∙◌, ℤ, pos, negsuc, ◌*ℤ◌, int_min, int_max, w128, mul-le-mul_right, ints, clamps, IsNear, IsHeadUnits, blend}
+use Rattle.conductance_bounds.proofs.Common.{ceiling_of, head_floor_of}
 use Rattle.std.specs.Prelude.{FitsSigned}
 
 pub share_within : (h : ℤ) (part : ℕ) → IsHeadUnits h → IsNear (h *ℤ pos part) (4000000000000000000 * part)

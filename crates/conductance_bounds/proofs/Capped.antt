@@ -1,8 +1,7 @@
 -- Whole pairs and flows: from the whole bounds of spans, and small or kept otherwise.
-use Rattle.conductance_bounds.proofs.Common.{◌≡◌, ℕ, ◌+◌, ◌-◌, ◌≤◌, ◌<◌, ◌^◌, ◌⊎◌, ◌∙◌, inl, inr, Bool, true, false, Option, Some, None, refl, sym, ap, subst}
-use Rattle.conductance_bounds.proofs.Common.{arith, cases_lt, unsigned_abs, unwrap_or, IfSome, ℤ, neg_ℤ, pos, Encloses, EnclosesSigned, Fraction, IsFloor}
-use Rattle.conductance_bounds.proofs.Common.{IsCeiling, Passes, Ratio, den, Sd, value, Span, Pair, AreBounds, Term, Lower, Upper, in_units, pair, small_pair}
-use Rattle.conductance_bounds.proofs.Common.{capped_pair, flow, small_flow, capped_flow, signed_pair, PairEncloses, FlowEncloses, Holds, pair_below, option_map}
+use Rattle.conductance_bounds.proofs.Common.{◌≡◌, ℕ, ◌+◌, ◌-◌, ◌≤◌, ◌<◌, ◌^◌, ◌⊎◌, ◌∙◌, inl, inr, Bool, true, false, Option, Some, None, refl, sym, ap, subst, arith, cases_lt, unsigned_abs, unwrap_or}
+use Rattle.conductance_bounds.proofs.Common.{IfSome, ℤ, neg_ℤ, pos, Encloses, EnclosesSigned, Fraction, IsFloor, IsCeiling, Passes, Ratio, den, Sd, value, Span, Pair, AreBounds, Term, Lower, Upper}
+use Rattle.conductance_bounds.proofs.Common.{in_units, pair, small_pair, capped_pair, flow, small_flow, capped_flow, signed_pair, PairEncloses, FlowEncloses, Holds, pair_below, option_map}
 use Rattle.conductance_bounds.proofs.Common.{lt_of_mul-lt-mul_right, cond_above, cond_below, is_ceiling, one_ceiling, one_floor}
 use Rattle.conductance_bounds.proofs.Manual.{pair_ordered}
 use Rattle.conductance_bounds.specs.declared.pair.FlowPair.{FlowPair}

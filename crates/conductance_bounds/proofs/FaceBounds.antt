@@ -1,17 +1,12 @@
 -- The pair of a face's formula contains the manual's conductance of the face.
-use Rattle.conductance_bounds.proofs.Common.{◌≡◌, ℕ, zero, suc, ◌+◌, ◌*◌, ◌<◌, inl, inr, true, cond, arith, ap, ◌∙◌, ℤ, pos, ◌-ℤ◌, ◌*ℤ◌, ◌==◌, unsigned_abs}
-use Rattle.conductance_bounds.proofs.Common.{cases_Bool, ints, number, size, Fraction, FlowModel, cell_count, layer_size, gap, dec_at, is_active, has_bed}
-use Rattle.conductance_bounds.proofs.Common.{bottom_at, lowest, delr_at, delc_at, bed_thickness, hk_at, vka_at, vkcb_at, is_ratio, row_conductance}
-use Rattle.conductance_bounds.proofs.Common.{column_conductance, vertical_half, vertical_conductance, conductance, IsModel, Number, Term, Within, face_term}
-use Rattle.conductance_bounds.proofs.Common.{column_k_term, thick_term, span, stride, FacesEnclose, bed_span}
-use Rattle.model_types.specs.declared.face.Axis.{Axis}
-use Rattle.model_types.specs.declared.face.Axis.TheVariants.{Row, Column, Vertical}
-use Rattle.conductance_bounds.proofs.Sides.{exact_positive, product_is_factor, size_positive, within_is_factor}
-use Rattle.conductance_bounds.proofs.LayerBounds.{IsLayerHalf, IsBedded, layers_give, no_bed, some_bed}
-use Rattle.conductance_bounds.proofs.Manual.{Gives, term_pair_encloses, row_gives}
-use Rattle.conductance_bounds.proofs.Ready.{IsReady, is_ready}
-use Rattle.conductance_bounds.proofs.SpanBounds.{thick_positive}
-use Rattle.conductance_bounds.proofs.ThickBounds.{span_positive, thick_between}
+use Rattle.conductance_bounds.proofs.Common.{◌≡◌, ℕ, zero, suc, ◌+◌, ◌*◌, ◌<◌, inl, inr, true, cond, arith, ap, ◌∙◌, ℤ, pos, ◌-ℤ◌, ◌*ℤ◌, ◌==◌, unsigned_abs, cases_Bool, ints, number, size, Fraction}
+use Rattle.conductance_bounds.proofs.Common.{FlowModel, cell_count, layer_size, gap, dec_at, is_active, has_bed, bottom_at, lowest, delr_at, delc_at, bed_thickness, hk_at, vka_at, vkcb_at, is_ratio}
+use Rattle.conductance_bounds.proofs.Common.{row_conductance, column_conductance, vertical_half, vertical_conductance, conductance, IsModel, Number, Term, Within, face_term, column_k_term, thick_term}
+use Rattle.conductance_bounds.proofs.Common.{span, stride, FacesEnclose, bed_span}
+use Rattle.model_types.specs.{declared.face.Axis.Axis, declared.face.Axis.TheVariants.Row, declared.face.Axis.TheVariants.Column, declared.face.Axis.TheVariants.Vertical}
+use Rattle.conductance_bounds.proofs.{Sides.exact_positive, Sides.product_is_factor, Sides.size_positive, Sides.within_is_factor, LayerBounds.IsLayerHalf, LayerBounds.IsBedded}
+use Rattle.conductance_bounds.proofs.{LayerBounds.layers_give, LayerBounds.no_bed, LayerBounds.some_bed, Manual.Gives, Manual.term_pair_encloses, Manual.row_gives, Ready.IsReady, Ready.is_ready}
+use Rattle.conductance_bounds.proofs.{SpanBounds.thick_positive, ThickBounds.span_positive, ThickBounds.thick_between}
 
 pub none_between : (x : ℤ) → unsigned_abs (x -ℤ x) ≡ 0
 none_between x = let e : x -ℤ x ≡ pos 0 = omega (arith, ints) in ap unsigned_abs e

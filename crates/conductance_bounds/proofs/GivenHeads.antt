@@ -1,8 +1,7 @@
 -- The pair of a given head contains it: the head is linear in the part of the period that has passed, so it lies between the heads at the ends of that part's bounds.
-use Rattle.conductance_bounds.proofs.Common.{◌≡◌, ℕ, suc, ◌+◌, ◌*◌, ◌-◌, ◌≤◌, ◌^◌, arith, ap, ◌∙◌, sym, subst, ℤ, pos, negsuc, neg_ℤ, ◌+ℤ◌, ◌-ℤ◌, ◌*ℤ◌, ◌≤ℤ◌}
-use Rattle.conductance_bounds.proofs.Common.{int_min, int_max, ints, clamps, by_lt_z, Dec, number, Ratio, den, EnclosesSigned, mul_mono_right, cancel_right}
-use Rattle.conductance_bounds.proofs.Common.{last_factors_swap, diffs, as_diff, same_diff, between_heads, IsPassed, blend, given_pair, head_pair, add_times}
-use Rattle.conductance_bounds.proofs.Common.{IsSignedCeiling, IsSignedFloor, neg_times, HeadPair, ceiling_of, head_floor_of, Part}
+use Rattle.conductance_bounds.proofs.Common.{◌≡◌, ℕ, suc, ◌+◌, ◌*◌, ◌-◌, ◌≤◌, ◌^◌, arith, ap, ◌∙◌, sym, subst, ℤ, pos, negsuc, neg_ℤ, ◌+ℤ◌, ◌-ℤ◌, ◌*ℤ◌, ◌≤ℤ◌, int_min, int_max, ints, clamps, by_lt_z}
+use Rattle.conductance_bounds.proofs.Common.{Dec, number, Ratio, den, EnclosesSigned, mul_mono_right, cancel_right, last_factors_swap, diffs, as_diff, same_diff, between_heads, IsPassed, blend}
+use Rattle.conductance_bounds.proofs.Common.{given_pair, head_pair, add_times, IsSignedCeiling, IsSignedFloor, neg_times, HeadPair, ceiling_of, head_floor_of, Part}
 use Rattle.model_types.specs.declared.entry.Given.{Given}
 use Rattle.conductance_bounds.proofs.Units.{IsCeilingOf, IsFloorOf, ceiling_is, floor_is, head_ceiling, head_floor, pair_of}
 use Rattle.decimal_input.specs.Fractions.{den as denominator}

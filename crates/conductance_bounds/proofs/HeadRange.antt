@@ -1,7 +1,6 @@
 -- Heads of the input, as whole units, are in range.
-use Rattle.conductance_bounds.proofs.Common.{ℕ, ◌^◌, ◌≤◌, arith, ℤ, pos, negsuc, neg_ℤ, ◌+ℤ◌, ◌*ℤ◌, ◌≤ℤ◌, unsigned_abs, w64, w128, ints, by_lt_z, Fraction}
-use Rattle.conductance_bounds.proofs.Common.{EnclosesSigned, IsSignedFloor, IsSignedCeiling, IsFloorPast, IsCeilingPast, cancel_right, mul_mono_right}
-use Rattle.conductance_bounds.proofs.Common.{IsHeadUnits}
+use Rattle.conductance_bounds.proofs.Common.{ℕ, ◌^◌, ◌≤◌, arith, ℤ, pos, negsuc, neg_ℤ, ◌+ℤ◌, ◌*ℤ◌, ◌≤ℤ◌, unsigned_abs, w64, w128, ints, by_lt_z, Fraction, EnclosesSigned, IsSignedFloor}
+use Rattle.conductance_bounds.proofs.Common.{IsSignedCeiling, IsFloorPast, IsCeilingPast, cancel_right, mul_mono_right, IsHeadUnits}
 use Rattle.std.specs.Prelude.{FitsSigned}
 use Rattle.decimal_input.specs.Fractions.{den}
 

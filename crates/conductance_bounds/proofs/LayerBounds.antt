@@ -1,13 +1,10 @@
 -- The pair of a vertical branch contains the manual's conductance, with a bed or without.
-use Rattle.conductance_bounds.proofs.Common.{◌≡◌, ℕ, zero, ◌*◌, ◌≤◌, ◌<◌, ◌^◌, inl, inr, Bool, true, false, arith, refl, subst, sym, ◌+◌, ◌==◌, false≢true}
-use Rattle.conductance_bounds.proofs.Common.{cases_lt, Dec, size, Ratio, over, IsFloor, IsCeiling, Reaches, Passes, den, plus, times, AtMost, num_scaled, Sd}
-use Rattle.conductance_bounds.proofs.Common.{value, two, IsPositive, Span, AreBounds, Term, exact, PairEncloses, IsBetween, Number, Within, Sum, Quotient}
-use Rattle.conductance_bounds.proofs.Common.{area_formula, vertical_k_term, vertical_k, vertical_term, resistance_sum, vertical_of, vertical_exact, IsVertHalf}
-use Rattle.conductance_bounds.proofs.Common.{IsBed, evap_formula, evap_exact, over-positive, mul-le-mul_right, Same, Same-trans, Same-sym, Same-self, plus-Same}
-use Rattle.conductance_bounds.proofs.Common.{over-Same, plus-positive}
+use Rattle.conductance_bounds.proofs.Common.{◌≡◌, ℕ, zero, ◌*◌, ◌≤◌, ◌<◌, ◌^◌, inl, inr, Bool, true, false, arith, refl, subst, sym, ◌+◌, ◌==◌, false≢true, cases_lt, Dec, size, Ratio, over, IsFloor}
+use Rattle.conductance_bounds.proofs.Common.{IsCeiling, Reaches, Passes, den, plus, times, AtMost, num_scaled, Sd, value, two, IsPositive, Span, AreBounds, Term, exact, PairEncloses, IsBetween}
+use Rattle.conductance_bounds.proofs.Common.{Number, Within, Sum, Quotient, area_formula, vertical_k_term, vertical_k, vertical_term, resistance_sum, vertical_of, vertical_exact, IsVertHalf, IsBed}
+use Rattle.conductance_bounds.proofs.Common.{evap_formula, evap_exact, over-positive, mul-le-mul_right, Same, Same-trans, Same-sym, Same-self, plus-Same, over-Same, plus-positive}
 use Rattle.std.proofs.lemmas.Bool.Decides.{nat_tests}
-use Rattle.conductance_bounds.specs.declared.vertical.VertHalf.{VertHalf}
-use Rattle.conductance_bounds.specs.declared.vertical.Bed.{Bed}
+use Rattle.conductance_bounds.specs.{declared.vertical.VertHalf.VertHalf, declared.vertical.Bed.Bed}
 use Rattle.conductance_bounds.proofs.Sides.{IsFactor, exact_positive, number_is_factor, quotient_is_factor, size_positive, sum_is_factor, within_is_factor}
 use Rattle.conductance_bounds.proofs.Manual.{half_of, plus_none, zero_times, Gives, term_pair_encloses, below_units, pair_encloses}
 use Rattle.decimal_input.proofs.Cross.{le_cancel}

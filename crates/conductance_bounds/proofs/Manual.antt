@@ -1,10 +1,8 @@
 -- The formulas of branches contain the manual's conductances: each formula's value is the manual's, and each of its leaves lies between its bounds.
-use Rattle.conductance_bounds.proofs.Common.{◌≡◌, ℕ, ◌+◌, ◌*◌, ◌<◌, arith, refl, ◌≤◌, ◌^◌, Encloses, Ratio, ratio, over, den, plus, times, Same, num_plus}
-use Rattle.conductance_bounds.proofs.Common.{den_plus, num_over, den_over, num_times, den_times, value, one, two, half, in_a_row, Term, exact, Holds}
-use Rattle.conductance_bounds.proofs.Common.{PairEncloses, bound, pair, row_term, Lower, Upper, plus-Same, over-Same, plus-positive, over-positive, Same-self}
-use Rattle.conductance_bounds.proofs.Common.{times-positive, mul-le-mul_right, le_of_mul-le-mul_right, is_ceiling, is_floor}
-use Rattle.conductance_bounds.proofs.Sides.{bound_on, IsFactor, exact_positive, number_is_factor, number_one, sum_is_factor, product_is_factor}
-use Rattle.conductance_bounds.proofs.Sides.{quotient_is_factor}
+use Rattle.conductance_bounds.proofs.Common.{◌≡◌, ℕ, ◌+◌, ◌*◌, ◌<◌, arith, refl, ◌≤◌, ◌^◌, Encloses, Ratio, ratio, over, den, plus, times, Same, num_plus, den_plus, num_over, den_over, num_times}
+use Rattle.conductance_bounds.proofs.Common.{den_times, value, one, two, half, in_a_row, Term, exact, Holds, PairEncloses, bound, pair, row_term, Lower, Upper, plus-Same, over-Same, plus-positive}
+use Rattle.conductance_bounds.proofs.Common.{over-positive, Same-self, times-positive, mul-le-mul_right, le_of_mul-le-mul_right, is_ceiling, is_floor}
+use Rattle.conductance_bounds.proofs.Sides.{bound_on, IsFactor, exact_positive, number_is_factor, number_one, sum_is_factor, product_is_factor, quotient_is_factor}
 
 -- n / 10 ^ s ≤ a / x ≤ b / y, over plain numbers
 pub below_units : (n a x b y p : ℕ) → 0 < x → n * x ≤ a * p → a * y ≤ b * x → n * y ≤ b * p

@@ -1,16 +1,9 @@
 -- The pairs of a valid model's storages, recharges, evapotranspirations and given heads enclose its exact numbers.
-use Rattle.conductance_bounds.proofs.Common.{◌≡◌, ℕ, ◌-◌, Bool, true, false, cond, Some, None, refl, subst, size, Ratio, times, over, FlowModel, area, dec_at}
-use Rattle.conductance_bounds.proofs.Common.{delr_at, delc_at, thickness, geometric, power, IsModel, exact, Holds, storativity_term, thick_term, storage_term}
-use Rattle.conductance_bounds.proofs.Common.{storativity, storage, EvapsEnclose, HeadsEnclose, RechargesEnclose, StoragesEnclose, ◌<◌, Period, EvapSource}
-use Rattle.conductance_bounds.proofs.Common.{IsPositive, IsTimed, cell_count, is_active, FormulasHold, evap_term}
-use Rattle.conductance_bounds.proofs.Sides.{number_is_factor, size_positive}
-use Rattle.conductance_bounds.proofs.GivenHeads.{given_encloses}
-use Rattle.conductance_bounds.proofs.Manual.{Gives, term_pair_encloses, pair_encloses}
-use Rattle.conductance_bounds.proofs.PartBounds.{part_encloses, multiplier_positive}
-use Rattle.conductance_bounds.proofs.Ready.{is_ready}
-use Rattle.conductance_bounds.proofs.FaceBounds.{face_gives}
-use Rattle.conductance_bounds.proofs.Recharged.{flow_encloses}
-use Rattle.conductance_bounds.proofs.StorageBounds.{storage_gives}
+use Rattle.conductance_bounds.proofs.Common.{◌≡◌, ℕ, ◌-◌, Bool, true, false, cond, Some, None, refl, subst, size, Ratio, times, over, FlowModel, area, dec_at, delr_at, delc_at, thickness, geometric}
+use Rattle.conductance_bounds.proofs.Common.{power, IsModel, exact, Holds, storativity_term, thick_term, storage_term, storativity, storage, EvapsEnclose, HeadsEnclose, RechargesEnclose}
+use Rattle.conductance_bounds.proofs.Common.{StoragesEnclose, ◌<◌, Period, EvapSource, IsPositive, IsTimed, cell_count, is_active, FormulasHold, evap_term}
+use Rattle.conductance_bounds.proofs.{Sides.number_is_factor, Sides.size_positive, GivenHeads.given_encloses, Manual.Gives, Manual.term_pair_encloses, Manual.pair_encloses, PartBounds.part_encloses}
+use Rattle.conductance_bounds.proofs.{PartBounds.multiplier_positive, Ready.is_ready, FaceBounds.face_gives, Recharged.flow_encloses, StorageBounds.storage_gives}
 
 module _ (m : FlowModel) where
   storativity_is : (c : ℕ) → exact (storativity_term (size (dec_at m.ss c)) (cond m.coefficient None (Some (thick_term m c)))) ≡ storativity m c

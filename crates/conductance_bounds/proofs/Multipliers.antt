@@ -1,8 +1,7 @@
 -- The steps of the loops over growing time steps.
-use Rattle.conductance_bounds.proofs.Common.{◌≡◌, ℕ, zero, suc, ◌+◌, ◌*◌, ◌≤◌, ◌<◌, ◌^◌, inl, inr, arith, subst, ℤ, pos, negsuc, neg_ℤ, ◌+ℤ◌, ◌≤ℤ◌, int_max}
-use Rattle.conductance_bounds.proofs.Common.{mul-le-mul, cases_lt, ints, clamps, Dec, size, scaled_ratio, up, down, Ratio, ratio, AtMost, AtMost-trans}
-use Rattle.conductance_bounds.proofs.Common.{Same-AtMost, Same-back, ten_pos, power_within, num_scaled, den_scaled, Sd, HasSize, IsSd, one, Same, Span, value}
-use Rattle.conductance_bounds.proofs.Common.{Number, Sum, Product, sum_term, power_term, IsSlow, AreBounds, reach}
+use Rattle.conductance_bounds.proofs.Common.{◌≡◌, ℕ, zero, suc, ◌+◌, ◌*◌, ◌≤◌, ◌<◌, ◌^◌, inl, inr, arith, subst, ℤ, pos, negsuc, neg_ℤ, ◌+ℤ◌, ◌≤ℤ◌, int_max, mul-le-mul, cases_lt, ints, clamps, Dec}
+use Rattle.conductance_bounds.proofs.Common.{size, scaled_ratio, up, down, Ratio, ratio, AtMost, AtMost-trans, Same-AtMost, Same-back, ten_pos, power_within, num_scaled, den_scaled, Sd, HasSize, IsSd}
+use Rattle.conductance_bounds.proofs.Common.{one, Same, Span, value, Number, Sum, Product, sum_term, power_term, IsSlow, AreBounds, reach}
 use Rattle.conductance_bounds.proofs.Arithmetic.{reach_within}
 
 -- a decimal of at least 0.001 has an exponent of at least -20

@@ -1,10 +1,9 @@
 -- The part of a period that has passed lies between its bounds, and is at most 1.
-use Rattle.conductance_bounds.proofs.Common.{◌≡◌, ℕ, zero, suc, ◌+◌, ◌*◌, ◌-◌, ◌≤◌, ◌<◌, ◌^◌, Bool, true, false, cond, min, arith, refl, subst, sym, ap}
-use Rattle.conductance_bounds.proofs.Common.{mul-le-mul_right, le_of_mul-le-mul_right, cases_lt, size, Ratio, ratio, over, scaled_ratio, den, AtMost, Same}
-use Rattle.conductance_bounds.proofs.Common.{plus, times, AtMost-trans, AtMost-refl, Same-AtMost, num_plus, num_over, den_over, Same-trans, Same-sym, den_plus}
-use Rattle.conductance_bounds.proofs.Common.{value, IsTimed, number_one, one, power, geometric, multiplier, part_passed, Span, AreBounds, exact, bound, Lower}
-use Rattle.conductance_bounds.proofs.Common.{sum_term, part, pair, IsPassed, part_term, is_whole, power_term, over-Same, Same-self, plus-Same, times-Same}
-use Rattle.conductance_bounds.proofs.Common.{IsFloor, Sd, Upper, in_units, ◌∙◌, cond-false, cond-true, Part, one_floor, Period}
+use Rattle.conductance_bounds.proofs.Common.{◌≡◌, ℕ, zero, suc, ◌+◌, ◌*◌, ◌-◌, ◌≤◌, ◌<◌, ◌^◌, Bool, true, false, cond, min, arith, refl, subst, sym, ap, mul-le-mul_right, le_of_mul-le-mul_right}
+use Rattle.conductance_bounds.proofs.Common.{cases_lt, size, Ratio, ratio, over, scaled_ratio, den, AtMost, Same, plus, times, AtMost-trans, AtMost-refl, Same-AtMost, num_plus, num_over, den_over}
+use Rattle.conductance_bounds.proofs.Common.{Same-trans, Same-sym, den_plus, value, IsTimed, number_one, one, power, geometric, multiplier, part_passed, Span, AreBounds, exact, bound, Lower, sum_term}
+use Rattle.conductance_bounds.proofs.Common.{part, pair, IsPassed, part_term, is_whole, power_term, over-Same, Same-self, plus-Same, times-Same, IsFloor, Sd, Upper, in_units, ◌∙◌, cond-false}
+use Rattle.conductance_bounds.proofs.Common.{cond-true, Part, one_floor, Period}
 use Rattle.model_types.proofs.Growth.{geometric_sum_steps}
 use Rattle.conductance_bounds.proofs.Sides.{IsFactor, bound_on, exact_positive, more_positive, quotient_is_factor, size_positive, sum_factor}
 use Rattle.conductance_bounds.proofs.Manual.{Encloses-same, pair_encloses}

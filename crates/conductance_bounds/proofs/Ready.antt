@@ -1,9 +1,8 @@
 -- The numbers of an active cell of a valid model are ready for its branches.
-use Rattle.conductance_bounds.proofs.Common.{◌≡◌, ℕ, ◌/◌, ◌<◌, true, arith, size, FlowModel, cell_count, column_of, row_of, no_number, dec_at, delr_at, delc_at}
-use Rattle.conductance_bounds.proofs.Common.{hk_at, hani_at, top_at, bottom_at, is_active, thickness, IsModel, IsPositive, Number, span, thick_term}
+use Rattle.conductance_bounds.proofs.Common.{◌≡◌, ℕ, ◌/◌, ◌<◌, true, arith, size, FlowModel, cell_count, column_of, row_of, no_number, dec_at, delr_at, delc_at, hk_at, hani_at, top_at, bottom_at}
+use Rattle.conductance_bounds.proofs.Common.{is_active, thickness, IsModel, IsPositive, Number, span, thick_term}
 use Rattle.std.proofs.lemmas.Nat.{mod_below}
-use Rattle.conductance_bounds.proofs.Sides.{IsFactor, input_is_factor, size_positive, within_is_factor}
-use Rattle.conductance_bounds.proofs.ThickBounds.{span_positive, thick_between}
+use Rattle.conductance_bounds.proofs.{Sides.IsFactor, Sides.input_is_factor, Sides.size_positive, Sides.within_is_factor, ThickBounds.span_positive, ThickBounds.thick_between}
 
 -- the numbers of an active cell
 pub record IsReady (m : FlowModel) (c : ℕ) : Type 0 where

@@ -1,7 +1,7 @@
 -- The pair of a recharge contains it, whatever its sign.
-use Rattle.conductance_bounds.proofs.Common.{◌≡◌, ℕ, ◌*◌, ◌≤◌, ◌^◌, Bool, true, false, arith, ap, ◌∙◌, ℤ, pos, neg_ℤ, ◌*ℤ◌, ints, Dec, size, Ratio, times, Same}
-use Rattle.conductance_bounds.proofs.Common.{Fraction, as_fraction, with_sign, Encloses, EnclosesSigned, Number, number, num_times, den_times, Same-sym}
-use Rattle.conductance_bounds.proofs.Common.{neg_times, recharge_formula, recharge_exact, FlowEncloses, Pair, pair, signed_pair}
+use Rattle.conductance_bounds.proofs.Common.{◌≡◌, ℕ, ◌*◌, ◌≤◌, ◌^◌, Bool, true, false, arith, ap, ◌∙◌, ℤ, pos, neg_ℤ, ◌*ℤ◌, ints, Dec, size, Ratio, times, Same, Fraction, as_fraction, with_sign}
+use Rattle.conductance_bounds.proofs.Common.{Encloses, EnclosesSigned, Number, number, num_times, den_times, Same-sym, neg_times, recharge_formula, recharge_exact, FlowEncloses, Pair, pair}
+use Rattle.conductance_bounds.proofs.Common.{signed_pair}
 use Rattle.decimal_input.specs.Fractions.{den as denominator, times as product}
 use Rattle.conductance_bounds.proofs.Manual.{pair_encloses, Encloses-same}
 

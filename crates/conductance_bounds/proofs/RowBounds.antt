@@ -1,11 +1,7 @@
 -- The pairs of row_branch and col_branch contain the manual's conductance.
-use Rattle.conductance_bounds.proofs.Common.{ℕ, Dec, size, Ratio, IsPositive, IsBetween, Number, Within, PairEncloses, row_exact, column_k, column_exact}
-use Rattle.conductance_bounds.proofs.Common.{IsHalf, IsColHalf}
-use Rattle.conductance_bounds.specs.declared.horizontal.Half.{Half}
-use Rattle.conductance_bounds.specs.declared.horizontal.ColHalf.{ColHalf}
-use Rattle.conductance_bounds.specs.{row_of, column_of}
-use Rattle.conductance_bounds.proofs.Sides.{input_is_factor, product_is_factor, size_positive, within_is_factor}
-use Rattle.conductance_bounds.proofs.Manual.{term_pair_encloses, row_gives}
+use Rattle.conductance_bounds.proofs.Common.{ℕ, Dec, size, Ratio, IsPositive, IsBetween, Number, Within, PairEncloses, row_exact, column_k, column_exact, IsHalf, IsColHalf}
+use Rattle.conductance_bounds.specs.{declared.horizontal.Half.Half, declared.horizontal.ColHalf.ColHalf, row_of, column_of}
+use Rattle.conductance_bounds.proofs.{Sides.input_is_factor, Sides.product_is_factor, Sides.size_positive, Sides.within_is_factor, Manual.term_pair_encloses, Manual.row_gives}
 
 pub row_encloses : (a b : Half) (width : Dec) (s : ℕ) → IsHalf a → IsHalf b → IsPositive width → (f g : Ratio) → IsBetween a.thick_lo a.thick_hi f → IsBetween b.thick_lo b.thick_hi g →
     PairEncloses (row_of a b width f g) s (row_exact a b width f g)

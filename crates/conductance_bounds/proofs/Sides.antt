@@ -1,8 +1,7 @@
 -- The two bounds of a formula lie on their sides of its value, and the bounds of positive factors are positive.
-use Rattle.conductance_bounds.proofs.Common.{ℕ, zero, suc, ◌<◌, arith, mul-pos, Ratio, AtMost, AtMost-trans, plus-AtMost, times-AtMost, over-AtMost}
-use Rattle.conductance_bounds.proofs.Common.{plus-positive, times-positive, over-positive, num_scaled, ten_pos, up, Dec, size, Sd, value, IsPositive, one, Term}
-use Rattle.conductance_bounds.proofs.Common.{exact, bound, Holds, IsBetween, Number, Within, Sum, Product, Quotient, Side, Lower, Upper, rounded_decimal, ratio}
-use Rattle.conductance_bounds.proofs.Common.{sum_term, power_term, is_rounded, rounded_positive}
+use Rattle.conductance_bounds.proofs.Common.{ℕ, zero, suc, ◌<◌, arith, mul-pos, Ratio, AtMost, AtMost-trans, plus-AtMost, times-AtMost, over-AtMost, plus-positive, times-positive, over-positive}
+use Rattle.conductance_bounds.proofs.Common.{num_scaled, ten_pos, up, Dec, size, Sd, value, IsPositive, one, Term, exact, bound, Holds, IsBetween, Number, Within, Sum, Product, Quotient, Side, Lower}
+use Rattle.conductance_bounds.proofs.Common.{Upper, rounded_decimal, ratio, sum_term, power_term, is_rounded, rounded_positive}
 
 pub positive_value : (x : Sd) → 0 < x.m → 0 < (value x).num
 positive_value x h = rw num_scaled (mul-pos h (ten_pos (up x.e)))

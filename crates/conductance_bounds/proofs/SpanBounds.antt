@@ -1,11 +1,9 @@
 -- The decimals of a thickness contain it.
-use Rattle.conductance_bounds.proofs.Common.{◌≡◌, ℕ, zero, suc, ◌*◌, ◌≤◌, ◌<◌, ◌^◌, arith, ℤ, pos, negsuc, neg_ℤ, ◌-ℤ◌, ◌*ℤ◌, ◌≤ℤ◌, ◌<ℤ◌, mul-pos, refl, ◌-◌}
-use Rattle.conductance_bounds.proofs.Common.{inl, inr, subst, sym, ap, ◌+ℤ◌, unsigned_abs, ints, Dec, number, Fraction, ratio, scaled_ratio, size, Ratio, den}
-use Rattle.conductance_bounds.proofs.Common.{Same, plus, times, mul_mono_right, diffs, as_diff, same_diff, AtMost-trans, Same-trans, Same-sym, Same-AtMost}
-use Rattle.conductance_bounds.proofs.Common.{Same-back, num_times, den_times, num_plus, den_plus, num_scaled, den_scaled, scaled_shift, gap, IsThick, one}
-use Rattle.conductance_bounds.proofs.Common.{number_one, IsBetween, AreBounds, Number, Side, Lower, Upper, bound, rounded_decimal, span, units_at, sum_term}
-use Rattle.conductance_bounds.proofs.Common.{power_term, Span, cases_lt, pow-suc, Sd, IsSd, value, Same-self, times-Same, plus-Same, ◌∙◌, is_rounded}
-use Rattle.conductance_bounds.proofs.Common.{one_rounded}
+use Rattle.conductance_bounds.proofs.Common.{◌≡◌, ℕ, zero, suc, ◌*◌, ◌≤◌, ◌<◌, ◌^◌, arith, ℤ, pos, negsuc, neg_ℤ, ◌-ℤ◌, ◌*ℤ◌, ◌≤ℤ◌, ◌<ℤ◌, mul-pos, refl, ◌-◌, inl, inr, subst, sym, ap, ◌+ℤ◌}
+use Rattle.conductance_bounds.proofs.Common.{unsigned_abs, ints, Dec, number, Fraction, ratio, scaled_ratio, size, Ratio, den, Same, plus, times, mul_mono_right, diffs, as_diff, same_diff}
+use Rattle.conductance_bounds.proofs.Common.{AtMost-trans, Same-trans, Same-sym, Same-AtMost, Same-back, num_times, den_times, num_plus, den_plus, num_scaled, den_scaled, scaled_shift, gap, IsThick}
+use Rattle.conductance_bounds.proofs.Common.{one, number_one, IsBetween, AreBounds, Number, Side, Lower, Upper, bound, rounded_decimal, span, units_at, sum_term, power_term, Span, cases_lt, pow-suc}
+use Rattle.conductance_bounds.proofs.Common.{Sd, IsSd, value, Same-self, times-Same, plus-Same, ◌∙◌, is_rounded, one_rounded}
 use Rattle.conductance_bounds.proofs.Units.{units_ceiling, units_floor}
 use Rattle.decimal_input.specs.Fractions.{den as denominator}
 

@@ -1,13 +1,10 @@
 -- The pair of a storage contains the manual's storage.
-use Rattle.conductance_bounds.proofs.Common.{◌≡◌, ℕ, ◌-◌, ◌≤◌, ◌<◌, Option, Some, None, ap, refl, subst, sym, Dec, size, Ratio, times, factors_of, over, Sd}
-use Rattle.conductance_bounds.proofs.Common.{IsPositive, power, geometric, Span, AreBounds, Number, Within, Product, Term, exact, Holds, sum_term, power_term}
-use Rattle.conductance_bounds.proofs.Common.{area_formula, storativity_term, storage_formula, thickness_of, storativity_exact, storage_of, storage_exact}
-use Rattle.conductance_bounds.proofs.Common.{LiesWithin, PairEncloses, Same-self, times-Same, over-Same}
+use Rattle.conductance_bounds.proofs.Common.{◌≡◌, ℕ, ◌-◌, ◌≤◌, ◌<◌, Option, Some, None, ap, refl, subst, sym, Dec, size, Ratio, times, factors_of, over, Sd, IsPositive, power, geometric, Span}
+use Rattle.conductance_bounds.proofs.Common.{AreBounds, Number, Within, Product, Term, exact, Holds, sum_term, power_term, area_formula, storativity_term, storage_formula, thickness_of}
+use Rattle.conductance_bounds.proofs.Common.{storativity_exact, storage_of, storage_exact, LiesWithin, PairEncloses, Same-self, times-Same, over-Same}
 use Rattle.conductance_bounds.specs.declared.storage.Factors.{Factors}
-use Rattle.conductance_bounds.proofs.Sides.{IsFactor, exact_positive, number_is_factor, power_factor, product_is_factor, size_positive, sum_factor}
-use Rattle.conductance_bounds.proofs.Manual.{Gives, term_pair_encloses}
-use Rattle.conductance_bounds.proofs.PartBounds.{power_is, sum_at}
-use Rattle.conductance_bounds.proofs.Recharged.{times_is_associative}
+use Rattle.conductance_bounds.proofs.{Sides.IsFactor, Sides.exact_positive, Sides.number_is_factor, Sides.power_factor, Sides.product_is_factor, Sides.size_positive, Sides.sum_factor, Manual.Gives}
+use Rattle.conductance_bounds.proofs.{Manual.term_pair_encloses, PartBounds.power_is, PartBounds.sum_at, Recharged.times_is_associative}
 
 -- of a storativity x, lengths r and d, a multiplier t and a period of length l
 pub storage_gives : (x : Term) (r d t l : Ratio) (steps n : ℕ) → 1 ≤ steps → 0 < l.num → 0 < t.num → Holds x →

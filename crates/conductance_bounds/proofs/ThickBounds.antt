@@ -1,12 +1,10 @@
 -- A thickness lies between its two decimals, however the floors and ceilings were found.
-use Rattle.conductance_bounds.proofs.Common.{◌≡◌, ℕ, ◌<◌, ◌≤◌, ◌^◌, arith, ap, subst, ℤ, pos, negsuc, neg_ℤ, ◌+ℤ◌, ◌-ℤ◌, ◌*ℤ◌, ◌≤ℤ◌, ◌<ℤ◌, unsigned_abs, ints}
-use Rattle.conductance_bounds.proofs.Common.{mul-pos, by_lt_z, Dec, number, scaled_ratio, Fraction, IsSignedFloor, IsSignedCeiling, IsFloorPast, IsCeilingPast}
-use Rattle.conductance_bounds.proofs.Common.{AtMost-trans, scaled-AtMost, mul_mono_right, cancel_right, HasSize, IsDown, IsUp, gap, IsThick, Span, IsBetween}
-use Rattle.conductance_bounds.proofs.Common.{Lower, Upper, AreThick, Option, Some, None, IfSome, ◌∙◌, sym, IfNone, unwrap_or, num_scaled, ten_pos, up}
+use Rattle.conductance_bounds.proofs.Common.{◌≡◌, ℕ, ◌<◌, ◌≤◌, ◌^◌, arith, ap, subst, ℤ, pos, negsuc, neg_ℤ, ◌+ℤ◌, ◌-ℤ◌, ◌*ℤ◌, ◌≤ℤ◌, ◌<ℤ◌, unsigned_abs, ints, mul-pos, by_lt_z, Dec, number}
+use Rattle.conductance_bounds.proofs.Common.{scaled_ratio, Fraction, IsSignedFloor, IsSignedCeiling, IsFloorPast, IsCeilingPast, AtMost-trans, scaled-AtMost, mul_mono_right, cancel_right, HasSize}
+use Rattle.conductance_bounds.proofs.Common.{IsDown, IsUp, gap, IsThick, Span, IsBetween, Lower, Upper, AreThick, Option, Some, None, IfSome, ◌∙◌, sym, IfNone, unwrap_or, num_scaled, ten_pos, up}
 use Rattle.conductance_bounds.proofs.Common.{rounded_decimal, span, units_at, one_rounded, rounded_positive}
 use Rattle.decimal_input.specs.Fractions.{den}
-use Rattle.conductance_bounds.proofs.SpanBounds.{abs_positive, span_between}
-use Rattle.conductance_bounds.proofs.Units.{ceiling_units, floor_units, units_ceiling, units_floor}
+use Rattle.conductance_bounds.proofs.{SpanBounds.abs_positive, SpanBounds.span_between, Units.ceiling_units, Units.floor_units, Units.units_ceiling, Units.units_floor}
 
 floor_ceiling : (f : Fraction) (z w : ℤ) (P : ℤ) → (z *ℤ pos (den f)) ≤ℤ P → P ≤ℤ (w *ℤ pos (den f)) → z ≤ℤ w
 floor_ceiling f z w P h k = cancel_right (den f) z w (omega arith) (omega (arith, ints, h, k))

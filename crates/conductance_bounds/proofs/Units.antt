@@ -1,8 +1,7 @@
 -- A number of the input in whole units is its floor or its ceiling.
-use Rattle.conductance_bounds.proofs.Common.{◌≡◌, ℕ, ◌+◌, ◌*◌, ◌^◌, Bool, true, false, arith, refl, ints, ℤ, pos, negsuc, neg_ℤ, ◌+ℤ◌, ◌*ℤ◌, ◌≤ℤ◌, ◌<ℤ◌, Dec}
-use Rattle.conductance_bounds.proofs.Common.{number, size, with_sign, IsSignedFloor, IsSignedCeiling, Lower, Upper, in_units, units_at, head_pair, HeadPair}
-use Rattle.conductance_bounds.proofs.Common.{if◌then◌else◌, div-mul-le_self, lt-mul-div-succ, ceiling_of, head_floor_of, other, ceiling_of_ceiling}
-use Rattle.conductance_bounds.proofs.Common.{ceiling_of_floor, floor_of_ceiling, floor_of_floor, is_ceiling, is_floor}
+use Rattle.conductance_bounds.proofs.Common.{◌≡◌, ℕ, ◌+◌, ◌*◌, ◌^◌, Bool, true, false, arith, refl, ints, ℤ, pos, negsuc, neg_ℤ, ◌+ℤ◌, ◌*ℤ◌, ◌≤ℤ◌, ◌<ℤ◌, Dec, number, size, with_sign, IsSignedFloor}
+use Rattle.conductance_bounds.proofs.Common.{IsSignedCeiling, Lower, Upper, in_units, units_at, head_pair, HeadPair, if◌then◌else◌, div-mul-le_self, lt-mul-div-succ, ceiling_of, head_floor_of, other}
+use Rattle.conductance_bounds.proofs.Common.{ceiling_of_ceiling, ceiling_of_floor, floor_of_ceiling, floor_of_floor, is_ceiling, is_floor}
 use Rattle.decimal_input.proofs.FloorLaws.{one_ceiling, one_floor}
 
 pub units_floor : (d : Dec) (s : ℕ) → IsSignedFloor (units_at Lower d s) (number d) s

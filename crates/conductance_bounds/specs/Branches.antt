@@ -1,19 +1,12 @@
 -- The formulas of the bounds, one line each, over the numbers of single calls; and beside each the exact value that
 -- it bounds, in the manual's form (TM 6-A16, chapters 5 and 6).
 use Rattle.std.specs.Prelude.{ℕ, ◌-◌, ◌==◌, Bool, cond, Option, Some, None}
-use Rattle.decimal_input.specs.declared.dec.Dec.{Dec}
-use Rattle.decimal_input.specs.{number, size, Ratio, over, Fraction, as_fraction}
-use Rattle.decimal_input.specs.Ratios.{plus, times}
-use Rattle.decimal_input.specs.Fractions.{times as product}
+use Rattle.decimal_input.specs.{declared.dec.Dec.Dec, number, size, Ratio, over, Fraction, as_fraction, Ratios.plus, Ratios.times, Fractions.times as product}
 use Rattle.scaled_decimal.specs.declared.decimal.Sd.{Sd}
 use Rattle.model_types.specs.{one, two, half, in_a_row, power, geometric}
-use Rattle.conductance_bounds.specs.declared.horizontal.Half.{Half}
-use Rattle.conductance_bounds.specs.declared.horizontal.ColHalf.{ColHalf}
-use Rattle.conductance_bounds.specs.declared.vertical.VertHalf.{VertHalf}
-use Rattle.conductance_bounds.specs.declared.vertical.Bed.{Bed}
-use Rattle.conductance_bounds.specs.Terms.{Term}
-use Rattle.conductance_bounds.specs.Terms.Term.{Number, Within, Sum, Product, Quotient}
-use Rattle.conductance_bounds.specs.Parts.{sum_term, power_term}
+use Rattle.conductance_bounds.specs.{declared.horizontal.Half.Half, declared.horizontal.ColHalf.ColHalf, declared.vertical.VertHalf.VertHalf}
+use Rattle.conductance_bounds.specs.{declared.vertical.Bed.Bed, Terms.Term, Terms.Term.Number, Terms.Term.Within, Terms.Term.Sum, Terms.Term.Product}
+use Rattle.conductance_bounds.specs.{Terms.Term.Quotient, Parts.sum_term, Parts.power_term}
 
 abbrev pub twice : Term → Term
 twice t = Sum t t

@@ -3,12 +3,8 @@ use Rattle.std.specs.Prelude.{◌≡◌, ◌⊎◌, pos, Option, IfSome}
 use Rattle.decimal_input.specs.{Ratio}
 use Rattle.scaled_decimal.specs.declared.decimal.Sd.{Sd}
 use Rattle.model_types.specs.{IsPositive}
-use Rattle.conductance_bounds.specs.declared.horizontal.Half.{Half}
-use Rattle.conductance_bounds.specs.declared.horizontal.ColHalf.{ColHalf}
-use Rattle.conductance_bounds.specs.declared.vertical.VertHalf.{VertHalf}
-use Rattle.conductance_bounds.specs.declared.vertical.Bed.{Bed}
-use Rattle.conductance_bounds.specs.Terms.{IsBetween}
-use Rattle.conductance_bounds.specs.Formulas.{AreThick}
+use Rattle.conductance_bounds.specs.{declared.horizontal.Half.Half, declared.horizontal.ColHalf.ColHalf, declared.vertical.VertHalf.VertHalf}
+use Rattle.conductance_bounds.specs.{declared.vertical.Bed.Bed, Terms.IsBetween, Formulas.AreThick}
 
 pub record IsHalf (h : Half) : Type 0 where
   pub along : IsPositive h.along

@@ -1,25 +1,17 @@
 -- The formulas of a model's bounds: those of single calls, with the numbers of its cells and with the exact thicknesses.
 use Rattle.std.specs.Prelude.{ℕ, ◌+◌, ◌-◌, ◌==◌, cond, Some, None, pos, neg_ℤ, ◌-ℤ◌, unsigned_abs, ◌≡◌, ◌<◌, ◌≤◌, true, false}
-use Rattle.decimal_input.specs.declared.dec.Dec.{Dec}
-use Rattle.decimal_input.specs.{size, scaled_ratio, EnclosesSigned}
-use Rattle.decimal_input.specs.Ratios.{AtMost}
-use Rattle.scaled_decimal.specs.declared.decimal.Sd.{Sd}
-use Rattle.scaled_decimal.specs.{Lower, Upper, IsSd, HasSize, rounded_decimal, value}
+use Rattle.decimal_input.specs.{declared.dec.Dec.Dec, size, scaled_ratio, EnclosesSigned, Ratios.AtMost}
+use Rattle.scaled_decimal.specs.{declared.decimal.Sd.Sd, Lower, Upper, IsSd, HasSize, rounded_decimal, value}
 use Rattle.model_types.specs.declared.entry.Given.{Given}
-use Rattle.model_types.specs.declared.face.Axis.{Axis}
-use Rattle.model_types.specs.declared.face.Axis.TheVariants.{Row, Column, Vertical}
-use Rattle.model_types.specs.declared.model.FlowModel.{FlowModel}
-use Rattle.model_types.specs.declared.period.Period.{Period}
-use Rattle.model_types.specs.{stride, dec_at, delr_at, delc_at, thickness, bed_thickness, hk_at, hani_at, vka_at, is_ratio, vkcb_at, cell_count, conductance}
-use Rattle.model_types.specs.{between_heads, is_active, top_at, bottom_at, lowest, IsPositive, EvapSource, recharge_flow, evap_conductance, storage}
-use Rattle.model_types.specs.{part_passed, IsTimed}
-use Rattle.conductance_bounds.specs.declared.span.Span.{Span}
-use Rattle.conductance_bounds.specs.Terms.{Term, Holds}
-use Rattle.conductance_bounds.specs.Terms.Term.{Number, Within, Product, Quotient}
-use Rattle.conductance_bounds.specs.Pairs.{PairEncloses, FlowEncloses, units_at}
-use Rattle.conductance_bounds.specs.Parts.{sum_term, power_term, part, given_pair}
-use Rattle.conductance_bounds.specs.Branches.{row_term, area_formula, vertical_k_term, vertical_term, resistance_sum, storativity_term, storage_formula}
-use Rattle.conductance_bounds.specs.Branches.{recharge_formula, evap_formula}
+use Rattle.model_types.specs.{declared.face.Axis.Axis, declared.face.Axis.TheVariants.Row, declared.face.Axis.TheVariants.Column}
+use Rattle.model_types.specs.{declared.face.Axis.TheVariants.Vertical, declared.model.FlowModel.FlowModel, declared.period.Period.Period, stride, dec_at}
+use Rattle.model_types.specs.{delr_at, delc_at, thickness, bed_thickness, hk_at, hani_at, vka_at, is_ratio, vkcb_at, cell_count, conductance, between_heads}
+use Rattle.model_types.specs.{is_active, top_at, bottom_at, lowest, IsPositive, EvapSource, recharge_flow, evap_conductance, storage, part_passed, IsTimed}
+use Rattle.conductance_bounds.specs.{declared.span.Span.Span, Terms.Term, Terms.Holds, Terms.Term.Number, Terms.Term.Within, Terms.Term.Product}
+use Rattle.conductance_bounds.specs.{Terms.Term.Quotient, Pairs.PairEncloses, Pairs.FlowEncloses, Pairs.units_at, Parts.sum_term, Parts.power_term, Parts.part}
+use Rattle.conductance_bounds.specs.{Parts.given_pair, Branches.row_term, Branches.area_formula, Branches.vertical_k_term, Branches.vertical_term}
+use Rattle.conductance_bounds.specs.{Branches.resistance_sum, Branches.storativity_term, Branches.storage_formula, Branches.recharge_formula}
+use Rattle.conductance_bounds.specs.{Branches.evap_formula}
 
 -- the decimals of the thickness between two elevations: from their floors and ceilings in units of 10 ^ -18, rounded to 18 digits
 unfoldable pub span : Dec → Dec → Span

@@ -2,8 +2,7 @@
 use Rattle.std.specs.Prelude.{◌≡◌, ℕ, max, unsigned_abs}
 use Rattle.decimal_input.specs.Ratios.{AtMost}
 use Rattle.scaled_decimal.specs.{IsSd, Lower, Upper, value}
-use Rattle.conductance_bounds.specs.declared.span.Span.{Span}
-use Rattle.conductance_bounds.specs.Terms.{Term, bound}
+use Rattle.conductance_bounds.specs.{declared.span.Span.Span, Terms.Term, Terms.bound}
 
 -- two decimals in order
 pub record IsOrdered (x : Span) : Type 0 where

@@ -1,13 +1,10 @@
 -- Two whole bounds of a formula, and of a number of the input.
 use Rattle.std.specs.Prelude.{ℕ, ◌^◌, ℤ, pos, neg_ℤ, Bool, true, false, Option, Some, None, nat_lt, if◌then◌else◌}
 use Rattle.std.specs.Option.{option_map, unwrap_or}
-use Rattle.decimal_input.specs.declared.dec.Dec.{Dec}
-use Rattle.decimal_input.specs.{size, with_sign, Ratio, Fraction, Encloses, EnclosesSigned}
+use Rattle.decimal_input.specs.{declared.dec.Dec.Dec, size, with_sign, Ratio, Fraction, Encloses, EnclosesSigned}
 use Rattle.scaled_decimal.specs.{Side, Lower, Upper, value, in_units}
-use Rattle.conductance_bounds.specs.declared.pair.Pair.{Pair}
-use Rattle.conductance_bounds.specs.declared.pair.FlowPair.{FlowPair}
-use Rattle.conductance_bounds.specs.declared.head.HeadPair.{HeadPair}
-use Rattle.conductance_bounds.specs.Terms.{Term, bound, other}
+use Rattle.conductance_bounds.specs.{declared.pair.Pair.Pair, declared.pair.FlowPair.FlowPair, declared.head.HeadPair.HeadPair, Terms.Term, Terms.bound}
+use Rattle.conductance_bounds.specs.{Terms.other}
 
 -- the floor of the lower bound and the ceiling of the upper one, in units of 10 ^ -s
 unfoldable pub pair : Term → ℕ → Pair

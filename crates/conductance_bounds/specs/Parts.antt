@@ -1,19 +1,11 @@
 -- The part of a stress period that has passed, and a head given at its start and its end (TM 6-A16, chapter 6, CHD).
 use Rattle.std.specs.Prelude.{◌≡◌, ℕ, ◌-◌, ◌*◌, ◌≤◌, ◌^◌, ◌⊎◌, ℤ, pos, neg_ℤ, ◌+ℤ◌, ◌*ℤ◌, Bool, ◌||◌, ◌==◌, if◌then◌else◌, min, zero, suc}
 use Rattle.std.specs.Int.{int_min, int_max, int_div_euclid}
-use Rattle.decimal_input.specs.declared.dec.Dec.{Dec}
-use Rattle.decimal_input.specs.{size, Ratio, ratio}
-use Rattle.decimal_input.specs.Ratios.{den, AtMost}
-use Rattle.scaled_decimal.specs.declared.decimal.Sd.{Sd}
-use Rattle.scaled_decimal.specs.{Lower, Upper, value, IsSd, HasSize, IsNear}
-use Rattle.model_types.specs.declared.period.Period.{Period}
-use Rattle.model_types.specs.{multiplier, one, number_one}
-use Rattle.conductance_bounds.specs.declared.storage.Factors.{Factors}
-use Rattle.conductance_bounds.specs.declared.part.Part.{Part}
-use Rattle.conductance_bounds.specs.declared.head.HeadPair.{HeadPair}
-use Rattle.conductance_bounds.specs.Terms.{Term, bound}
-use Rattle.conductance_bounds.specs.Terms.Term.{Quotient, Number, Sum, Product}
-use Rattle.conductance_bounds.specs.Pairs.{pair, head_pair}
+use Rattle.decimal_input.specs.{declared.dec.Dec.Dec, size, Ratio, ratio, Ratios.den, Ratios.AtMost}
+use Rattle.scaled_decimal.specs.{declared.decimal.Sd.Sd, Lower, Upper, value, IsSd, HasSize, IsNear}
+use Rattle.model_types.specs.{declared.period.Period.Period, multiplier, one, number_one}
+use Rattle.conductance_bounds.specs.{declared.storage.Factors.Factors, declared.part.Part.Part, declared.head.HeadPair.HeadPair, Terms.Term, Terms.bound}
+use Rattle.conductance_bounds.specs.{Terms.Term.Quotient, Terms.Term.Number, Terms.Term.Sum, Terms.Term.Product, Pairs.pair, Pairs.head_pair}
 
 -- The factors of growing time steps. With T for TSMULT the steps of a period have the lengths 1, T, T ^ 2, .. in units of the first one.
 -- 1 + t + .. + t ^ n, by Horner's rule

@@ -1,9 +1,7 @@
 -- A formula is data: what is added, multiplied and divided in which order. The exact value and both rounded bounds are defined from the same formula.
 use Rattle.std.specs.Prelude.{◌<◌}
-use Rattle.decimal_input.specs.{Ratio, over}
-use Rattle.decimal_input.specs.Ratios.{plus, times, AtMost}
-use Rattle.scaled_decimal.specs.declared.decimal.Sd.{Sd}
-use Rattle.scaled_decimal.specs.{Side, Lower, Upper, value, rounded_decimal}
+use Rattle.decimal_input.specs.{Ratio, over, Ratios.plus, Ratios.times, Ratios.AtMost}
+use Rattle.scaled_decimal.specs.{declared.decimal.Sd.Sd, Side, Lower, Upper, value, rounded_decimal}
 
 -- exact numbers, numbers that are known to lie between two decimals, and operations on them
 pub data Term : Type 0 where

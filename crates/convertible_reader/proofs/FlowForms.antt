@@ -1,13 +1,10 @@
 -- What a file of the layer-property flow package with convertible layers gives.
-use Rattle.convertible_reader.proofs.Common.{All, AreLayersOf, Bool, FileSet, FlowModel, GivesOnly, Grid, HasFlow, IsDec, LayerSettings, Left, List, Ok}
-use Rattle.convertible_reader.proofs.Common.{SameBut, [], arith, beginning, cond, contents_of, convertible_lpf_of, counted_gives, false, goes_on, if◌then◌else◌}
-use Rattle.convertible_reader.proofs.Common.{is_transient, layer_at, layer_or, layer_properties, layer_size, layers_of, laytyp_at, laytyp_list, left_from}
-use Rattle.convertible_reader.proofs.Common.{length, no_number, nth_layer, ok_gives_only, option_line, refl, settings_of, then_, true, without_comments}
-use Rattle.convertible_reader.proofs.Common.{yield_layer, zero_list, ℕ, ◌*◌, ◌+◌, ◌≡◌, int_at, is_nonzero, dec_at_is, no_number_is, gives_only_less}
-use Rattle.convertible_reader.proofs.Common.{repeated_are, All-nil}
+use Rattle.convertible_reader.proofs.Common.{All, AreLayersOf, Bool, FileSet, FlowModel, GivesOnly, Grid, HasFlow, IsDec, LayerSettings, Left, List, Ok, SameBut, [], arith, beginning, cond}
+use Rattle.convertible_reader.proofs.Common.{contents_of, convertible_lpf_of, counted_gives, false, goes_on, if◌then◌else◌, is_transient, layer_at, layer_or, layer_properties, layer_size, layers_of}
+use Rattle.convertible_reader.proofs.Common.{laytyp_at, laytyp_list, left_from, length, no_number, nth_layer, ok_gives_only, option_line, refl, settings_of, then_, true, without_comments, yield_layer}
+use Rattle.convertible_reader.proofs.Common.{zero_list, ℕ, ◌*◌, ◌+◌, ◌≡◌, int_at, is_nonzero, dec_at_is, no_number_is, gives_only_less, repeated_are, All-nil}
 use Rattle.convertible_reader.specs.declared.layers.YieldProperties.{YieldProperties}
-use Rattle.array_text.proofs.ArrayForms.{list_files_have_form}
-use Rattle.array_text.proofs.LayerForms.{layer_or_is, one_more}
+use Rattle.array_text.proofs.{ArrayForms.list_files_have_form, LayerForms.layer_or_is, LayerForms.one_more}
 use Rattle.array_text.specs.{IsShort}
 use Rattle.lpf_package.proofs.LpfForms.{AreProperties, IsLayer, cells_stored, has_flow, joined_are, no_properties, properties_are}
 use Rattle.lpf_package.specs.declared.layer.Layer.{Layer}

@@ -1,9 +1,7 @@
 -- What a reading did to its folder, where another value or fault is returned.
 use Rattle.convertible_reader.proofs.Common.{Err, Ok, ReadsOn, input_fault}
-use Rattle.outside.specs.declared.inputs.InputFault.{InputFault}
-use Rattle.outside.specs.declared.inputs.InputFault.TheVariants.{Memory, ReadFault, Refused}
-use Rattle.outside.specs.declared.inputs.TextFault.{TextFault}
-use Rattle.outside.specs.declared.traits.Folder.{Ghosts as FolderOf}
+use Rattle.outside.specs.{declared.inputs.InputFault.InputFault, declared.inputs.InputFault.TheVariants.Memory, declared.inputs.InputFault.TheVariants.ReadFault}
+use Rattle.outside.specs.{declared.inputs.InputFault.TheVariants.Refused, declared.inputs.TextFault.TextFault, declared.traits.Folder.Ghosts as FolderOf}
 use Rattle.outside.specs.declared.inputs.TextFault.TheVariants as texts
 
 module _ {S T U : Type 0} {F : FolderOf S} {old new : S} where

@@ -1,7 +1,7 @@
 -- The items before the layers' arrays leave lines that they were given.
-use Rattle.convertible_reader.proofs.Common.{All, Bool, GivesOnly, LayerSettings, Left, LineMay, LinesMay, List, Numbered, Ok, Taking, beginning}
-use Rattle.convertible_reader.proofs.Common.{changes_vertical, goes_on, if_clear, int_lt, integer, laytyp_at, laytyp_list, number, number_at, ok_gives_only}
-use Rattle.convertible_reader.proofs.Common.{option_line, pos, settings_of, then_, words, ℕ, ◌&&◌, ◌||◌, ◌≡◌, line_held, rest_has_its_lines, repeated_held}
+use Rattle.convertible_reader.proofs.Common.{All, Bool, GivesOnly, LayerSettings, Left, LineMay, LinesMay, List, Numbered, Ok, Taking, beginning, changes_vertical, goes_on, if_clear, int_lt, integer}
+use Rattle.convertible_reader.proofs.Common.{laytyp_at, laytyp_list, number, number_at, ok_gives_only, option_line, pos, settings_of, then_, words, ℕ, ◌&&◌, ◌||◌, ◌≡◌, line_held, rest_has_its_lines}
+use Rattle.convertible_reader.proofs.Common.{repeated_held}
 use Rattle.convertible_reader.specs.declared.settings.Options.{Options}
 use Rattle.array_reader.proofs.Forward.{list_held, value_at_held, zeros_held}
 

@@ -1,16 +1,12 @@
 -- A model with convertible layers that is read is valid, and so is the one with SY for its storage coefficient.
-use Rattle.convertible_reader.proofs.Common.{AreLayersOf, ConvertibleLayers, FileSet, FlowModel, GivesOnly, HasFlow, IsModel, List, Ok, SameBut, ap, cell_count}
-use Rattle.convertible_reader.proofs.Common.{convertible_lpf_in, convertible_lpf_of, convertible_model_of, dec_at, false, file_at, goes_on, is_active, length}
-use Rattle.convertible_reader.proofs.Common.{ok_gives_only, refl, subst, sym, then_, true, with_yield, yields_tested, ℕ, ◌<◌, ◌>>=◌, ◌∙◌, ◌≡◌, check_result}
-use Rattle.convertible_reader.proofs.FlowForms.{lpf_is}
-use Rattle.convertible_reader.proofs.YieldForms.{yield_model_is, yields_passed}
-use Rattle.model_reader.proofs.ModelLimits.{model_valid}
-use Rattle.model_reader.proofs.ReadForms.{IsRead, basic_is, begun_is, stressed_is}
-use Rattle.model_reader.proofs.StageForms.{IsStressed}
+use Rattle.convertible_reader.proofs.Common.{AreLayersOf, ConvertibleLayers, FileSet, FlowModel, GivesOnly, HasFlow, IsModel, List, Ok, SameBut, ap, cell_count, convertible_lpf_in, convertible_lpf_of}
+use Rattle.convertible_reader.proofs.Common.{convertible_model_of, dec_at, false, file_at, goes_on, is_active, length, ok_gives_only, refl, subst, sym, then_, true, with_yield, yields_tested, ℕ, ◌<◌}
+use Rattle.convertible_reader.proofs.Common.{◌>>=◌, ◌∙◌, ◌≡◌, check_result}
+use Rattle.convertible_reader.proofs.{FlowForms.lpf_is, YieldForms.yield_model_is, YieldForms.yields_passed}
+use Rattle.model_reader.proofs.{ModelLimits.model_valid, ReadForms.IsRead, ReadForms.basic_is, ReadForms.begun_is, ReadForms.stressed_is, StageForms.IsStressed}
 use Rattle.model_reader.specs.{needed_file}
 use Rattle.model_types.specs.declared.limits.Limits.{Limits}
-use Rattle.name_file.specs.Pairs.{Pairs}
-use Rattle.name_file.specs.declared.package.Package.TheVariants.{Bas, Dis, Lpf}
+use Rattle.name_file.specs.{Pairs.Pairs, declared.package.Package.TheVariants.Bas, declared.package.Package.TheVariants.Dis, declared.package.Package.TheVariants.Lpf}
 use Rattle.number_limits.specs.declared.passing.Check.TheVariants.{Properties}
 
 -- the file and its reading, and then the tests

@@ -1,7 +1,7 @@
 -- Where no cell was refused for its SY, none is below 0, and the model with SY for its storage coefficient is valid.
-use Rattle.convertible_reader.proofs.Common.{All, Bool, ConvertibleLayers, FlowModel, Grid, IsDec, IsModel, List, Ok, arith, cell_count, dec_at, false, inl}
-use Rattle.convertible_reader.proofs.Common.{inr, if◌then◌else◌, is_active, length, refl, true, with_yield, yield_step, yields_tested, ℕ, ◌&&◌, ◌<◌, ◌∙◌, ◌≡◌}
-use Rattle.convertible_reader.proofs.Common.{IsCellValid, at_cell, dec_at_is, each_step, None, Some, ◌⊎◌, IsBedChecked, IsPeriod, All-weaker}
+use Rattle.convertible_reader.proofs.Common.{All, Bool, ConvertibleLayers, FlowModel, Grid, IsDec, IsModel, List, Ok, arith, cell_count, dec_at, false, inl, inr, if◌then◌else◌, is_active, length}
+use Rattle.convertible_reader.proofs.Common.{refl, true, with_yield, yield_step, yields_tested, ℕ, ◌&&◌, ◌<◌, ◌∙◌, ◌≡◌, IsCellValid, at_cell, dec_at_is, each_step, None, Some, ◌⊎◌, IsBedChecked}
+use Rattle.convertible_reader.proofs.Common.{IsPeriod, All-weaker}
 use Rattle.outside.specs.declared.codes.Code.TheVariants.{BadProperty}
 use Rattle.model_types.specs.declared.period.Period.{Period}
 

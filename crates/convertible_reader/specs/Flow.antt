@@ -1,23 +1,16 @@
 -- A file of the layer-property flow package with convertible layers, item by item (TM 6-A16, LPF).
 use Rattle.std.specs.Prelude.{◌≡◌, ℕ, ℤ, pos, List, [], ◌++◌, Bool, false, ◌&&◌, ◌||◌, Result, Ok, Err, int_lt, if◌then◌else◌, codes, cond, length, All}
 use Rattle.std.specs.List.{list_any}
-use Rattle.decimal_input.specs.declared.dec.Dec.{Dec}
-use Rattle.decimal_input.specs.{IsDec}
-use Rattle.outside.specs.{FileSet, refusal, words}
-use Rattle.outside.specs.declared.inputs.Refusal.{Refusal}
-use Rattle.outside.specs.declared.codes.Code.TheVariants.{OutOfProfile}
+use Rattle.decimal_input.specs.{declared.dec.Dec.Dec, IsDec}
+use Rattle.outside.specs.{FileSet, refusal, words, declared.inputs.Refusal.Refusal, declared.codes.Code.TheVariants.OutOfProfile}
 use Rattle.record_lines.specs.{◌>>=◌, Left, Taking, beginning, each_number, is_word, left_from, line_at, repeated_reading, without_comments}
 use Rattle.array_reader.specs.{free_list, integer, layer_or, number, number_at, value_at, zero_list}
-use Rattle.model_types.specs.declared.grid.Grid.{Grid}
-use Rattle.model_types.specs.declared.model.FlowModel.{FlowModel}
-use Rattle.model_types.specs.{cell_count, int_at, is_nonzero, no_number}
-use Rattle.lpf_package.specs.declared.layer.Layer.{Layer}
-use Rattle.lpf_package.specs.declared.model.Contents.{Contents}
-use Rattle.lpf_package.specs.{is_transient, joined_properties, nth_layer, properties_of, with_contents}
+use Rattle.model_types.specs.{declared.grid.Grid.Grid, declared.model.FlowModel.FlowModel, cell_count, int_at, is_nonzero, no_number}
+use Rattle.lpf_package.specs.{declared.layer.Layer.Layer, declared.model.Contents.Contents, is_transient, joined_properties, nth_layer, properties_of}
+use Rattle.lpf_package.specs.{with_contents}
 use Rattle.water_table.specs.declared.convertible_layers.ConvertibleLayers.{ConvertibleLayers}
-use Rattle.convertible_reader.specs.declared.settings.Options.{Options}
-use Rattle.convertible_reader.specs.declared.settings.LayerSettings.{LayerSettings}
-use Rattle.convertible_reader.specs.declared.layers.YieldProperties.{YieldProperties}
+use Rattle.convertible_reader.specs.{declared.settings.Options.Options, declared.settings.LayerSettings.LayerSettings}
+use Rattle.convertible_reader.specs.{declared.layers.YieldProperties.YieldProperties}
 
 -- The items before the layers' arrays (TM 6-A16, LPF, items 1 to 7).
 -- whether a line has this word, in any letter case

@@ -1,18 +1,14 @@
 -- A model with convertible layers from its files, in reading order: as a confined model, with the other reading of LPF.
 use Rattle.std.specs.Prelude.{ℕ, List, Result, Ok}
-use Rattle.outside.specs.{FileSet, file_at}
-use Rattle.outside.specs.declared.inputs.Refusal.{Refusal}
+use Rattle.outside.specs.{FileSet, file_at, declared.inputs.Refusal.Refusal}
 use Rattle.record_lines.specs.{◌>>=◌}
 use Rattle.name_file.specs.Pairs.{Pairs}
 use Rattle.name_file.specs.declared.package.Package.TheVariants.{Bas, Dis, Lpf}
-use Rattle.model_types.specs.declared.limits.Limits.{Limits}
-use Rattle.model_types.specs.declared.model.FlowModel.{FlowModel}
-use Rattle.number_limits.specs.{check_result}
-use Rattle.number_limits.specs.declared.passing.Check.TheVariants.{Properties}
+use Rattle.model_types.specs.{declared.limits.Limits.Limits, declared.model.FlowModel.FlowModel}
+use Rattle.number_limits.specs.{check_result, declared.passing.Check.TheVariants.Properties}
 use Rattle.model_reader.specs.{bas_in, dis_in, names_in, needed_file, stresses, with_stresses}
 use Rattle.water_table.specs.declared.convertible_layers.ConvertibleLayers.{ConvertibleLayers}
-use Rattle.convertible_reader.specs.Flow.{convertible_lpf_of}
-use Rattle.convertible_reader.specs.Yields.{yields_tested}
+use Rattle.convertible_reader.specs.{Flow.convertible_lpf_of, Yields.yields_tested}
 
 -- LPF; then the properties of cells are tested, and then SY
 unfoldable pub convertible_lpf_in : FileSet → List ℕ → FlowModel → Result (FlowModel × ConvertibleLayers) Refusal

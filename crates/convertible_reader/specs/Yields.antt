@@ -1,10 +1,8 @@
 -- The test of SY over the cells of a model.
 use Rattle.std.specs.Prelude.{ℕ, List, Bool, ◌&&◌, Result, Option, Some, None, if◌then◌else◌}
-use Rattle.outside.specs.declared.codes.Code.TheVariants.{BadProperty}
-use Rattle.outside.specs.declared.inputs.Refusal.{Refusal}
+use Rattle.outside.specs.{declared.codes.Code.TheVariants.BadProperty, declared.inputs.Refusal.Refusal}
 use Rattle.record_lines.specs.{each_number}
-use Rattle.model_types.specs.declared.model.FlowModel.{FlowModel}
-use Rattle.model_types.specs.{cell_count, dec_at, is_active}
+use Rattle.model_types.specs.{declared.model.FlowModel.FlowModel, cell_count, dec_at, is_active}
 use Rattle.number_limits.specs.{at_cell}
 use Rattle.water_table.specs.declared.convertible_layers.ConvertibleLayers.{ConvertibleLayers}
 

@@ -1,5 +1,5 @@
-use Rattle.decimal_input.proofs.Common.{◌≡◌, ℕ, ◌<◌, ◌^◌, arith, ℤ, pos, neg_ℤ, ◌*ℤ◌, ◌+ℤ◌, ◌≤ℤ◌, ◌<ℤ◌, ap, ◌∙◌, sym, suc, ◌*◌, ints, by_lt_z, Fraction}
-use Rattle.decimal_input.proofs.Common.{IsSignedFloor, IsSignedCeiling, EnclosesSigned, opposite, IsOver, IsBetweenSigned, mul-le-mul_right, le_out}
+use Rattle.decimal_input.proofs.Common.{◌≡◌, ℕ, ◌<◌, ◌^◌, arith, ℤ, pos, neg_ℤ, ◌*ℤ◌, ◌+ℤ◌, ◌≤ℤ◌, ◌<ℤ◌, ap, ◌∙◌, sym, suc, ◌*◌, ints, by_lt_z, Fraction, IsSignedFloor, IsSignedCeiling, EnclosesSigned}
+use Rattle.decimal_input.proofs.Common.{opposite, IsOver, IsBetweenSigned, mul-le-mul_right, le_out}
 use Rattle.decimal_input.specs.Fractions.{den, AtMost, Same}
 use Rattle.decimal_input.proofs.Differences.{diffs, as_diff, same_diff}
 

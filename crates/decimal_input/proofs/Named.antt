@@ -1,7 +1,6 @@
-use Rattle.decimal_input.proofs.Common.{nat_le, ◌≡◌, ℕ, suc, ◌+◌, ◌-◌, ◌*◌, ◌<◌, ◌≤◌, ◌^◌, inl, inr, refl, ap, sym, subst, ◌∙◌, arith, Bool, true, false, List}
-use Rattle.decimal_input.proofs.Common.{[], ◌∷◌, length, get_or, min, Option, Some, None, Result, Err, ℤ, pos, neg_ℤ, ◌+ℤ◌, ◌-ℤ◌, ints, cases_lt, le-leb}
-use Rattle.decimal_input.proofs.Common.{nat_tests, pow-add, mul-le-mul_left, mul-le-mul_right, pow-suc, Dec, NumFault, BadNumber, is_negative, without_sign}
-use Rattle.decimal_input.proofs.Common.{digits_of, after_digits, digits_after_point, behind_part, exponent_of, spelling, spelling_of, is_digit, number_from}
+use Rattle.decimal_input.proofs.Common.{nat_le, ◌≡◌, ℕ, suc, ◌+◌, ◌-◌, ◌*◌, ◌<◌, ◌≤◌, ◌^◌, inl, inr, refl, ap, sym, subst, ◌∙◌, arith, Bool, true, false, List, [], ◌∷◌, length, get_or, min, Option}
+use Rattle.decimal_input.proofs.Common.{Some, None, Result, Err, ℤ, pos, neg_ℤ, ◌+ℤ◌, ◌-ℤ◌, ints, cases_lt, le-leb, nat_tests, pow-add, mul-le-mul_left, mul-le-mul_right, pow-suc, Dec, NumFault}
+use Rattle.decimal_input.proofs.Common.{BadNumber, is_negative, without_sign, digits_of, after_digits, digits_after_point, behind_part, exponent_of, spelling, spelling_of, is_digit, number_from}
 use Rattle.decimal_input.proofs.Common.{Spelling, with_sign, IsCap, IsCapped, IsOf, IsTrimmed, IsTested, IsCanonical}
 use Rattle.decimal_input.proofs.Powers.{ten_pos}
 

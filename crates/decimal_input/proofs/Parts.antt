@@ -1,12 +1,10 @@
-use Rattle.decimal_input.proofs.Common.{◌≡◌, ℕ, ◌≤◌, inl, inr, ◌==◌, List, [], ◌∷◌, ◌++◌, length, take, drop, Bool, true, false, arith, refl, ap, ◌∙◌, ℤ, Some}
-use Rattle.decimal_input.proofs.Common.{◌<◌, get_or, sym, ◌+◌, ◌&&◌, ◌-ℤ◌, nat_le, pos, Option, None, eq-eqb, le-leb, cases_Bool, eqb-true, leb-true, and_parts}
-use Rattle.decimal_input.proofs.Common.{nat_tests, with_sign, is_digit, is_mark, number_from, AreDigits, IsSign, IsPart, IsExponent, is_sign, is_negative}
-use Rattle.decimal_input.proofs.Common.{without_sign, digits_of, after_digits, digits_after_point, behind_part, whole_number, exponent_of, Spelling, spelling}
+use Rattle.decimal_input.proofs.Common.{◌≡◌, ℕ, ◌≤◌, inl, inr, ◌==◌, List, [], ◌∷◌, ◌++◌, length, take, drop, Bool, true, false, arith, refl, ap, ◌∙◌, ℤ, Some, ◌<◌, get_or, sym, ◌+◌, ◌&&◌, ◌-ℤ◌}
+use Rattle.decimal_input.proofs.Common.{nat_le, pos, Option, None, eq-eqb, le-leb, cases_Bool, eqb-true, leb-true, and_parts, nat_tests, with_sign, is_digit, is_mark, number_from, AreDigits, IsSign}
+use Rattle.decimal_input.proofs.Common.{IsPart, IsExponent, is_sign, is_negative, without_sign, digits_of, after_digits, digits_after_point, behind_part, whole_number, exponent_of, Spelling, spelling}
 use Rattle.decimal_input.proofs.Common.{take-append-drop, get_or-take}
 use Rattle.std.specs.List.{prefix_len}
-use Rattle.std.proofs.lemmas.List.Folds.{prefix_len-append, length-prefix_len}
-use Rattle.std.proofs.Math.Seq.{take-append_seam, drop-append_seam}
-use Rattle.std.proofs.lemmas.List.Sums.{prefix_len_is, prefix_len_passes}
+use Rattle.std.proofs.{lemmas.List.Folds.prefix_len-append, lemmas.List.Folds.length-prefix_len, Math.Seq.take-append_seam, Math.Seq.drop-append_seam, lemmas.List.Sums.prefix_len_is}
+use Rattle.std.proofs.{lemmas.List.Sums.prefix_len_passes}
 
 -- n digits at the front, and no digit behind them
 pub front_is : (xs : List ℕ) (n : ℕ) → n ≤ length xs → ((k : ℕ) → k < n → is_digit (get_or xs k 0) ≡ true) → (n < length xs → is_digit (get_or xs n 0) ≡ false) → prefix_len is_digit xs ≡ n

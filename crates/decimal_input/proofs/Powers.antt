@@ -1,6 +1,5 @@
-use Rattle.decimal_input.proofs.Common.{◌≡◌, ℕ, zero, suc, ◌+◌, ◌*◌, ◌≤◌, ◌<◌, ◌-◌, ◌^◌, arith, ℤ, pos, negsuc, ◌+ℤ◌, ap, subst, refl, inl, inr, sym, ◌∙◌, true}
-use Rattle.decimal_input.proofs.Common.{false, add-one, Bool, Ok, neg_ℤ, ◌≤ℤ◌, mul-le-mul_left, mul-le-mul_right, pow-suc, pow-add, ints, ratio, up, down}
-use Rattle.decimal_input.proofs.Common.{scaled_ratio, IsOf, IsTrimmed, IsDec, IsCanonical, times, AtMost, Same}
+use Rattle.decimal_input.proofs.Common.{◌≡◌, ℕ, zero, suc, ◌+◌, ◌*◌, ◌≤◌, ◌<◌, ◌-◌, ◌^◌, arith, ℤ, pos, negsuc, ◌+ℤ◌, ap, subst, refl, inl, inr, sym, ◌∙◌, true, false, add-one, Bool, Ok, neg_ℤ, ◌≤ℤ◌}
+use Rattle.decimal_input.proofs.Common.{mul-le-mul_left, mul-le-mul_right, pow-suc, pow-add, ints, ratio, up, down, scaled_ratio, IsOf, IsTrimmed, IsDec, IsCanonical, times, AtMost, Same}
 use Rattle.decimal_input.proofs.Orders.{num_times, den_times}
 use Rattle.decimal_input.specs.declared.coefficient.Coefficient.{Coefficient}
 

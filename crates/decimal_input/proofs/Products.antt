@@ -1,13 +1,9 @@
-use Rattle.decimal_input.proofs.Common.{◌≡◌, ℕ, suc, ◌+◌, ◌*◌, arith, refl, sym, ap, ◌∙◌, Bool, true, false, ℤ, pos, neg_ℤ, ◌*ℤ◌, ◌+ℤ◌, Result, Ok, Err, IfOk}
-use Rattle.decimal_input.proofs.Common.{List, length, inl, inr, ◌^◌, subst, ints, by_lt_z, cases_lt, Dec, NumFault, Fraction, scaled_ratio, with_sign, decimal}
-use Rattle.decimal_input.proofs.Common.{number, Spelling, Spells, IsCanonical, Names, differ, Ratio, Same}
+use Rattle.decimal_input.proofs.Common.{◌≡◌, ℕ, suc, ◌+◌, ◌*◌, arith, refl, sym, ap, ◌∙◌, Bool, true, false, ℤ, pos, neg_ℤ, ◌*ℤ◌, ◌+ℤ◌, Result, Ok, Err, IfOk, List, length, inl, inr, ◌^◌, subst, ints}
+use Rattle.decimal_input.proofs.Common.{by_lt_z, cases_lt, Dec, NumFault, Fraction, scaled_ratio, with_sign, decimal, number, Spelling, Spells, IsCanonical, Names, differ, Ratio, Same}
 use Rattle.std.proofs.Math.IntN.{*ℤ_comm}
 use Rattle.decimal_input.specs.Fractions.{times as times_signed, Same as SameSigned}
-use Rattle.decimal_input.proofs.Orders.{num_times, den_times}
-use Rattle.decimal_input.proofs.Powers.{scaled_times, scaled_shift}
-use Rattle.decimal_input.proofs.FloorLaws.{neg_times, Same-trans, Same-sym}
-use Rattle.decimal_input.proofs.SignedFloors.{sign_times}
-use Rattle.decimal_input.proofs.WholeUnits.{num_nothing}
+use Rattle.decimal_input.proofs.{Orders.num_times, Orders.den_times, Powers.scaled_times, Powers.scaled_shift, FloorLaws.neg_times, FloorLaws.Same-trans, FloorLaws.Same-sym, SignedFloors.sign_times}
+use Rattle.decimal_input.proofs.{WholeUnits.num_nothing}
 
 -- equal magnitudes with one sign
 pub same_signed : (neg : Bool) (f g : Ratio) → Same f g → SameSigned (record { num = with_sign neg f.num; less = f.less }) (record { num = with_sign neg g.num; less = g.less })

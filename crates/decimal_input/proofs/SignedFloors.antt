@@ -1,13 +1,10 @@
-use Rattle.decimal_input.proofs.Common.{◌≡◌, ℕ, zero, suc, ◌+◌, ◌-◌, ◌*◌, ◌≤◌, ◌<◌, ◌^◌, arith, inl, inr, ap, ◌∙◌, Bool, true, false, ℤ, pos, neg_ℤ, ◌+ℤ◌, ◌*ℤ◌}
-use Rattle.decimal_input.proofs.Common.{◌≤ℤ◌, ◌<ℤ◌, ◌/◌, Option, Some, None, IfNone, refl, sym, subst, ints, cases_lt, Dec, with_sign, size, number, IsFloor}
-use Rattle.decimal_input.proofs.Common.{IsCeiling, IsSignedFloor, IsSignedCeiling, Ratio, scaled_ratio, IsFloorPast, IsCeilingPast, lt-mul-div-succ}
-use Rattle.decimal_input.proofs.Common.{div-mul-le_self, div-lt_iff_lt-mul, IsUnits, Fraction, IfSome, not, den, differ, nat_le, floor, ceiling, signed_units}
-use Rattle.decimal_input.proofs.Common.{small, FitsSigned, w128, units_of, lt-ltb, leb_tells, le-div_iff_mul-le}
+use Rattle.decimal_input.proofs.Common.{◌≡◌, ℕ, zero, suc, ◌+◌, ◌-◌, ◌*◌, ◌≤◌, ◌<◌, ◌^◌, arith, inl, inr, ap, ◌∙◌, Bool, true, false, ℤ, pos, neg_ℤ, ◌+ℤ◌, ◌*ℤ◌, ◌≤ℤ◌, ◌<ℤ◌, ◌/◌, Option, Some, None}
+use Rattle.decimal_input.proofs.Common.{IfNone, refl, sym, subst, ints, cases_lt, Dec, with_sign, size, number, IsFloor, IsCeiling, IsSignedFloor, IsSignedCeiling, Ratio, scaled_ratio, IsFloorPast}
+use Rattle.decimal_input.proofs.Common.{IsCeilingPast, lt-mul-div-succ, div-mul-le_self, div-lt_iff_lt-mul, IsUnits, Fraction, IfSome, not, den, differ, nat_le, floor, ceiling, signed_units, small}
+use Rattle.decimal_input.proofs.Common.{FitsSigned, w128, units_of, lt-ltb, leb_tells, le-div_iff_mul-le}
 use Rattle.std.specs.Prelude.{unsigned_abs}
-use Rattle.std.specs.Option.{option_map}
-use Rattle.std.specs.Bool.{beq}
-use Rattle.decimal_input.proofs.FloorLaws.{add_times, one_times, neg_times}
-use Rattle.decimal_input.proofs.Cross.{lt_cancel}
+use Rattle.std.specs.{Option.option_map, Bool.beq}
+use Rattle.decimal_input.proofs.{FloorLaws.add_times, FloorLaws.one_times, FloorLaws.neg_times, Cross.lt_cancel}
 
 pub signs_differ : (x y : Bool) → not (beq x y) ≡ differ x y
 signs_differ true true = refl

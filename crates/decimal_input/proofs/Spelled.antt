@@ -1,10 +1,8 @@
-use Rattle.decimal_input.proofs.Common.{◌≡◌, ℕ, ◌+◌, ◌-◌, ◌*◌, ◌≤◌, ◌<◌, inl, inr, ◌↔◌, List, [], ◌∷◌, ◌++◌, length, Bool, false, nat_le, arith, refl, sym, ap}
-use Rattle.decimal_input.proofs.Common.{subst, ◌∙◌, ℤ, pos, ◌-ℤ◌, Option, Some, None, Result, Err, le-leb, lt-leb, leb-true, cases_Bool, Dec, NumFault}
-use Rattle.decimal_input.proofs.Common.{BadNumber, number_from, AreDigits, IsSign, IsPart, IsInteger, Spelling, Spells, is_negative, without_sign, digits_of}
-use Rattle.decimal_input.proofs.Common.{after_digits, digits_after_point, behind_part, exponent_of, integer_of, spelling, spelling_of, IsCapped, Names}
-use Rattle.decimal_input.proofs.Named.{IsNumber, spelling_is_of_parts}
-use Rattle.decimal_input.proofs.Parts.{HasNoSign, digit_first, digits_front, behind_front, sign_read, part_read, exponent_read, whole_read, sign_cut}
-use Rattle.decimal_input.proofs.Parts.{front_digits, front_cut, part_cut, exponent_cut, spelling_cut, whole_cut}
+use Rattle.decimal_input.proofs.Common.{◌≡◌, ℕ, ◌+◌, ◌-◌, ◌*◌, ◌≤◌, ◌<◌, inl, inr, ◌↔◌, List, [], ◌∷◌, ◌++◌, length, Bool, false, nat_le, arith, refl, sym, ap, subst, ◌∙◌, ℤ, pos, ◌-ℤ◌, Option, Some}
+use Rattle.decimal_input.proofs.Common.{None, Result, Err, le-leb, lt-leb, leb-true, cases_Bool, Dec, NumFault, BadNumber, number_from, AreDigits, IsSign, IsPart, IsInteger, Spelling, Spells}
+use Rattle.decimal_input.proofs.Common.{is_negative, without_sign, digits_of, after_digits, digits_after_point, behind_part, exponent_of, integer_of, spelling, spelling_of, IsCapped, Names}
+use Rattle.decimal_input.proofs.{Named.IsNumber, Named.spelling_is_of_parts, Parts.HasNoSign, Parts.digit_first, Parts.digits_front, Parts.behind_front, Parts.sign_read, Parts.part_read}
+use Rattle.decimal_input.proofs.{Parts.exponent_read, Parts.whole_read, Parts.sign_cut, Parts.front_digits, Parts.front_cut, Parts.part_cut, Parts.exponent_cut, Parts.spelling_cut, Parts.whole_cut}
 
 pub number_append : (c : ℕ) (xs ys : List ℕ) → number_from c (xs ++ ys) ≡ number_from (number_from c xs) ys
 number_append c [] ys = refl

@@ -1,11 +1,8 @@
-use Rattle.decimal_input.proofs.Common.{◌≡◌, ℕ, suc, ◌+◌, ◌-◌, ◌*◌, ◌%◌, ◌≤◌, ◌<◌, ◌^◌, inl, inr, arith, refl, sym, ap, subst, ◌∙◌, Bool, List, length, ℤ, pos}
-use Rattle.decimal_input.proofs.Common.{◌+ℤ◌, Option, Some, None, Result, ◌⊎◌, true, false, by_lt_z, ints, pow-add, cases_lt, mul-le-mul, pow-suc, Dec}
-use Rattle.decimal_input.proofs.Common.{NumFault, IsTrimmed, Spelling, Spells, spelling_of, IsTested, IsCanonical, Names, up, down, with_sign, number, IsDec}
-use Rattle.decimal_input.proofs.Common.{eq_of_mul-eq-mul_right}
-use Rattle.decimal_input.proofs.Powers.{ten_pos, cross_of, up_down}
-use Rattle.decimal_input.proofs.Spelled.{reads_spelt, spells_read}
+use Rattle.decimal_input.proofs.Common.{◌≡◌, ℕ, suc, ◌+◌, ◌-◌, ◌*◌, ◌%◌, ◌≤◌, ◌<◌, ◌^◌, inl, inr, arith, refl, sym, ap, subst, ◌∙◌, Bool, List, length, ℤ, pos, ◌+ℤ◌, Option, Some, None, Result, ◌⊎◌}
+use Rattle.decimal_input.proofs.Common.{true, false, by_lt_z, ints, pow-add, cases_lt, mul-le-mul, pow-suc, Dec, NumFault, IsTrimmed, Spelling, Spells, spelling_of, IsTested, IsCanonical, Names, up}
+use Rattle.decimal_input.proofs.Common.{down, with_sign, number, IsDec, eq_of_mul-eq-mul_right}
+use Rattle.decimal_input.proofs.{Powers.ten_pos, Powers.cross_of, Powers.up_down, Spelled.reads_spelt, Spelled.spells_read, SignedFloors.sign_times}
 use Rattle.decimal_input.specs.Fractions.{Same as SameSigned}
-use Rattle.decimal_input.proofs.SignedFloors.{sign_times}
 
 -- a last digit above 0 leaves no room for a further zero
 ends_once : (d e z j : ℕ) → 0 < d % 10 → d * 10 ^ z ≡ e * 10 ^ (z + suc j) → ⊥

@@ -1,8 +1,7 @@
-use Rattle.decimal_input.proofs.Common.{◌≡◌, ℕ, zero, suc, ◌+◌, ◌*◌, ◌-◌, ◌/◌, ◌≤◌, ◌<◌, ◌^◌, ap, arith, ℤ, pos, ◌+ℤ◌, Option, Some, None, MatchOption, ints}
-use Rattle.decimal_input.proofs.Common.{mul-le-mul, mul-le-mul_right, lt-mul-div-succ, div-mul-le_self, div-lt_iff_lt-mul, Ratio, scaled_ratio, up, down}
-use Rattle.decimal_input.proofs.Common.{IsFloor, IsCeiling, Reaches, Passes, IsUnits, Bool, true, false, min, cases_lt, inl, inr, ◌∙◌}
-use Rattle.decimal_input.proofs.Cross.{lt_right, lt_cancel, le_cancel}
-use Rattle.decimal_input.proofs.Powers.{ten_pos, ten_more, num_scaled, den_scaled, up_down, pow_three}
+use Rattle.decimal_input.proofs.Common.{◌≡◌, ℕ, zero, suc, ◌+◌, ◌*◌, ◌-◌, ◌/◌, ◌≤◌, ◌<◌, ◌^◌, ap, arith, ℤ, pos, ◌+ℤ◌, Option, Some, None, MatchOption, ints, mul-le-mul, mul-le-mul_right}
+use Rattle.decimal_input.proofs.Common.{lt-mul-div-succ, div-mul-le_self, div-lt_iff_lt-mul, Ratio, scaled_ratio, up, down, IsFloor, IsCeiling, Reaches, Passes, IsUnits, Bool, true, false, min}
+use Rattle.decimal_input.proofs.Common.{cases_lt, inl, inr, ◌∙◌}
+use Rattle.decimal_input.proofs.{Cross.lt_right, Cross.lt_cancel, Cross.le_cancel, Powers.ten_pos, Powers.ten_more, Powers.num_scaled, Powers.den_scaled, Powers.up_down, Powers.pow_three}
 
 whole_balance : (e : ℤ) (s k : ℕ) → e +ℤ pos s ≡ pos k → up e + s + 0 ≡ k + down e + 0
 whole_balance e s k h = omega (arith, ints, h, up_down e)

@@ -1,5 +1,4 @@
-use Rattle.decimal_input.proofs.Common.{◌≡◌, ℕ, ◌+◌, ◌-◌, ◌*◌, ◌/◌, ◌%◌, ◌<◌, ◌≤◌, ◌^◌, inl, inr, ap, arith, add-one, cases_lt, pow-add, mul-le-mul_left}
-use Rattle.decimal_input.proofs.Common.{mul-le-mul_right, pow-suc}
+use Rattle.decimal_input.proofs.Common.{◌≡◌, ℕ, ◌+◌, ◌-◌, ◌*◌, ◌/◌, ◌%◌, ◌<◌, ◌≤◌, ◌^◌, inl, inr, ap, arith, add-one, cases_lt, pow-add, mul-le-mul_left, mul-le-mul_right, pow-suc}
 use Rattle.decimal_input.proofs.Powers.{ten_pos}
 
 pub zeros_few : (n rest z : ℕ) → n ≡ rest * 10 ^ z → 0 < rest → n < 2 ^ 128 → z < 39

@@ -1,7 +1,5 @@
 use Rattle.std.specs.Prelude.{ℕ, suc, not, ◌*◌, ◌^◌, Bool, true, false, ℤ, pos, negsuc, neg_ℤ, ◌≡◌, ◌<◌, ◌%◌, ◌⊎◌, ◌≤ℤ◌}
-use Rattle.decimal_input.specs.Ratios.{Ratio, ratio}
-use Rattle.decimal_input.specs.Fractions.{Fraction}
-use Rattle.decimal_input.specs.declared.dec.Dec.{Dec}
+use Rattle.decimal_input.specs.{Ratios.Ratio, Ratios.ratio, Fractions.Fraction, declared.dec.Dec.Dec}
 
 -- The positive part of a number: the power of ten above the line, in 10 ^ e.
 abbrev pub up : ℤ → ℕ

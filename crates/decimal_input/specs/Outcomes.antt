@@ -1,14 +1,10 @@
 use Rattle.std.specs.Prelude.{◌≡◌, ℕ, ◌*◌, ◌<◌, ◌≤◌, ◌^◌, ◌%◌, ◌⊎◌, not, List, length, Bool, true, false, Result, Ok, Err, ℤ, pos, neg_ℤ, ◌+ℤ◌, ◌≤ℤ◌, ◌<ℤ◌, min}
 use Rattle.std.specs.Prelude.{Option, Some, None, ◌*ℤ◌}
-use Rattle.decimal_input.specs.declared.dec.Dec.{Dec}
-use Rattle.decimal_input.specs.declared.dec.NumFault.{NumFault}
-use Rattle.decimal_input.specs.declared.dec.NumFault.TheVariants.{BadNumber, TooManyDigits}
-use Rattle.decimal_input.specs.Grammar.{Spelling, Spells}
-use Rattle.decimal_input.specs.declared.coefficient.Coefficient.{Coefficient}
-use Rattle.decimal_input.specs.Decimals.{with_sign, IsDec, number}
-use Rattle.decimal_input.specs.Ratios.{Ratio, plus, times, over, AtMost as RatioAtMost}
-use Rattle.decimal_input.specs.Fractions.{Fraction, AtMost, Same, IsOver}
-use Rattle.decimal_input.specs.Wholes.{EnclosesSigned, IsBetweenSigned, IsSignedCeiling, IsSignedFloor}
+use Rattle.decimal_input.specs.{declared.dec.Dec.Dec, declared.dec.NumFault.NumFault, declared.dec.NumFault.TheVariants.BadNumber}
+use Rattle.decimal_input.specs.{declared.dec.NumFault.TheVariants.TooManyDigits, Grammar.Spelling, Grammar.Spells, declared.coefficient.Coefficient.Coefficient}
+use Rattle.decimal_input.specs.{Decimals.with_sign, Decimals.IsDec, Decimals.number, Ratios.Ratio, Ratios.plus, Ratios.times, Ratios.over}
+use Rattle.decimal_input.specs.{Ratios.AtMost as RatioAtMost, Fractions.Fraction, Fractions.AtMost, Fractions.Same, Fractions.IsOver, Wholes.EnclosesSigned}
+use Rattle.decimal_input.specs.{Wholes.IsBetweenSigned, Wholes.IsSignedCeiling, Wholes.IsSignedFloor}
 
 -- c is d with z zeros after it, and the last digit of d isn't 0.
 pub record IsTrimmed (c d z : ℕ) : Type 0 where

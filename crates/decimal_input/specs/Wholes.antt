@@ -1,10 +1,8 @@
 use Rattle.std.specs.Prelude.{ℕ, ◌+◌, ◌*◌, ◌-◌, ◌/◌, ◌≤◌, ◌<◌, ◌^◌, ℤ, pos, ◌+ℤ◌, ◌*ℤ◌, ◌≤ℤ◌, ◌<ℤ◌, neg_ℤ, unsigned_abs, ◌≡◌, Bool, true, false, Option, Some}
 use Rattle.std.specs.Prelude.{None, MatchOption, nat_lt, if◌then◌else◌}
 use Rattle.std.specs.Option.{option_map}
-use Rattle.decimal_input.specs.declared.dec.Dec.{Dec}
-use Rattle.decimal_input.specs.Decimals.{with_sign, differ, size}
-use Rattle.decimal_input.specs.Ratios.{Ratio, den}
-use Rattle.decimal_input.specs.Fractions.{Fraction, den as denominator}
+use Rattle.decimal_input.specs.{declared.dec.Dec.Dec, Decimals.with_sign, Decimals.differ, Decimals.size, Ratios.Ratio, Ratios.den, Fractions.Fraction}
+use Rattle.decimal_input.specs.{Fractions.den as denominator}
 
 -- n is the greatest whole number not above f * 10 ^ s
 pub record IsFloor (n : ℕ) (f : Ratio) (s : ℕ) : Type 0 where

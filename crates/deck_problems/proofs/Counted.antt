@@ -1,6 +1,6 @@
 -- A problem of decks has one cell for each variable cell of the first deck.
-use Rattle.deck_problems.proofs.Common.{◌≡◌, ◌∙◌, ℕ, Option, Some, None, List, length, Bound, Entries, FlowModel, TimeStep, variable_cells, IsProblemOf}
-use Rattle.deck_problems.proofs.Common.{hull_count, Decks, IsProblemFor, IsProblemBy, length-map, whole_cell, cells_of, ap, IsModel, IfSome, IsSecond, AreDecks}
+use Rattle.deck_problems.proofs.Common.{◌≡◌, ◌∙◌, ℕ, Option, Some, None, List, length, Bound, Entries, FlowModel, TimeStep, variable_cells, IsProblemOf, hull_count, Decks, IsProblemFor, IsProblemBy}
+use Rattle.deck_problems.proofs.Common.{length-map, whole_cell, cells_of, ap, IsModel, IfSome, IsSecond, AreDecks}
 use Rattle.deck_problems.proofs.OneProblem.{hull_parts}
 
 model_count : (m : FlowModel) (s : ℕ) (at : TimeStep) (old : List Bound) (p : List Entries) → IsProblemOf m s at old p → length p ≡ length (variable_cells m at.period)

@@ -1,8 +1,7 @@
 -- The problem of decks encloses each choice of a step, and the pair of a constant head the chosen head.
-use Rattle.deck_problems.proofs.Common.{◌≡◌, ◌<◌, ◌∙◌, ℕ, ℤ, true, Option, Some, None, List, Contains, refl, sym, subst, IfSome, Bound, IsHead, Entries}
-use Rattle.deck_problems.proofs.Common.{FlowModel, TimeStep, cell_count, constant_head, is_constant, times, IsModel, IsProblemOf, time_of, lower_head}
-use Rattle.deck_problems.proofs.Common.{upper_head, alike_between, hull_of_numbers, IsConstantHull, EnclosesStep, Choice, IsChoiceBetween, IsChoiceOf, IsPairOf}
-use Rattle.deck_problems.proofs.Common.{IsSecond, ProblemEncloses, ConstantPairIsOne, ConstantPairFits, ConstantPairEncloses, EnclosesSteps, EnclosesChoice}
+use Rattle.deck_problems.proofs.Common.{◌≡◌, ◌<◌, ◌∙◌, ℕ, ℤ, true, Option, Some, None, List, Contains, refl, sym, subst, IfSome, Bound, IsHead, Entries, FlowModel, TimeStep, cell_count, constant_head}
+use Rattle.deck_problems.proofs.Common.{is_constant, times, IsModel, IsProblemOf, time_of, lower_head, upper_head, alike_between, hull_of_numbers, IsConstantHull, EnclosesStep, Choice}
+use Rattle.deck_problems.proofs.Common.{IsChoiceBetween, IsChoiceOf, IsPairOf, IsSecond, ProblemEncloses, ConstantPairIsOne, ConstantPairFits, ConstantPairEncloses, EnclosesSteps, EnclosesChoice}
 use Rattle.deck_problems.proofs.Common.{IsProblemBy, EnclosesSigned, cells_of, AreGridHeads, IsProblem, ProblemFits, is_problem}
 use Rattle.problem_builder.proofs.CellEnclosed.{step_encloses}
 use Rattle.problem_builder.proofs.BoundsOf.{constant_head_is_enclosed, head_range, pair_fits as model_pair_fits, pair_encloses as model_pair_encloses}

@@ -1,18 +1,14 @@
 -- The hull of two decks' problems and constant heads.
-use Rattle.deck_problems.proofs.Common.{◌≡◌, ◌∙◌, ◌<◌, ℕ, inl, inr, Option, Some, None, List, Contains, get_or, length, map, refl, sym, subst, ap, arith}
-use Rattle.deck_problems.proofs.Common.{IfSome, get_or_default, Bound, IsProblem, Entries, no_entries, FlowModel, TimeStep, IsProblemOf, IsBuildFault}
-use Rattle.deck_problems.proofs.Common.{fixed_shape, fixed_hull, cell_shape, zip_with, IsHull, hull_at, hull_count, hull_keeps, same_lengths, zip_at, zip_left}
-use Rattle.deck_problems.proofs.Common.{Decks, AreConstantHeadsFor, IsSecond, AreDecks, AreHullBounds, HasCellsOf, IsHullRefusal, IsProblemFor, IsFaultFor}
-use Rattle.deck_problems.proofs.Common.{AreConstantHeads, entries_at, get_or-map, none, Bool, false, cond, cell_count, is_constant, no_bound, bound_at}
-use Rattle.deck_problems.proofs.Common.{known_bound, constant_bound, item_is, IsHullBound, Result, Ok, Err, option_to_list, NoBound, problem_of, unless_refused}
-use Rattle.deck_problems.proofs.Common.{cell_hull, first_refusal, hull_or_refusal, problem_by, IsCellNamed}
-use Rattle.step_problem.specs.declared.entry.Fixed.{Fixed}
-use Rattle.step_problem.specs.declared.refusal.BoundFault.{BoundFault}
+use Rattle.deck_problems.proofs.Common.{◌≡◌, ◌∙◌, ◌<◌, ℕ, inl, inr, Option, Some, None, List, Contains, get_or, length, map, refl, sym, subst, ap, arith, IfSome, get_or_default, Bound, IsProblem}
+use Rattle.deck_problems.proofs.Common.{Entries, no_entries, FlowModel, TimeStep, IsProblemOf, IsBuildFault, fixed_shape, fixed_hull, cell_shape, zip_with, IsHull, hull_at, hull_count, hull_keeps}
+use Rattle.deck_problems.proofs.Common.{same_lengths, zip_at, zip_left, Decks, AreConstantHeadsFor, IsSecond, AreDecks, AreHullBounds, HasCellsOf, IsHullRefusal, IsProblemFor, IsFaultFor}
+use Rattle.deck_problems.proofs.Common.{AreConstantHeads, entries_at, get_or-map, none, Bool, false, cond, cell_count, is_constant, no_bound, bound_at, known_bound, constant_bound, item_is}
+use Rattle.deck_problems.proofs.Common.{IsHullBound, Result, Ok, Err, option_to_list, NoBound, problem_of, unless_refused, cell_hull, first_refusal, hull_or_refusal, problem_by, IsCellNamed}
+use Rattle.step_problem.specs.{declared.entry.Fixed.Fixed, declared.refusal.BoundFault.BoundFault}
 use Rattle.std.specs.Prelude.{true}
 use Rattle.problem_hull.proofs.Refusals.{no_refusal}
 use Rattle.std.proofs.lemmas.List.FromFn.{length-map-range_with_len}
-use Rattle.deck_problems.proofs.Enclosing.{second_cells}
-use Rattle.deck_problems.proofs.OneProblem.{constant_same}
+use Rattle.deck_problems.proofs.{Enclosing.second_cells, OneProblem.constant_same}
 use Rattle.step_problem.specs.declared.refusal.BoundFault.TheVariants as build
 
 -- The hull names the cells of the first problem.

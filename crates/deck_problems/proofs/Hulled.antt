@@ -1,6 +1,6 @@
 -- The hulls of the bounds of each cell, made in place.
-use Rattle.deck_problems.proofs.Common.{◌≡◌, ℕ, ◌+◌, ◌<◌, ◌≤◌, inl, inr, List, length, set, sym, subst, ◌∙◌, arith, length-set, get_or-set_same}
-use Rattle.deck_problems.proofs.Common.{get_or-set_other, Bound, no_bound, bound_at, IsHullBound}
+use Rattle.deck_problems.proofs.Common.{◌≡◌, ℕ, ◌+◌, ◌<◌, ◌≤◌, inl, inr, List, length, set, sym, subst, ◌∙◌, arith, length-set, get_or-set_same, get_or-set_other, Bound, no_bound, bound_at}
+use Rattle.deck_problems.proofs.Common.{IsHullBound}
 use Rattle.std.proofs.lemmas.Bool.{cases_order}
 
 -- the first n bounds are hulls, all others as they were

@@ -1,14 +1,11 @@
 -- The problem of two decks is the hull of their problems; and what the models and choices of decks share with the first one.
-use Rattle.deck_problems.proofs.Common.{◌≡◌, ℕ, Option, Some, None, List, map, sym, subst, Contains, ◌<◌, ◌∙◌, ◌∷◌, refl, Bound, Entries, FlowModel, TimeStep}
-use Rattle.deck_problems.proofs.Common.{times, IsModel, cell_count, is_variable, is_constant, index_of, is_active, IsProblemOf, IsActive, HeadsEnclose, IsHull}
-use Rattle.deck_problems.proofs.Common.{IsProblemBy, one_deck, AreDecks, zip_with, ap, [], ◌&&◌, not, Fraction, IsBetween, variable_cells, start_head, Decks}
-use Rattle.deck_problems.proofs.Common.{unless_parts, Result, Ok, Err, option_to_list, NoBound, problem_of, cell_hull, first_refusal, AreAlike, hull_or_refusal}
-use Rattle.deck_problems.proofs.Common.{ExactCell, Choice, IsStepBetween, IsChoiceOf, IsOwnChoice, step_from, own_choice, none, next, ℤ, SolvesChoiceAt}
-use Rattle.deck_problems.proofs.Common.{SolvesStep}
-use Rattle.deck_span.proofs.SameFrames.{count_is, active_is, variable_same, index_is, times_are}
+use Rattle.deck_problems.proofs.Common.{◌≡◌, ℕ, Option, Some, None, List, map, sym, subst, Contains, ◌<◌, ◌∙◌, ◌∷◌, refl, Bound, Entries, FlowModel, TimeStep, times, IsModel, cell_count, is_variable}
+use Rattle.deck_problems.proofs.Common.{is_constant, index_of, is_active, IsProblemOf, IsActive, HeadsEnclose, IsHull, IsProblemBy, one_deck, AreDecks, zip_with, ap, [], ◌&&◌, not, Fraction}
+use Rattle.deck_problems.proofs.Common.{IsBetween, variable_cells, start_head, Decks, unless_parts, Result, Ok, Err, option_to_list, NoBound, problem_of, cell_hull, first_refusal, AreAlike}
+use Rattle.deck_problems.proofs.Common.{hull_or_refusal, ExactCell, Choice, IsStepBetween, IsChoiceOf, IsOwnChoice, step_from, own_choice, none, next, ℤ, SolvesChoiceAt, SolvesStep}
+use Rattle.deck_span.proofs.{SameFrames.count_is, SameFrames.active_is, SameFrames.variable_same, SameFrames.index_is, SameFrames.times_are, OwnChoices.own_step}
 use Rattle.flow_equations.specs.{exact_step, SolvesAt, variable_heads}
 use Rattle.flow_equations.proofs.Links.{ids_are}
-use Rattle.deck_span.proofs.OwnChoices.{own_step}
 use Rattle.deck_problems.proofs.ProblemsAlike.{problems_alike}
 
 -- the problem of two models is the hull of their problems, and no sum of it is too large

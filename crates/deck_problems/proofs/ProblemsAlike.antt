@@ -1,17 +1,14 @@
 -- The problems of two valid models that are alike are alike.
-use Rattle.deck_problems.proofs.Common.{◌≡◌, ◌∙◌, ℕ, refl, sym, ap, subst, List, length, map, ◌∷◌, [], Bound, Entries, FlowModel, TimeStep, cell_count}
-use Rattle.deck_problems.proofs.Common.{FixedSource, FlowSource, variable_faces, AllThree, flow_shape, fixed_shape, river_shape, drain_shape, evap_shape}
-use Rattle.deck_problems.proofs.Common.{cell_shape, IsPeriodBetween, alike_between, IsProblemOf, ProblemsAreAlike, none, next, whole_flow, whole_link}
-use Rattle.deck_problems.proofs.Common.{whole_fixed, whole_river, whole_drain, whole_evap, whole_cell, cells_of, variable_cells}
+use Rattle.deck_problems.proofs.Common.{◌≡◌, ◌∙◌, ℕ, refl, sym, ap, subst, List, length, map, ◌∷◌, [], Bound, Entries, FlowModel, TimeStep, cell_count, FixedSource, FlowSource, variable_faces}
+use Rattle.deck_problems.proofs.Common.{AllThree, flow_shape, fixed_shape, river_shape, drain_shape, evap_shape, cell_shape, IsPeriodBetween, alike_between, IsProblemOf, ProblemsAreAlike, none, next}
+use Rattle.deck_problems.proofs.Common.{whole_flow, whole_link, whole_fixed, whole_river, whole_drain, whole_evap, whole_cell, cells_of, variable_cells}
 use Rattle.deck_span.proofs.StepsBetween.{framed_is}
 use Rattle.decimal_input.specs.declared.dec.Dec.{Dec}
-use Rattle.model_types.specs.declared.face.Axis.{Axis}
-use Rattle.model_types.specs.declared.face.Axis.TheVariants.{Row, Column, Vertical}
-use Rattle.model_types.specs.declared.face.Face.{Face}
-use Rattle.model_types.specs.declared.period.Period.{Period}
+use Rattle.model_types.specs.{declared.face.Axis.Axis, declared.face.Axis.TheVariants.Row, declared.face.Axis.TheVariants.Column, declared.face.Axis.TheVariants.Vertical, declared.face.Face.Face}
+use Rattle.model_types.specs.{declared.period.Period.Period}
 use Rattle.conductance_bounds.specs.{face_term, capped_pair}
-use Rattle.deck_span.proofs.SourcesBetween.{IsFlowSourceBetween, IsFixedSourceBetween, IsRiverSourceBetween, IsDrainSourceBetween, IsEvapSourceBetween, framed}
-use Rattle.deck_span.proofs.SourcesBetween.{cells_are, faces_are, three_flows, three_fixed, three_rivers, three_drains, three_evaps}
+use Rattle.deck_span.proofs.SourcesBetween.{IsFlowSourceBetween, IsFixedSourceBetween, IsRiverSourceBetween, IsDrainSourceBetween, IsEvapSourceBetween, framed, cells_are, faces_are, three_flows}
+use Rattle.deck_span.proofs.SourcesBetween.{three_fixed, three_rivers, three_drains, three_evaps}
 use Rattle.deck_span.proofs.SourcesBetween.IsFlowSourceBetween.{pumped, received}
 use Rattle.deck_span.proofs.SourcesBetween.IsFixedSourceBetween.{constant, general, stored}
 use mathlib.Core.List.{map-map}

@@ -1,11 +1,9 @@
 -- The bounds of the starting heads of decks.
-use Rattle.deck_problems.proofs.Common.{◌≡◌, ◌<◌, ◌∙◌, ℕ, Option, Some, None, List, length, sym, subst, arith, IfSome, get_or_default, Bound, IsHead, no_bound}
-use Rattle.deck_problems.proofs.Common.{lower_at, upper_at, FlowModel, start_head, IsModel, AreGridHeads, HeadsEnclose, bound_at, lower_head, upper_head}
-use Rattle.deck_problems.proofs.Common.{IsFractionBetween, IsStartOf, Fraction, hull_of_numbers, Decks, IsSecond, IsHullBound, AreHullBounds, StartHeadsAreOne}
-use Rattle.deck_problems.proofs.Common.{StartHeadsFit, StartHeadsEnclose, AreStartHeads, AreStartHulls, AreStartsBy, AreStartHeadsFor, refl, ext_get_or}
+use Rattle.deck_problems.proofs.Common.{◌≡◌, ◌<◌, ◌∙◌, ℕ, Option, Some, None, List, length, sym, subst, arith, IfSome, get_or_default, Bound, IsHead, no_bound, lower_at, upper_at, FlowModel}
+use Rattle.deck_problems.proofs.Common.{start_head, IsModel, AreGridHeads, HeadsEnclose, bound_at, lower_head, upper_head, IsFractionBetween, IsStartOf, Fraction, hull_of_numbers, Decks, IsSecond}
+use Rattle.deck_problems.proofs.Common.{IsHullBound, AreHullBounds, StartHeadsAreOne, StartHeadsFit, StartHeadsEnclose, AreStartHeads, AreStartHulls, AreStartsBy, AreStartHeadsFor, refl, ext_get_or}
 use Rattle.deck_problems.proofs.Common.{each_cell, start_bound, starts_fit, starts_enclose}
-use Rattle.deck_problems.proofs.Enclosing.{second_cells}
-use Rattle.deck_problems.proofs.OneProblem.{cell_of_member}
+use Rattle.deck_problems.proofs.{Enclosing.second_cells, OneProblem.cell_of_member}
 
 same_hull : (a b x y : Bound) → IsHullBound a b x → IsHullBound a b y → x ≡ y
 same_hull a b x y h k = grind (arith)

@@ -1,23 +1,17 @@
 -- The tables that a run keeps from step to step.
 use Rattle.std.specs.Prelude.{◌≡◌, ℕ, ◌<◌, List, length, map, ℤ, true, false, Option, Some, None, IfSome}
-use Rattle.model_types.specs.declared.model.FlowModel.{FlowModel}
-use Rattle.model_types.specs.{given_heads, variable_cells, cell_count, constant_head, is_constant, start_head, IsModel}
+use Rattle.model_types.specs.{declared.model.FlowModel.FlowModel, given_heads, variable_cells, cell_count, constant_head, is_constant, start_head, IsModel}
+use Rattle.model_types.specs.{declared.time_steps.TimeStep.TimeStep}
 use Rattle.problem_builder.specs.{AreTables, ArePeriodTables, AreEvenStorages, BothOrNone, AreConstantHeads, HeadsEnclose, IsActive, IsProblemOf}
 use Rattle.problem_builder.specs.{IsConstantPair, AreStartHeads, bound_at, Filled, each_cell, start_bound, constant_bound, IsCellNamed}
-use Rattle.deck_problems.specs.declared.decks.Decks.{Decks}
-use Rattle.deck_problems.specs.declared.kept.RunTables.{RunTables}
-use Rattle.deck_problems.specs.declared.problem.DeckTables.{DeckTables}
+use Rattle.deck_problems.specs.{declared.decks.Decks.Decks, declared.kept.RunTables.RunTables, declared.problem.DeckTables.DeckTables}
+use Rattle.deck_problems.specs.{declared.problem.DeckProblem.DeckProblem}
 use Rattle.decimal_input.specs.{Fraction}
-use Rattle.step_problem.specs.declared.heads.Bound.{Bound}
-use Rattle.step_problem.specs.Entries.{Entries}
+use Rattle.step_problem.specs.{declared.heads.Bound.Bound, Entries.Entries, declared.refusal.BoundFault.BoundFault}
+use Rattle.step_problem.specs.{declared.refusal.BoundFault.TheVariants.NoBound as Refused, declared.refusal.BoundFault.TheVariants.Memory, no_bound}
 use Rattle.cell_balance.specs.{EnclosesStep}
-use Rattle.model_types.specs.declared.time_steps.TimeStep.{TimeStep}
 use Rattle.flow_equations.specs.{exact_step}
-use Rattle.step_problem.specs.declared.refusal.BoundFault.{BoundFault}
-use Rattle.step_problem.specs.declared.refusal.BoundFault.TheVariants.{NoBound as Refused, Memory}
 use Rattle.problem_hull.specs.{IsTooLarge, IsHullPair}
-use Rattle.deck_problems.specs.declared.problem.DeckProblem.{DeckProblem}
-use Rattle.step_problem.specs.{no_bound}
 use Rattle.deck_span.specs.{AreAlike, Choice, IsBetween, IsChoiceBetween, IsFractionBetween, step_from}
 
 -- the digits of conductances

@@ -2,20 +2,15 @@
 use Rattle.std.specs.Prelude.{◌≡◌, ℕ, ◌<◌, true, ℤ, List, Contains, Option, Some, None, Result, Ok, Err}
 use Rattle.std.specs.Option.{option_to_list}
 use Rattle.decimal_input.specs.{EnclosesSigned}
-use Rattle.step_problem.specs.declared.heads.Bound.{Bound}
-use Rattle.step_problem.specs.declared.place.NoBound.{NoBound}
-use Rattle.step_problem.specs.{IsProblem, IsHead}
-use Rattle.step_problem.specs.Entries.{Entries}
-use Rattle.model_types.specs.declared.model.FlowModel.{FlowModel}
-use Rattle.model_types.specs.declared.time_steps.TimeStep.{TimeStep}
-use Rattle.model_types.specs.{cell_count, is_constant, times, IsModel}
+use Rattle.step_problem.specs.{declared.heads.Bound.Bound, declared.place.NoBound.NoBound, IsProblem, IsHead, Entries.Entries}
+use Rattle.step_problem.specs.{declared.refusal.BoundFault.BoundFault, declared.refusal.BoundFault.TheVariants.NoBound as Refused}
+use Rattle.step_problem.specs.{declared.refusal.BoundFault.TheVariants.Memory}
+use Rattle.model_types.specs.{declared.model.FlowModel.FlowModel, declared.time_steps.TimeStep.TimeStep, cell_count, is_constant, times, IsModel}
 use Rattle.problem_builder.specs.{AreGridHeads, IsProblemOf, problem_of, unless_refused}
 use Rattle.problem_hull.specs.{AreAlike as AreProblemsAlike, cell_hull, zip_with, first_refusal}
 use Rattle.deck_span.specs.{AreAlike}
 use Rattle.deck_problems.specs.declared.decks.Decks.{Decks}
 use Rattle.deck_problems.specs.Kept.{AreDecks, EachChoice, IsConstantPairFor, AreStartHeadsFor, EnclosesChoices, EnclosesStarts}
-use Rattle.step_problem.specs.declared.refusal.BoundFault.{BoundFault}
-use Rattle.step_problem.specs.declared.refusal.BoundFault.TheVariants.{NoBound as Refused, Memory}
 
 -- The results of two models that are alike, as one: the refusal of the first one, or of the second; or the hull of their problems, or
 -- the refusal of its first cell that has a sum too large.

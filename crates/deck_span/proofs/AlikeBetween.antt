@@ -1,8 +1,7 @@
 -- Each of two models that are alike lies between the two.
-use Rattle.deck_span.proofs.Common.{◌≡◌, ◌*◌, ◌⊎◌, [], ◌∷◌, refl, subst, inl, inr, arith, List, length, AllZip, cases_lt, Dec, number, size, Ratio, Fraction}
-use Rattle.deck_span.proofs.Common.{Entry, Given, CellId, FlowModel, Period, AllThree, none, next, IsFractionBetween, IsRatioBetween, IsDecBetween}
-use Rattle.deck_span.proofs.Common.{IsSizeBetween, IsEntryBetween, IsGivenBetween, IsRateBetween, IsPeriodBetween, IsBetween, wells, rivers, drains, generals}
-use Rattle.deck_span.proofs.Common.{AreGivenAlike, ArePeriodsAlike, AreAlike, AreEntriesAlike, AreRatesAlike, LiesBetween, AtMost-refl, by_lt_z, between_heads}
+use Rattle.deck_span.proofs.Common.{◌≡◌, ◌*◌, ◌⊎◌, [], ◌∷◌, refl, subst, inl, inr, arith, List, length, AllZip, cases_lt, Dec, number, size, Ratio, Fraction, Entry, Given, CellId, FlowModel, Period}
+use Rattle.deck_span.proofs.Common.{AllThree, none, next, IsFractionBetween, IsRatioBetween, IsDecBetween, IsSizeBetween, IsEntryBetween, IsGivenBetween, IsRateBetween, IsPeriodBetween, IsBetween}
+use Rattle.deck_span.proofs.Common.{wells, rivers, drains, generals, AreGivenAlike, ArePeriodsAlike, AreAlike, AreEntriesAlike, AreRatesAlike, LiesBetween, AtMost-refl, by_lt_z, between_heads}
 use Rattle.deck_span.proofs.HullBounds.{at_most_is_reflexive}
 use Rattle.decimal_input.specs.Ratios.{den as ratio_den, AtMost as IsRatioAtMost}
 use Rattle.model_types.specs.declared.entry.Entry.TheVariants.{Well, River, Drain, General}

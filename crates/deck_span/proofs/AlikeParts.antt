@@ -1,7 +1,6 @@
 -- Two models are alike exactly where they share each package.
-use Rattle.deck_span.proofs.Common.{◌≡◌, suc, List, [], ◌∷◌, length, refl, ap, All, lit<, AllZip, All-nil, All-cons, Package, Dis, Bas, Lpf, Wel, Riv, Drn, Ghb}
-use Rattle.deck_span.proofs.Common.{Rch, Chd, Evt, FlowModel, Period, Shares, SharesBounds, SharesEvaporation, SharesGrid, SharesIn, SharesProperties}
-use Rattle.deck_span.proofs.Common.{SharesTimes, comparing_order, AreAlike, ArePeriodsAlike, frame, no_stresses}
+use Rattle.deck_span.proofs.Common.{◌≡◌, suc, List, [], ◌∷◌, length, refl, ap, All, lit<, AllZip, All-nil, All-cons, Package, Dis, Bas, Lpf, Wel, Riv, Drn, Ghb, Rch, Chd, Evt, FlowModel, Period}
+use Rattle.deck_span.proofs.Common.{Shares, SharesBounds, SharesEvaporation, SharesGrid, SharesIn, SharesProperties, SharesTimes, comparing_order, AreAlike, ArePeriodsAlike, frame, no_stresses}
 
 module _ {X : Type 0} where
   each_of : (R S : X → X → Type 0) → ((x y : X) → R x y → S x y) → (xs ys : List X) → AllZip R xs ys → AllZip S xs ys

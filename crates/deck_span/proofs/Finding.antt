@@ -1,9 +1,8 @@
 -- What a walk over two models finds, from what the walks over their parts find.
-use Rattle.deck_span.proofs.Common.{◌≡◌, ℕ, ◌<◌, List, [], ◌∷◌, Option, None, Some, Result, Ok, Err, length, get_or, take, subst, sym, ap, ◌∙◌, refl, arith}
-use Rattle.deck_span.proofs.Common.{inr, AllZip, each_same, get_or_from_slice_get, slice_get_read, Dec, Package, Dis, Lpf, FlowModel, Period, cell_count}
-use Rattle.deck_span.proofs.Common.{layer_size, AreSame, IsFirst, Finds, InOrder, IsFirstOfLayers, IsLayerCell, IsListCell, IsFound, apart, array_at}
-use Rattle.deck_span.proofs.Common.{cell_in_grid, AreArraysSame, SharesGrid, SharesIn, SharesProperties, IsCellIn, IsHeadCell, IsPeriodCell, SharesOptions}
-use Rattle.deck_span.proofs.Common.{SharesSizes, bottoms, properties, CellId, Bool, true, false, MatchBool}
+use Rattle.deck_span.proofs.Common.{◌≡◌, ℕ, ◌<◌, List, [], ◌∷◌, Option, None, Some, Result, Ok, Err, length, get_or, take, subst, sym, ap, ◌∙◌, refl, arith, inr, AllZip, each_same}
+use Rattle.deck_span.proofs.Common.{get_or_from_slice_get, slice_get_read, Dec, Package, Dis, Lpf, FlowModel, Period, cell_count, layer_size, AreSame, IsFirst, Finds, InOrder, IsFirstOfLayers}
+use Rattle.deck_span.proofs.Common.{IsLayerCell, IsListCell, IsFound, apart, array_at, cell_in_grid, AreArraysSame, SharesGrid, SharesIn, SharesProperties, IsCellIn, IsHeadCell, IsPeriodCell}
+use Rattle.deck_span.proofs.Common.{SharesOptions, SharesSizes, bottoms, properties, CellId, Bool, true, false, MatchBool}
 use Rattle.model_types.specs.declared.grid.Grid.{Grid}
 use Rattle.deck_span.proofs.Layers.{first_not_all}
 

@@ -1,12 +1,10 @@
 -- A given head whose two ends lie between those of two others, in one order, lies between theirs at each part of the period; and at a step of a
 -- period the part that has passed is at most 1.
-use Rattle.deck_span.proofs.Common.{◌≡◌, ℕ, zero, suc, ◌+◌, ◌*◌, ◌-◌, ◌≤◌, arith, subst, Bool, true, false, cond, ℤ, pos, neg_ℤ, ◌+ℤ◌, ◌*ℤ◌, mul-pos, ints}
-use Rattle.deck_span.proofs.Common.{◌==◌, ◌||◌, number, Ratio, AtMost, mul_mono_right, le_over, over_le, own_share, AtMost-refl, num_plus, den_plus, Period}
-use Rattle.deck_span.proofs.Common.{Given, one, power, geometric, multiplier, part_passed, between_heads, IsFractionBetween, IsGivenAtMost, LiesBetween}
-use Rattle.deck_span.proofs.Common.{AtMost-trans, le-add, OrderedHeadsLieBetween}
-use Rattle.decimal_input.specs.{over as size_over, ratio as size_ratio}
+use Rattle.deck_span.proofs.Common.{◌≡◌, ℕ, zero, suc, ◌+◌, ◌*◌, ◌-◌, ◌≤◌, arith, subst, Bool, true, false, cond, ℤ, pos, neg_ℤ, ◌+ℤ◌, ◌*ℤ◌, mul-pos, ints, ◌==◌, ◌||◌, number, Ratio, AtMost}
+use Rattle.deck_span.proofs.Common.{mul_mono_right, le_over, over_le, own_share, AtMost-refl, num_plus, den_plus, Period, Given, one, power, geometric, multiplier, part_passed, between_heads}
+use Rattle.deck_span.proofs.Common.{IsFractionBetween, IsGivenAtMost, LiesBetween, AtMost-trans, le-add, OrderedHeadsLieBetween}
+use Rattle.decimal_input.specs.{over as size_over, ratio as size_ratio, Ratios.den as size_den, Ratios.AtMost as IsRatioAtMost, Ratios.plus as size_plus}
 use Rattle.decimal_input.proofs.Differences.{diffs, as_diff, same_diff}
-use Rattle.decimal_input.specs.Ratios.{den as size_den, AtMost as IsRatioAtMost, plus as size_plus}
 use Rattle.flow_equations.proofs.GivenAtSteps.{between_over}
 use Rattle.deck_span.proofs.HullBounds.{between_image, den_of, over_all}
 

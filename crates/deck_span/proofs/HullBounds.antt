@@ -1,15 +1,10 @@
 -- A number between two enclosed ones lies between the outer bounds.
-use Rattle.deck_span.proofs.Common.{◌≡◌, ℕ, ◌*◌, ◌^◌, ◌≤◌, ◌<◌, ◌⊎◌, inl, inr, refl, arith, ℤ, pos, ◌*ℤ◌, ◌≤ℤ◌, ◌+ℤ◌, ints, clamps, Ratio, Fraction}
-use Rattle.deck_span.proofs.Common.{as_fraction, Encloses, EnclosesSigned, IsOver, den, AtMost, plus, mul_mono_right, IsFractionBetween, IsRatioBetween}
-use Rattle.deck_span.proofs.Common.{LiesBetween, min, max, IsHullPair, AtMost-refl, times-AtMost, over-AtMost, le_over, over_le, mul-pos, own_share}
-use Rattle.deck_span.proofs.Common.{cross_trans_signed}
-use Rattle.decimal_input.specs.{over as size_over}
-use Rattle.decimal_input.specs.Fractions.{times}
-use Rattle.cell_balance.proofs.Deep.{le_trans_z}
-use Rattle.cell_balance.proofs.Denominators.{fraction_over}
+use Rattle.deck_span.proofs.Common.{◌≡◌, ℕ, ◌*◌, ◌^◌, ◌≤◌, ◌<◌, ◌⊎◌, inl, inr, refl, arith, ℤ, pos, ◌*ℤ◌, ◌≤ℤ◌, ◌+ℤ◌, ints, clamps, Ratio, Fraction, as_fraction, Encloses, EnclosesSigned, IsOver, den}
+use Rattle.deck_span.proofs.Common.{AtMost, plus, mul_mono_right, IsFractionBetween, IsRatioBetween, LiesBetween, min, max, IsHullPair, AtMost-refl, times-AtMost, over-AtMost, le_over, over_le}
+use Rattle.deck_span.proofs.Common.{mul-pos, own_share, cross_trans_signed}
+use Rattle.decimal_input.specs.{over as size_over, Fractions.times, Ratios.den as ratio_den, Ratios.AtMost as IsRatioAtMost, Ratios.times as size_times}
+use Rattle.cell_balance.proofs.{Deep.le_trans_z, Denominators.fraction_over, Scaling.IsOver-plus, Scaling.IsOver-signed, Scaling.IsOver-times}
 use Rattle.std.specs.Int.{int_min, int_max}
-use Rattle.decimal_input.specs.Ratios.{den as ratio_den, AtMost as IsRatioAtMost, times as size_times}
-use Rattle.cell_balance.proofs.Scaling.{IsOver-plus, IsOver-signed, IsOver-times}
 
 -- Numbers that are made from numbers between two others.
 pub at_most_is_reflexive : (f : Fraction) → AtMost f f

@@ -1,15 +1,9 @@
 -- The hull of two problems encloses each exact step between those that they enclose.
-use Rattle.deck_span.proofs.Common.{◌+◌, ◌≡◌, ℕ, zero, suc, [], ◌∷◌, refl, sym, subst, ap, ◌∙◌, List, length, AllZip, ExactFlow, ExactLink, ExactFixed}
-use Rattle.deck_span.proofs.Common.{ExactRiver, ExactDrain, ExactEvap, ExactCell, cell_at, HasEqualEnds, HasLinkBack, FlowEncloses, LinkEncloses, FixedEncloses}
-use Rattle.deck_span.proofs.Common.{RiverEncloses, DrainEncloses, EvapEncloses, CellEncloses, EnclosesStep, AllThree, none, next, IsFlowBetween, IsFixedBetween}
-use Rattle.deck_span.proofs.Common.{IsRiverBetween, IsDrainBetween, IsEvapBetween, IsCellBetween, IsStepBetween, flow_hull, fixed_hull, river_hull, drain_hull}
-use Rattle.deck_span.proofs.Common.{evap_hull, cell_hull, zip_with, IsHull}
-use Rattle.step_problem.specs.declared.entry.Flow.{Flow}
-use Rattle.step_problem.specs.declared.entry.Fixed.{Fixed}
-use Rattle.step_problem.specs.declared.entry.River.{River}
-use Rattle.step_problem.specs.declared.entry.Drain.{Drain}
-use Rattle.step_problem.specs.declared.entry.Evap.{Evap}
-use Rattle.step_problem.specs.Entries.{Entries}
+use Rattle.deck_span.proofs.Common.{◌+◌, ◌≡◌, ℕ, zero, suc, [], ◌∷◌, refl, sym, subst, ap, ◌∙◌, List, length, AllZip, ExactFlow, ExactLink, ExactFixed, ExactRiver, ExactDrain, ExactEvap, ExactCell}
+use Rattle.deck_span.proofs.Common.{cell_at, HasEqualEnds, HasLinkBack, FlowEncloses, LinkEncloses, FixedEncloses, RiverEncloses, DrainEncloses, EvapEncloses, CellEncloses, EnclosesStep, AllThree}
+use Rattle.deck_span.proofs.Common.{none, next, IsFlowBetween, IsFixedBetween, IsRiverBetween, IsDrainBetween, IsEvapBetween, IsCellBetween, IsStepBetween, flow_hull, fixed_hull, river_hull}
+use Rattle.deck_span.proofs.Common.{drain_hull, evap_hull, cell_hull, zip_with, IsHull}
+use Rattle.step_problem.specs.{declared.entry.Flow.Flow, declared.entry.Fixed.Fixed, declared.entry.River.River, declared.entry.Drain.Drain, declared.entry.Evap.Evap, Entries.Entries}
 use Rattle.deck_span.proofs.HullBounds.{numbers_enclose, sizes_enclose}
 
 -- hulls enclose what lies between, if the hull of two items does

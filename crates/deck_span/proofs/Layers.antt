@@ -1,8 +1,7 @@
 -- The first difference of arrays that are read layer by layer.
-use Rattle.deck_span.proofs.Common.{◌≡◌, ℕ, zero, suc, ◌/◌, ◌<◌, ◌≤◌, List, [], ◌∷◌, Option, Some, None, subst, sym, ap, refl, arith, ◌⊎◌, inl, inr}
-use Rattle.deck_span.proofs.Common.{MatchOption, ◌+◌, length, get_or, take, ◌∙◌, AllZip, cases_lt, cond_above, cond_below, Dec, AreSame, IsFirst}
-use Rattle.deck_span.proofs.Common.{IsFirstOfLayers, array_at, IsFound, earlier, AllZip-get_or, slice_get_within, get_or_from_slice_get, take_more, get_or-take}
-use Rattle.deck_span.proofs.Common.{length-take-le}
+use Rattle.deck_span.proofs.Common.{◌≡◌, ℕ, zero, suc, ◌/◌, ◌<◌, ◌≤◌, List, [], ◌∷◌, Option, Some, None, subst, sym, ap, refl, arith, ◌⊎◌, inl, inr, MatchOption, ◌+◌, length, get_or, take, ◌∙◌}
+use Rattle.deck_span.proofs.Common.{AllZip, cases_lt, cond_above, cond_below, Dec, AreSame, IsFirst, IsFirstOfLayers, array_at, IsFound, earlier, AllZip-get_or, slice_get_within}
+use Rattle.deck_span.proofs.Common.{get_or_from_slice_get, take_more, get_or-take, length-take-le}
 use Rattle.std.proofs.lemmas.Slice.Zip.{all_zipped_more}
 
 -- Two lists whose items are alike, and the first place at which they aren't.

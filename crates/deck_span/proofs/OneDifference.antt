@@ -1,8 +1,7 @@
 -- Two models have at most one first difference.
-use Rattle.deck_span.proofs.Common.{◌≡◌, ℕ, ◌<◌, List, [], ◌∷◌, Option, Some, None, take, subst, sym, ap, ◌∙◌, arith, inl, inr, Dec, Package, Dis, Lpf, Bas}
-use Rattle.deck_span.proofs.Common.{Wel, Riv, Drn, Ghb, Rch, Chd, Evt, FlowModel, Period, cell_count, layer_size, cell_of, AreSame, IsFirst, InOrder}
-use Rattle.deck_span.proofs.Common.{IsFirstOfLayers, IsLayerCell, IsListCell, cell_in_grid, SharesIn, IsCellIn, IsHeadCell, IsPeriodCell, AreGivenAlike}
-use Rattle.deck_span.proofs.Common.{AreEntriesAlike, AreRatesAlike, IsCell, bottoms, properties, array_at, Shares, comparing_order, IsFirstDifference}
+use Rattle.deck_span.proofs.Common.{◌≡◌, ℕ, ◌<◌, List, [], ◌∷◌, Option, Some, None, take, subst, sym, ap, ◌∙◌, arith, inl, inr, Dec, Package, Dis, Lpf, Bas, Wel, Riv, Drn, Ghb, Rch, Chd, Evt}
+use Rattle.deck_span.proofs.Common.{FlowModel, Period, cell_count, layer_size, cell_of, AreSame, IsFirst, InOrder, IsFirstOfLayers, IsLayerCell, IsListCell, cell_in_grid, SharesIn, IsCellIn}
+use Rattle.deck_span.proofs.Common.{IsHeadCell, IsPeriodCell, AreGivenAlike, AreEntriesAlike, AreRatesAlike, IsCell, bottoms, properties, array_at, Shares, comparing_order, IsFirstDifference}
 use Rattle.deck_span.proofs.Common.{cases_order, CellId, All-head, All-tail, slice_get}
 use Rattle.std.specs.Prelude.{All, ◌/◌, ◌⊎◌, zero, suc, ◌≤◌}
 use Rattle.deck_span.specs.declared.difference.Difference.{Difference}

@@ -1,10 +1,8 @@
 -- A model between two others gives a choice between them, and its solutions solve that choice.
-use Rattle.deck_span.proofs.Common.{◌≡◌, ◌∙◌, ℕ, refl, sym, ap, subst, ◌<◌, List, [], ◌∷◌, map, not, ◌&&◌, Fraction, FlowModel, FixedSource, ToConstant}
-use Rattle.deck_span.proofs.Common.{ToGeneral, FromStorage, ExactCell, ExactFixed, is_constant, fixed_sources, variable_cells, exact_cell, exact_fixed}
-use Rattle.deck_span.proofs.Common.{exact_step, start_head, IsStepBetween, fixed_from, step_from, ModelsGiveChoices, ModelsSolveChoices, variable_heads}
-use Rattle.deck_span.proofs.Common.{SolvesStep}
-use Rattle.deck_span.proofs.SameFrames.{active_is, constants_between, count_is, variable_same}
-use Rattle.deck_span.proofs.StepsBetween.{steps_between}
+use Rattle.deck_span.proofs.Common.{◌≡◌, ◌∙◌, ℕ, refl, sym, ap, subst, ◌<◌, List, [], ◌∷◌, map, not, ◌&&◌, Fraction, FlowModel, FixedSource, ToConstant, ToGeneral, FromStorage, ExactCell, ExactFixed}
+use Rattle.deck_span.proofs.Common.{is_constant, fixed_sources, variable_cells, exact_cell, exact_fixed, exact_step, start_head, IsStepBetween, fixed_from, step_from, ModelsGiveChoices}
+use Rattle.deck_span.proofs.Common.{ModelsSolveChoices, variable_heads, SolvesStep}
+use Rattle.deck_span.proofs.{SameFrames.active_is, SameFrames.constants_between, SameFrames.count_is, SameFrames.variable_same, StepsBetween.steps_between}
 
 -- a step from other heads before it
 module _ (m : FlowModel) (p n : ℕ) (old new : ℕ → Fraction) where

@@ -1,12 +1,10 @@
 -- What a model between two others has in common with them; and where some model lies between two, the two are alike.
-use Rattle.deck_span.proofs.Common.{◌≡◌, ℕ, ◌≤◌, ap, subst, List, length, map, flat_map, range_with_len, AllZip, Dec, FlowModel, Period, cell_count, is_active}
-use Rattle.deck_span.proofs.Common.{period_at, is_variable, index_of, start_head, constant_head, AllThree, IsFractionBetween, IsDecBetween, IsPeriodBetween}
-use Rattle.deck_span.proofs.Common.{IsBetween, none, next, IsEntryBetween, IsGivenBetween, IsRateBetween, wells, rivers, drains, generals, AreGivenAlike}
-use Rattle.deck_span.proofs.Common.{ArePeriodsAlike, AreAlike, AreEntriesAlike, AreRatesAlike, Fraction, refl, Entry}
+use Rattle.deck_span.proofs.Common.{◌≡◌, ℕ, ◌≤◌, ap, subst, List, length, map, flat_map, range_with_len, AllZip, Dec, FlowModel, Period, cell_count, is_active, period_at, is_variable, index_of}
+use Rattle.deck_span.proofs.Common.{start_head, constant_head, AllThree, IsFractionBetween, IsDecBetween, IsPeriodBetween, IsBetween, none, next, IsEntryBetween, IsGivenBetween, IsRateBetween, wells}
+use Rattle.deck_span.proofs.Common.{rivers, drains, generals, AreGivenAlike, ArePeriodsAlike, AreAlike, AreEntriesAlike, AreRatesAlike, Fraction, refl, Entry}
 use Rattle.model_types.specs.{times}
-use Rattle.deck_span.proofs.SourcesBetween.{framed, no_dec, at_period, variable_is, cells_are}
-use Rattle.deck_span.proofs.StepsBetween.{framed_is, constant_between}
-use Rattle.deck_span.proofs.ThreeLists.{three_at, three_lengths}
+use Rattle.deck_span.proofs.{SourcesBetween.framed, SourcesBetween.no_dec, SourcesBetween.at_period, SourcesBetween.variable_is, SourcesBetween.cells_are, StepsBetween.framed_is}
+use Rattle.deck_span.proofs.{StepsBetween.constant_between, ThreeLists.three_at, ThreeLists.three_lengths}
 
 framed_times : (f : FlowModel) (s₁ s₂ s₃ : List Dec) (ps qs rs : List Period) → AllThree IsPeriodBetween ps qs rs → times (framed f s₂ qs) ≡ times (framed f s₁ ps)
 unfolding times

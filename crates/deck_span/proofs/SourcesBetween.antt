@@ -1,16 +1,13 @@
 -- What flows into a cell of three models of one frame lies between, source by source.
-use Rattle.deck_span.proofs.Common.{◌≡◌, ℕ, ◌-◌, refl, ap, ◌∙◌, Bool, true, false, cond, Some, None, List, map, take, reverse, pos, ℤ, not, ◌&&◌, ◌==◌, int_lt}
-use Rattle.deck_span.proofs.Common.{filter, filter_map, range_with_len, Dec, number, size, CellId, FlowModel, Period, Given, Entry, Face, place_in_layer}
-use Rattle.deck_span.proofs.Common.{no_number, dec_at, int_at, is_active, no_period, period_at, entries, given_in, last_given, is_variable, variable_below}
-use Rattle.deck_span.proofs.Common.{is_chosen, EvapSource, recharge_at, evap_source, evap_at, FixedSource, FlowSource, RiverSource, DrainSource, cell_of}
-use Rattle.deck_span.proofs.Common.{as_well, as_river, as_drain, as_general, entries_of, local_entries, variable_faces, constant_faces, storage_at}
-use Rattle.deck_span.proofs.Common.{flow_sources, fixed_sources, river_sources, drain_sources, evap_sources, faces, through, ToConstant, ToGeneral, FromStorage}
-use Rattle.deck_span.proofs.Common.{Pumped, Received, AllThree, none, IsDecBetween, IsSizeBetween, IsEntryBetween, IsGivenBetween, IsRateBetween}
-use Rattle.deck_span.proofs.Common.{IsPeriodBetween, wells, rivers, drains, generals, IsRiverBetween, IsDrainBetween, exact_river, exact_drain}
-use Rattle.deck_span.proofs.ThreeLists.{OptionThree, option_all_or_none, option_list, three_append, three_at, three_flat_map, three_images, three_map}
-use Rattle.deck_span.proofs.ThreeLists.{three_reverse, three_take, three_filter, three_find, three_filter_map}
-use Rattle.deck_span.proofs.ThreeLists.OptionThree.{nothing, something}
-use Rattle.deck_span.proofs.HullBounds.{number_itself, size_itself}
+use Rattle.deck_span.proofs.Common.{◌≡◌, ℕ, ◌-◌, refl, ap, ◌∙◌, Bool, true, false, cond, Some, None, List, map, take, reverse, pos, ℤ, not, ◌&&◌, ◌==◌, int_lt, filter, filter_map, range_with_len, Dec}
+use Rattle.deck_span.proofs.Common.{number, size, CellId, FlowModel, Period, Given, Entry, Face, place_in_layer, no_number, dec_at, int_at, is_active, no_period, period_at, entries, given_in}
+use Rattle.deck_span.proofs.Common.{last_given, is_variable, variable_below, is_chosen, EvapSource, recharge_at, evap_source, evap_at, FixedSource, FlowSource, RiverSource, DrainSource, cell_of}
+use Rattle.deck_span.proofs.Common.{as_well, as_river, as_drain, as_general, entries_of, local_entries, variable_faces, constant_faces, storage_at, flow_sources, fixed_sources, river_sources}
+use Rattle.deck_span.proofs.Common.{drain_sources, evap_sources, faces, through, ToConstant, ToGeneral, FromStorage, Pumped, Received, AllThree, none, IsDecBetween, IsSizeBetween, IsEntryBetween}
+use Rattle.deck_span.proofs.Common.{IsGivenBetween, IsRateBetween, IsPeriodBetween, wells, rivers, drains, generals, IsRiverBetween, IsDrainBetween, exact_river, exact_drain}
+use Rattle.deck_span.proofs.{ThreeLists.OptionThree, ThreeLists.option_all_or_none, ThreeLists.option_list, ThreeLists.three_append, ThreeLists.three_at, ThreeLists.three_flat_map}
+use Rattle.deck_span.proofs.{ThreeLists.three_images, ThreeLists.three_map, ThreeLists.three_reverse, ThreeLists.three_take, ThreeLists.three_filter, ThreeLists.three_find}
+use Rattle.deck_span.proofs.{ThreeLists.three_filter_map, ThreeLists.OptionThree.nothing, ThreeLists.OptionThree.something, HullBounds.number_itself, HullBounds.size_itself}
 
 -- sources of each kind
 pub data IsFlowSourceBetween : FlowSource → FlowSource → FlowSource → Type 0 where

@@ -1,29 +1,23 @@
 -- Each exact step of a model between two others lies between theirs.
-use Rattle.deck_span.proofs.Common.{◌≡◌, ℕ, zero, suc, ◌-◌, ◌≤◌, ◌<◌, refl, sym, ap, ◌∙◌, subst, arith, true, Option, List, [], ◌∷◌, length, map, All, int_lt}
-use Rattle.deck_span.proofs.Common.{not, ◌==◌, unsigned_abs, negsuc, Dec, number, size, Ratio, over, Fraction, as_fraction, opposite, plus, AtMost, ExactEvap}
-use Rattle.deck_span.proofs.Common.{FlowModel, Period, Given, Face, cell_count, no_number, is_active, area, int_at, conductance, row_conductance}
-use Rattle.deck_span.proofs.Common.{column_conductance, vertical_conductance, vertical_half, period_at, part_passed, is_variable, variable_below}
-use Rattle.deck_span.proofs.Common.{variable_cells, start_head, kept_head, head_or_kept, constant_head, between_heads, EvapSource, FixedSource, FlowSource}
-use Rattle.deck_span.proofs.Common.{variable_faces, evap_sources, storage, IsModel, IsEvapValid, AllThree, none, next, IsFractionBetween, IsRatioBetween}
-use Rattle.deck_span.proofs.Common.{IsDecBetween, IsFlowBetween, IsFixedBetween, IsRiverBetween, IsDrainBetween, IsEvapBetween, IsCellBetween, IsStepBetween}
-use Rattle.deck_span.proofs.Common.{IsGivenBetween, IsPeriodBetween, IsBetween, frame, period_frame, get_or_default, and_parts, exact_river, exact_drain}
-use Rattle.deck_span.proofs.Common.{exact_link, exact_fixed, exact_flow, exact_evap, exact_cell, exact_step, All-head, All-tail}
+use Rattle.deck_span.proofs.Common.{◌≡◌, ℕ, zero, suc, ◌-◌, ◌≤◌, ◌<◌, refl, sym, ap, ◌∙◌, subst, arith, true, Option, List, [], ◌∷◌, length, map, All, int_lt, not, ◌==◌, unsigned_abs, negsuc, Dec}
+use Rattle.deck_span.proofs.Common.{number, size, Ratio, over, Fraction, as_fraction, opposite, plus, AtMost, ExactEvap, FlowModel, Period, Given, Face, cell_count, no_number, is_active, area, int_at}
+use Rattle.deck_span.proofs.Common.{conductance, row_conductance, column_conductance, vertical_conductance, vertical_half, period_at, part_passed, is_variable, variable_below, variable_cells}
+use Rattle.deck_span.proofs.Common.{start_head, kept_head, head_or_kept, constant_head, between_heads, EvapSource, FixedSource, FlowSource, variable_faces, evap_sources, storage, IsModel, IsEvapValid}
+use Rattle.deck_span.proofs.Common.{AllThree, none, next, IsFractionBetween, IsRatioBetween, IsDecBetween, IsFlowBetween, IsFixedBetween, IsRiverBetween, IsDrainBetween, IsEvapBetween, IsCellBetween}
+use Rattle.deck_span.proofs.Common.{IsStepBetween, IsGivenBetween, IsPeriodBetween, IsBetween, frame, period_frame, get_or_default, and_parts, exact_river, exact_drain, exact_link, exact_fixed}
+use Rattle.deck_span.proofs.Common.{exact_flow, exact_evap, exact_cell, exact_step, All-head, All-tail}
 use Rattle.std.specs.Prelude.{pos, ℤ}
-use Rattle.decimal_input.specs.Fractions.{times}
-use Rattle.decimal_input.specs.Ratios.{times as size_times, AtMost as IsRatioAtMost}
-use Rattle.model_types.specs.declared.face.Axis.{Axis}
-use Rattle.model_types.specs.declared.face.Axis.TheVariants.{Row, Column, Vertical}
+use Rattle.decimal_input.specs.{Fractions.times, Ratios.times as size_times, Ratios.AtMost as IsRatioAtMost}
+use Rattle.model_types.specs.{declared.face.Axis.Axis, declared.face.Axis.TheVariants.Row, declared.face.Axis.TheVariants.Column, declared.face.Axis.TheVariants.Vertical}
 use Rattle.model_types.proofs.Ranks.{passing, is_at}
 use Rattle.std.proofs.lemmas.Bool.Decides.{nat_tests}
-use Rattle.deck_span.proofs.ThreeLists.{OptionThree, three_at, three_map}
-use Rattle.deck_span.proofs.ThreeLists.OptionThree.{nothing, something}
-use Rattle.deck_span.proofs.HullBounds.{number_itself, size_itself, between_image, times_keeps, plus_keeps, rate_keeps}
-use Rattle.deck_span.proofs.GivenHeadsBetween.{part_of}
-use Rattle.deck_span.proofs.SourcesBetween.{IsFlowSourceBetween, IsFixedSourceBetween, IsRiverSourceBetween, IsDrainSourceBetween, IsEvapSourceBetween, framed}
-use Rattle.deck_span.proofs.SourcesBetween.{no_dec, given_three, last_three, at_period, cells_are, faces_are, three_flows, three_fixed, three_rivers}
-use Rattle.deck_span.proofs.SourcesBetween.{three_drains, three_evaps}
-use Rattle.deck_span.proofs.SourcesBetween.IsFlowSourceBetween.{pumped, received}
-use Rattle.deck_span.proofs.SourcesBetween.IsFixedSourceBetween.{constant, general, stored}
+use Rattle.deck_span.proofs.{ThreeLists.OptionThree, ThreeLists.three_at, ThreeLists.three_map, ThreeLists.OptionThree.nothing, ThreeLists.OptionThree.something, HullBounds.number_itself}
+use Rattle.deck_span.proofs.{HullBounds.size_itself, HullBounds.between_image, HullBounds.times_keeps, HullBounds.plus_keeps, HullBounds.rate_keeps, GivenHeadsBetween.part_of}
+use Rattle.deck_span.proofs.{SourcesBetween.IsFlowSourceBetween, SourcesBetween.IsFixedSourceBetween, SourcesBetween.IsRiverSourceBetween, SourcesBetween.IsDrainSourceBetween}
+use Rattle.deck_span.proofs.{SourcesBetween.IsEvapSourceBetween, SourcesBetween.framed, SourcesBetween.no_dec, SourcesBetween.given_three, SourcesBetween.last_three, SourcesBetween.at_period}
+use Rattle.deck_span.proofs.{SourcesBetween.cells_are, SourcesBetween.faces_are, SourcesBetween.three_flows, SourcesBetween.three_fixed, SourcesBetween.three_rivers, SourcesBetween.three_drains}
+use Rattle.deck_span.proofs.{SourcesBetween.three_evaps, SourcesBetween.IsFlowSourceBetween.pumped, SourcesBetween.IsFlowSourceBetween.received, SourcesBetween.IsFixedSourceBetween.constant}
+use Rattle.deck_span.proofs.{SourcesBetween.IsFixedSourceBetween.general, SourcesBetween.IsFixedSourceBetween.stored}
 use Rattle.flow_equations.proofs.Downwards.{size_positive}
 
 -- A variable cell is active.

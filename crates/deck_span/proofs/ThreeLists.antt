@@ -1,6 +1,6 @@
 -- Three lists that are related place by place.
-use Rattle.deck_span.proofs.Common.{◌≡◌, ℕ, zero, suc, Bool, true, false, cond, Option, Some, None, List, [], ◌∷◌, ◌++◌, map, take, reverse, refl, is_some}
-use Rattle.deck_span.proofs.Common.{filter, filter_map, cons_option, flat_map, find, reverse-append, ap, length, get_or, AllThree, none, next}
+use Rattle.deck_span.proofs.Common.{◌≡◌, ℕ, zero, suc, Bool, true, false, cond, Option, Some, None, List, [], ◌∷◌, ◌++◌, map, take, reverse, refl, is_some, filter, filter_map, cons_option, flat_map}
+use Rattle.deck_span.proofs.Common.{find, reverse-append, ap, length, get_or, AllThree, none, next}
 use Rattle.std.specs.Option.{option_to_list}
 
 pub three_lengths : {X Y Z : Type 0} (R : X → Y → Z → Type 0) (xs : List X) (ys : List Y) (zs : List Z) → AllThree R xs ys zs → (length ys ≡ length xs) × (length zs ≡ length xs)

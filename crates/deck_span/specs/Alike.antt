@@ -2,12 +2,10 @@
 use Rattle.std.specs.Prelude.{◌≡◌, ◌==◌, length}
 use Rattle.std.specs.List.{AllZip}
 use Rattle.decimal_input.specs.declared.dec.Dec.{Dec}
-use Rattle.model_types.specs.declared.model.FlowModel.{FlowModel}
-use Rattle.model_types.specs.declared.period.Period.{Period}
+use Rattle.model_types.specs.{declared.model.FlowModel.FlowModel, declared.period.Period.Period, declared.entry.Entry.Entry}
+use Rattle.model_types.specs.{declared.entry.Entry.TheVariants.Well, declared.entry.Entry.TheVariants.River, declared.entry.Entry.TheVariants.Drain}
+use Rattle.model_types.specs.{declared.entry.Entry.TheVariants.General, no_number}
 use Rattle.model_types.specs.declared.entry.Given.{Given}
-use Rattle.model_types.specs.declared.entry.Entry.{Entry}
-use Rattle.model_types.specs.declared.entry.Entry.TheVariants.{Well, River, Drain, General}
-use Rattle.model_types.specs.{no_number}
 use Rattle.deck_span.specs.Models.{period_frame, frame}
 
 -- an entry of a list with its numbers at 0: its package and its cell

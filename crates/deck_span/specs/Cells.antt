@@ -4,15 +4,11 @@ use Rattle.std.specs.List.{AllZip}
 use Rattle.decimal_input.specs.declared.dec.Dec.{Dec}
 use Rattle.name_file.specs.declared.package.Package.{Package}
 use Rattle.name_file.specs.declared.package.Package.TheVariants.{Dis, Bas, Lpf, Wel, Riv, Drn, Ghb, Rch, Chd, Evt}
-use Rattle.model_types.specs.declared.grid.CellId.{CellId}
-use Rattle.model_types.specs.declared.grid.Grid.{Grid}
-use Rattle.model_types.specs.declared.model.FlowModel.{FlowModel}
-use Rattle.model_types.specs.declared.period.Period.{Period}
+use Rattle.model_types.specs.{declared.grid.CellId.CellId, declared.grid.Grid.Grid, declared.model.FlowModel.FlowModel, declared.period.Period.Period}
 use Rattle.model_types.specs.{cell_count, layer_size, cell_of}
-use Rattle.deck_span.specs.Alike.{AreEntriesAlike, AreGivenAlike, AreRatesAlike, AreAlike}
-use Rattle.deck_span.specs.Order.{AreSame, IsFirst, InOrder, IsArrayCell, IsLayerCell, IsListCell}
-use Rattle.deck_span.specs.Shared.{SharesHead, SharesIn, Shares, comparing_order}
-use Rattle.deck_span.specs.declared.difference.Difference.{Difference}
+use Rattle.deck_span.specs.{Alike.AreEntriesAlike, Alike.AreGivenAlike, Alike.AreRatesAlike, Alike.AreAlike, Order.AreSame, Order.IsFirst, Order.InOrder}
+use Rattle.deck_span.specs.{Order.IsArrayCell, Order.IsLayerCell, Order.IsListCell, Shared.SharesHead, Shared.SharesIn, Shared.Shares, Shared.comparing_order}
+use Rattle.deck_span.specs.{declared.difference.Difference.Difference}
 
 -- DIS: NLAY, NROW, NCOL, NPER and LENUNI
 pub record SharesCounts (a b : FlowModel) : Type 0 where

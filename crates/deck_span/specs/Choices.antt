@@ -3,11 +3,9 @@
 use Rattle.std.specs.Prelude.{◌≡◌, ℕ, ◌<◌, true, ℤ, List, [], ◌∷◌, map}
 use Rattle.std.specs.List.{AllZip}
 use Rattle.decimal_input.specs.{Fraction, IsOver}
-use Rattle.step_problem.specs.declared.entry.FixedKind.{FixedKind}
-use Rattle.step_problem.specs.declared.entry.FixedKind.TheVariants.{Storage}
-use Rattle.model_types.specs.declared.model.FlowModel.{FlowModel}
-use Rattle.model_types.specs.declared.time_steps.TimeStep.{TimeStep}
-use Rattle.model_types.specs.{cell_count, constant_head, is_constant, start_head, times}
+use Rattle.step_problem.specs.{declared.entry.FixedKind.FixedKind, declared.entry.FixedKind.TheVariants.Storage}
+use Rattle.model_types.specs.{declared.model.FlowModel.FlowModel, declared.time_steps.TimeStep.TimeStep, cell_count, constant_head, is_constant, start_head}
+use Rattle.model_types.specs.{times}
 use Rattle.cell_balance.specs.{ExactCell, ExactFixed, SolvesStep}
 use Rattle.flow_equations.specs.{exact_step, heads_of, variable_heads}
 use Rattle.deck_span.specs.Steps.{IsFractionBetween, IsStepBetween}

@@ -1,19 +1,14 @@
 -- Which models, exact steps and choices lie between two others, and what the hull of two problems encloses.
 use Rattle.std.specs.Prelude.{◌≡◌, ℕ, ◌≤◌, ℤ, List}
-use Rattle.decimal_input.specs.{number, Fraction}
-use Rattle.decimal_input.specs.Fractions.{AtMost}
+use Rattle.decimal_input.specs.{number, Fraction, Fractions.AtMost}
 use Rattle.cell_balance.specs.{ExactCell, EnclosesStep}
 use Rattle.problem_hull.specs.{IsHull}
 use Rattle.step_problem.specs.Entries.{Entries}
 use Rattle.model_types.specs.declared.entry.Given.{Given}
-use Rattle.model_types.specs.declared.model.FlowModel.{FlowModel}
-use Rattle.model_types.specs.declared.time_steps.TimeStep.{TimeStep}
-use Rattle.model_types.specs.{constant_head, period_at, start_head, IsModel}
+use Rattle.model_types.specs.{declared.model.FlowModel.FlowModel, declared.time_steps.TimeStep.TimeStep, constant_head, period_at, start_head, IsModel}
 use Rattle.flow_equations.specs.{exact_step, SolvesAt}
-use Rattle.deck_span.specs.Steps.{LiesBetween, IsStepBetween}
-use Rattle.deck_span.specs.Models.{IsBetween, IsGivenBetween}
-use Rattle.deck_span.specs.Alike.{AreAlike}
-use Rattle.deck_span.specs.Choices.{Choice, IsChoiceBetween, SolvesChoiceAt}
+use Rattle.deck_span.specs.{Steps.LiesBetween, Steps.IsStepBetween, Models.IsBetween, Models.IsGivenBetween, Alike.AreAlike, Choices.Choice}
+use Rattle.deck_span.specs.{Choices.IsChoiceBetween, Choices.SolvesChoiceAt}
 
 -- Where p encloses the exact step a, and q the exact step b, their hull encloses each exact step between a and b.
 abbrev pub HullsEnclose : Type 0

@@ -3,16 +3,11 @@
 -- WEL: the rate. RIV: stage, conductance, bottom. DRN: elevation, conductance. GHB: head, conductance. RCH: the flux.
 -- EVT: surface and rate, and a rate is 0 in all three or in none. CHD: the head at each part of the period. BAS6: STRT.
 use Rattle.std.specs.Prelude.{◌≡◌, ◌==◌, [], ◌≤◌}
-use Rattle.decimal_input.specs.declared.dec.Dec.{Dec}
-use Rattle.decimal_input.specs.{number, size, Ratio}
-use Rattle.decimal_input.specs.Ratios.{den}
-use Rattle.model_types.specs.declared.grid.CellId.{CellId}
-use Rattle.model_types.specs.declared.model.FlowModel.{FlowModel}
-use Rattle.model_types.specs.declared.period.Period.{Period}
-use Rattle.model_types.specs.{no_stresses, between_heads}
+use Rattle.decimal_input.specs.{declared.dec.Dec.Dec, number, size, Ratio, Ratios.den}
+use Rattle.model_types.specs.{declared.grid.CellId.CellId, declared.model.FlowModel.FlowModel, declared.period.Period.Period, no_stresses, between_heads}
+use Rattle.model_types.specs.{declared.entry.Entry.Entry, declared.entry.Entry.TheVariants.Well, declared.entry.Entry.TheVariants.River}
+use Rattle.model_types.specs.{declared.entry.Entry.TheVariants.Drain, declared.entry.Entry.TheVariants.General}
 use Rattle.model_types.specs.declared.entry.Given.{Given}
-use Rattle.model_types.specs.declared.entry.Entry.{Entry}
-use Rattle.model_types.specs.declared.entry.Entry.TheVariants.{Well, River, Drain, General}
 use Rattle.deck_span.specs.Steps.{AllThree, IsFractionBetween, IsRatioBetween}
 
 -- numbers of a file

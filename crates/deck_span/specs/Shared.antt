@@ -3,8 +3,7 @@ use Rattle.std.specs.Prelude.{◌≡◌, List, [], ◌∷◌, length}
 use Rattle.std.specs.List.{AllZip}
 use Rattle.name_file.specs.declared.package.Package.{Package}
 use Rattle.name_file.specs.declared.package.Package.TheVariants.{Dis, Bas, Lpf, Wel, Riv, Drn, Ghb, Rch, Chd, Evt}
-use Rattle.model_types.specs.declared.model.FlowModel.{FlowModel}
-use Rattle.model_types.specs.declared.period.Period.{Period}
+use Rattle.model_types.specs.{declared.model.FlowModel.FlowModel, declared.period.Period.Period}
 use Rattle.deck_span.specs.Alike.{AreEntriesAlike, AreGivenAlike, AreRatesAlike}
 
 -- the packages in reading order

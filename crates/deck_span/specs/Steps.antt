@@ -1,8 +1,6 @@
 -- When an exact step lies between two others: each number of its equations lies between those of the two at its place.
 use Rattle.std.specs.Prelude.{◌≡◌, ◌⊎◌, [], ◌∷◌, List}
-use Rattle.decimal_input.specs.{Fraction, Ratio}
-use Rattle.decimal_input.specs.Fractions.{AtMost}
-use Rattle.decimal_input.specs.Ratios.{AtMost as IsRatioAtMost}
+use Rattle.decimal_input.specs.{Fraction, Ratio, Fractions.AtMost, Ratios.AtMost as IsRatioAtMost}
 use Rattle.cell_balance.specs.{ExactFlow, ExactFixed, ExactRiver, ExactDrain, ExactEvap, ExactCell}
 
 -- When a number lies between two others, whichever of these is the greater one.

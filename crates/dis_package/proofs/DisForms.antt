@@ -1,14 +1,11 @@
 -- What a file of the discretization gives.
-use Rattle.dis_package.proofs.Common.{◌≡◌, ℕ, ℤ, List, length, All, refl, ◌≤◌, sum_by, sym, subst, arith, suc, ◌+◌, nat_le, ◌&&◌, ◌∷◌, IsDec, FileSet, refusal}
-use Rattle.dis_package.proofs.Common.{words, Left, left_from, without_comments, line_at, number_at, number, FlowModel, item_is, GivesOnly, IsShort}
-use Rattle.dis_package.proofs.Common.{ok_gives_only, goes_on, then_, if_passed, gives_only_less, repeated_gives, All-nil, All-cons, Period, dis_of, IsNewPeriod}
-use Rattle.dis_package.proofs.Common.{periods_of, IsTime, kind_or_refusal, is_time, time_of, period_of, period_at, IsBegun, kind_of, Limits, and_parts}
-use Rattle.dis_package.proofs.Common.{leb-true, BadGrid, number_is, IsGridWithin, All-weaker, IsTimed, Bool, true, false, not, ◌||◌, ◌⊎◌, inl, inr, ◌∙◌}
-use Rattle.dis_package.proofs.Common.{if◌then◌else◌, size, is_growth, IsGrowing, number_one, not-true, is_at_most, is_at_least, is_one, is_positive}
-use Rattle.dis_package.proofs.Common.{positive_of, one_of}
+use Rattle.dis_package.proofs.Common.{◌≡◌, ℕ, ℤ, List, length, All, refl, ◌≤◌, sum_by, sym, subst, arith, suc, ◌+◌, nat_le, ◌&&◌, ◌∷◌, IsDec, FileSet, refusal, words, Left, left_from}
+use Rattle.dis_package.proofs.Common.{without_comments, line_at, number_at, number, FlowModel, item_is, GivesOnly, IsShort, ok_gives_only, goes_on, then_, if_passed, gives_only_less, repeated_gives}
+use Rattle.dis_package.proofs.Common.{All-nil, All-cons, Period, dis_of, IsNewPeriod, periods_of, IsTime, kind_or_refusal, is_time, time_of, period_of, period_at, IsBegun, kind_of, Limits, and_parts}
+use Rattle.dis_package.proofs.Common.{leb-true, BadGrid, number_is, IsGridWithin, All-weaker, IsTimed, Bool, true, false, not, ◌||◌, ◌⊎◌, inl, inr, ◌∙◌, if◌then◌else◌, size, is_growth, IsGrowing}
+use Rattle.dis_package.proofs.Common.{number_one, not-true, is_at_most, is_at_least, is_one, is_positive, positive_of, one_of}
 use Rattle.std.proofs.lemmas.List.Sums.{sum_by-cons}
-use Rattle.dis_package.proofs.FrameForms.{head_is, count_is}
-use Rattle.dis_package.proofs.GridForms.{grid_is}
+use Rattle.dis_package.proofs.{FrameForms.head_is, FrameForms.count_is, GridForms.grid_is}
 use Rattle.number_limits.proofs.MagnitudeLemmas.{at_least_thousandth, at_most_thousand}
 use Rattle.dis_package.specs.declared.periods.Time.{Time}
 

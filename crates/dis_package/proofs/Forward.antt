@@ -1,6 +1,6 @@
 -- The first line and LAYCBD leave lines that they were given.
-use Rattle.dis_package.proofs.Common.{◌≡◌, ℕ, ◌-◌, ℤ, List, Ok, All, LineMay, LinesMay, Left, Numbered, GivesOnly, line_held, rest_has_its_lines, repeated_held}
-use Rattle.dis_package.proofs.Common.{head_of, Frame, Limits, beds_of, frame_of, words, beginning, value_alone, integer, ok_gives_only, goes_on, then_}
+use Rattle.dis_package.proofs.Common.{◌≡◌, ℕ, ◌-◌, ℤ, List, Ok, All, LineMay, LinesMay, Left, Numbered, GivesOnly, line_held, rest_has_its_lines, repeated_held, head_of, Frame, Limits, beds_of}
+use Rattle.dis_package.proofs.Common.{frame_of, words, beginning, value_alone, integer, ok_gives_only, goes_on, then_}
 use Rattle.array_reader.proofs.Forward.{value_alone_held, zero_held}
 
 module _ (P : Numbered → Type 0) (file : List ℕ) where

@@ -1,10 +1,8 @@
 -- What is read of the first line and of LAYCBD.
-use Rattle.dis_package.proofs.Common.{◌≡◌, ℕ, ◌-◌, ◌*◌, ◌<◌, ◌≤◌, ◌==◌, nat_lt, nat_le, suc, Bool, true, false, ◌&&◌, List, [], ◌∷◌, ◌++◌, length, All, Some}
-use Rattle.dis_package.proofs.Common.{None, refl, arith, ℤ, pos, negsuc, if◌then◌else◌, and_parts, leb-true, ltb-true, eqb-true, not-false, All-push, refusal}
-use Rattle.dis_package.proofs.Common.{words, BadGrid, line_at, Left, Taking, beginning, number_at, value_at, value_alone, integer, zero_at, int_at, is_nonzero}
-use Rattle.dis_package.proofs.Common.{most_layers, most_in_row, most_cells, within, head_of, IsSize, IsFrame, count_at, size_at, frame_of, beds_of, inside}
-use Rattle.dis_package.proofs.Common.{Size, IsShort, GivesOnly, item_is, value_is, integer_is, ok_gives_only, err_gives_only, goes_on, then_, if_passed}
-use Rattle.dis_package.proofs.Common.{if_clear, repeated_are, Limits}
+use Rattle.dis_package.proofs.Common.{◌≡◌, ℕ, ◌-◌, ◌*◌, ◌<◌, ◌≤◌, ◌==◌, nat_lt, nat_le, suc, Bool, true, false, ◌&&◌, List, [], ◌∷◌, ◌++◌, length, All, Some, None, refl, arith, ℤ, pos, negsuc}
+use Rattle.dis_package.proofs.Common.{if◌then◌else◌, and_parts, leb-true, ltb-true, eqb-true, not-false, All-push, refusal, words, BadGrid, line_at, Left, Taking, beginning, number_at, value_at}
+use Rattle.dis_package.proofs.Common.{value_alone, integer, zero_at, int_at, is_nonzero, most_layers, most_in_row, most_cells, within, head_of, IsSize, IsFrame, count_at, size_at, frame_of, beds_of}
+use Rattle.dis_package.proofs.Common.{inside, Size, IsShort, GivesOnly, item_is, value_is, integer_is, ok_gives_only, err_gives_only, goes_on, then_, if_passed, if_clear, repeated_are, Limits}
 use Rattle.std.proofs.lemmas.List.{length-append}
 use Rattle.outside.specs.declared.inputs.Refusal.{Refusal}
 use Rattle.model_types.proofs.WideLimits.{layers_few, in_row_few, cells_few}

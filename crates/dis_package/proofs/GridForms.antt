@@ -1,8 +1,7 @@
 -- What is read of widths and elevations.
-use Rattle.dis_package.proofs.Common.{◌≡◌, ℕ, ◌+◌, ◌*◌, false, List, length, replicate, All, refl, arith, ℤ, ◌-◌, All-nil, All-append, IsDec, FileSet, Left}
-use Rattle.dis_package.proofs.Common.{real, IsGrid, int_at, is_nonzero, no_number, IsPositive, is_positive, IsSize, widths, bottom_at, bottoms_of, grid_of}
-use Rattle.dis_package.proofs.Common.{Size, array_is, number_is, multiplied_is, GivesOnly, ok_gives_only, then_, if_passed, Grid, all_positive_of, IsGridWithin}
-use Rattle.dis_package.proofs.Common.{IsOfBeds, Limits, counted_gives}
+use Rattle.dis_package.proofs.Common.{◌≡◌, ℕ, ◌+◌, ◌*◌, false, List, length, replicate, All, refl, arith, ℤ, ◌-◌, All-nil, All-append, IsDec, FileSet, Left, real, IsGrid, int_at, is_nonzero}
+use Rattle.dis_package.proofs.Common.{no_number, IsPositive, is_positive, IsSize, widths, bottom_at, bottoms_of, grid_of, Size, array_is, number_is, multiplied_is, GivesOnly, ok_gives_only, then_}
+use Rattle.dis_package.proofs.Common.{if_passed, Grid, all_positive_of, IsGridWithin, IsOfBeds, Limits, counted_gives}
 use Rattle.std.specs.List.{list_all}
 use Rattle.decimal_input.specs.declared.dec.Dec.{Dec}
 use Rattle.number_limits.proofs.Canonical.{no_number_is}

@@ -1,8 +1,7 @@
 -- A discretization, one item behind the other.
-use Rattle.dis_package.proofs.Common.{◌≡◌, refl, ℕ, ℤ, List, Ok, FileSet, Left, left_from, without_comments, Stops, StopsText, Period, grid_of, periods_of}
-use Rattle.dis_package.proofs.Common.{model_of_grid, beds_of, frame_of, head_of, dis_of, line_at, words, Frame, Limits, Numbered, input_fault, Grid, FlowModel}
-use Rattle.outside.specs.declared.inputs.TextFault.{TextFault}
-use Rattle.outside.specs.declared.inputs.TextFault.TheVariants.{Refused, Memory}
+use Rattle.dis_package.proofs.Common.{◌≡◌, refl, ℕ, ℤ, List, Ok, FileSet, Left, left_from, without_comments, Stops, StopsText, Period, grid_of, periods_of, model_of_grid, beds_of, frame_of, head_of}
+use Rattle.dis_package.proofs.Common.{dis_of, line_at, words, Frame, Limits, Numbered, input_fault, Grid, FlowModel}
+use Rattle.outside.specs.{declared.inputs.TextFault.TextFault, declared.inputs.TextFault.TheVariants.Refused, declared.inputs.TextFault.TheVariants.Memory}
 
 -- the first line and LAYCBD
 pub head_read : (limits : Limits) (file : List ℕ) (left rest after : Left) (line : Numbered) (ws : List (List ℕ)) (frame : Frame) (laycbd : List ℤ) →

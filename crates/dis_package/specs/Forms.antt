@@ -1,18 +1,11 @@
 -- What is known of a discretization that was read, whatever the folder returned: limits, lengths and signs.
 use Rattle.std.specs.Prelude.{◌≡◌, ℕ, ◌*◌, ◌<◌, ◌≤◌, false, List, All, length, replicate, take, drop, sum_by}
-use Rattle.decimal_input.specs.{IsDec}
-use Rattle.model_types.specs.declared.model.FlowModel.{FlowModel}
-use Rattle.model_types.specs.declared.period.Period.{Period}
-use Rattle.model_types.specs.{IsGrid, no_stresses, IsTimed, layer_size, cell_count, int_at, is_nonzero, no_number, most_layers, most_in_row, most_cells}
-use Rattle.model_types.specs.declared.grid.Grid.{Grid}
-use Rattle.model_types.specs.declared.limits.Limits.{Limits}
-use Rattle.decimal_input.specs.declared.dec.Dec.{Dec}
+use Rattle.decimal_input.specs.{IsDec, declared.dec.Dec.Dec}
+use Rattle.model_types.specs.{declared.model.FlowModel.FlowModel, declared.period.Period.Period, IsGrid, no_stresses, IsTimed, layer_size, cell_count, int_at}
+use Rattle.model_types.specs.{is_nonzero, no_number, most_layers, most_in_row, most_cells, declared.grid.Grid.Grid, declared.limits.Limits.Limits}
+use Rattle.model_types.specs.{declared.limits.Limits.TheVariants.Wide}
 use Rattle.array_text.specs.{IsShort}
-use Rattle.dis_package.specs.Frames.{model_of_grid}
-use Rattle.dis_package.specs.declared.frame.Frame.{Frame}
-use Rattle.dis_package.specs.declared.frame.Size.{Size}
-use Rattle.dis_package.specs.declared.periods.Time.{Time}
-use Rattle.model_types.specs.declared.limits.Limits.TheVariants.{Wide}
+use Rattle.dis_package.specs.{Frames.model_of_grid, declared.frame.Frame.Frame, declared.frame.Size.Size, declared.periods.Time.Time}
 
 -- the size of a grid in the wide limits
 pub record IsSize (s : Size) : Type 0 where

@@ -1,22 +1,14 @@
 -- The first line of a file of the discretization: NLAY NROW NCOL NPER ITMUNI LENUNI (TM 6-A16, DIS, item 1).
 use Rattle.std.specs.Prelude.{ℕ, ◌*◌, List, nat_le, Option, Some, None, Result, Ok, Err, if◌then◌else◌, ◌-◌, ℤ, [], ◌∷◌, ◌++◌, ◌+◌, Bool, true, false, not}
 use Rattle.std.specs.Prelude.{◌&&◌, ◌||◌, codes, pos}
-use Rattle.outside.specs.{refusal, words, FileSet}
-use Rattle.outside.specs.declared.codes.Code.TheVariants.{BadGrid}
-use Rattle.outside.specs.declared.inputs.Refusal.{Refusal}
+use Rattle.outside.specs.{refusal, words, FileSet, declared.codes.Code.TheVariants.BadGrid, declared.inputs.Refusal.Refusal}
 use Rattle.record_lines.specs.{◌>>=◌, repeated_reading, Left, beginning, is_word, line_at, left_from, without_comments}
 use Rattle.array_reader.specs.{number_at, integer, number, value_alone, zero_at}
-use Rattle.model_types.specs.declared.limits.Limits.{Limits}
-use Rattle.model_types.specs.{most_layers, most_in_row, most_cells, no_stresses}
+use Rattle.model_types.specs.{declared.limits.Limits.Limits, most_layers, most_in_row, most_cells, no_stresses, declared.period.Period.Period}
+use Rattle.model_types.specs.{declared.grid.Grid.Grid, declared.model.FlowModel.FlowModel}
 use Rattle.number_limits.specs.{within, is_positive, is_one, is_at_most, is_at_least}
-use Rattle.dis_package.specs.declared.frame.Frame.{Frame}
-use Rattle.dis_package.specs.declared.frame.Size.{Size}
+use Rattle.dis_package.specs.{declared.frame.Frame.Frame, declared.frame.Size.Size, declared.periods.Time.Time, Grids.grid_of}
 use Rattle.decimal_input.specs.{size}
-use Rattle.model_types.specs.declared.period.Period.{Period}
-use Rattle.dis_package.specs.declared.periods.Time.{Time}
-use Rattle.model_types.specs.declared.grid.Grid.{Grid}
-use Rattle.model_types.specs.declared.model.FlowModel.{FlowModel}
-use Rattle.dis_package.specs.Grids.{grid_of}
 
 abbrev pub inside : Option ℕ → Refusal → Result ℕ Refusal
 inside None r = Err r

@@ -2,16 +2,12 @@
 use Rattle.std.specs.Prelude.{ℕ, ℤ, List, [], ◌++◌, Result, Ok, Err, if◌then◌else◌}
 use Rattle.std.specs.List.{list_all}
 use Rattle.decimal_input.specs.declared.dec.Dec.{Dec}
-use Rattle.outside.specs.{FileSet, refusal}
-use Rattle.outside.specs.declared.codes.Code.TheVariants.{BadGrid}
-use Rattle.outside.specs.declared.inputs.Refusal.{Refusal}
+use Rattle.outside.specs.{FileSet, refusal, declared.codes.Code.TheVariants.BadGrid, declared.inputs.Refusal.Refusal}
 use Rattle.record_lines.specs.{Left, ◌>>=◌, each_number}
 use Rattle.array_reader.specs.{array_at, real_layer, layer_or, real}
-use Rattle.model_types.specs.declared.grid.Grid.{Grid}
-use Rattle.model_types.specs.{int_at, no_number, is_nonzero}
+use Rattle.model_types.specs.{declared.grid.Grid.Grid, int_at, no_number, is_nonzero}
 use Rattle.number_limits.specs.{is_positive}
-use Rattle.dis_package.specs.declared.frame.Size.{Size}
-use Rattle.dis_package.specs.declared.bottoms.Bottoms.{Bottoms}
+use Rattle.dis_package.specs.{declared.frame.Size.Size, declared.bottoms.Bottoms.Bottoms}
 
 -- DELR or DELC: numbers above 0, refused as a whole on the line of their control record
 unfoldable pub widths : FileSet → List ℕ → ℕ → Left → Result (List Dec × Left) Refusal

@@ -1,8 +1,7 @@
 -- A run that puts a text first, and then what is due without it.
-use Rattle.engine.proofs.Common.{[], ◌≡◌, ◌++◌, ◌∷◌, Bool, true, false, List, None, Option, Some, inl, inr, refl, subst, sym, ◌∙◌, Put, Text, Status, whole_put}
-use Rattle.engine.proofs.Common.{After, Begins, Case, CutOf, Due, IsCutListing, IsFirstPut, IsListingBeside, IsListingOf, IsRun, IsRunOf, IsValid, Listing}
-use Rattle.engine.proofs.Common.{PutsMore, ReadsFolder, Task, after_text, all_due, broken_off, cut, defined, early, puts_are_joined, lacks_at_first, left}
-use Rattle.engine.proofs.Common.{listed, nothing, put_not_ok, unread, wanting_not_ok, run_of_less, whole, ℕ, IsFirstIf, SinkUse, ViewsPut}
+use Rattle.engine.proofs.Common.{[], ◌≡◌, ◌++◌, ◌∷◌, Bool, true, false, List, None, Option, Some, inl, inr, refl, subst, sym, ◌∙◌, Put, Text, Status, whole_put, After, Begins, Case, CutOf, Due}
+use Rattle.engine.proofs.Common.{IsCutListing, IsFirstPut, IsListingBeside, IsListingOf, IsRun, IsRunOf, IsValid, Listing, PutsMore, ReadsFolder, Task, after_text, all_due, broken_off, cut, defined}
+use Rattle.engine.proofs.Common.{early, puts_are_joined, lacks_at_first, left, listed, nothing, put_not_ok, unread, wanting_not_ok, run_of_less, whole, ℕ, IsFirstIf, SinkUse, ViewsPut}
 use Rattle.engine.proofs.DeckEnds.{run_map}
 use Rattle.run_puts.specs.declared.puts.Status.TheVariants as status
 

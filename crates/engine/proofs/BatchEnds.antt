@@ -1,8 +1,7 @@
 -- The ends of a batch, by its reading and its jobs.
-use Rattle.engine.proofs.Common.{[], Job, Text, ends_of_jobs, JobEnd, Wanted, AreDecks, AreTasks, Batch, IsJobEnd, IsRunText, defined, model_line, IsValidJob}
-use Rattle.engine.proofs.Common.{CheckPlan, CheckText, Plan, Words, Run, Check, Write, Make, MayRead, files_of, files_if, refused_line, IsTask, Task}
-use Rattle.engine.proofs.Common.{folder_name, WordsMay, Refusal, Err, IfOk, List, None, Ok, Result, Some, ap, refl, subst, sym, ℕ, ◌++◌, ◌∙◌, ◌∷◌, ◌≡◌, Option}
-use Rattle.engine.proofs.Common.{append-nil, All-weaker, All-head, All-tail, AllZip, All, slice_get, option_to_list, Order, but_batch, wanted_by, IfOk-at_ok}
+use Rattle.engine.proofs.Common.{[], Job, Text, ends_of_jobs, JobEnd, Wanted, AreDecks, AreTasks, Batch, IsJobEnd, IsRunText, defined, model_line, IsValidJob, CheckPlan, CheckText, Plan, Words, Run}
+use Rattle.engine.proofs.Common.{Check, Write, Make, MayRead, files_of, files_if, refused_line, IsTask, Task, folder_name, WordsMay, Refusal, Err, IfOk, List, None, Ok, Result, Some, ap, refl, subst}
+use Rattle.engine.proofs.Common.{sym, ℕ, ◌++◌, ◌∙◌, ◌∷◌, ◌≡◌, Option, append-nil, All-weaker, All-head, All-tail, AllZip, All, slice_get, option_to_list, Order, but_batch, wanted_by, IfOk-at_ok}
 use Rattle.engine.proofs.Common.{IfOk-weaker, WordsFault, IsOrder}
 use Rattle.std.specs.Prelude.{IfSome, length}
 use Rattle.batch_book.specs.{AreJobEnds}

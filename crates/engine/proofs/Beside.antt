@@ -1,7 +1,7 @@
 -- The result of a run beside which a side sink is led.
-use Rattle.engine.proofs.Common.{[], ◌≡◌, ℕ, true, List, Option, Some, None, sym, subst, inl, inr, FileSet, Put, InputFault, Wanted, Text, ◌∙◌, read_fault_line}
-use Rattle.engine.proofs.Common.{Status, Task, wanting_not_ok, Case, Answers, AnswersBeside, IsReadingEnd, SidePuts, views_in, IsListingOf, CutOf, case_of, Due}
-use Rattle.engine.proofs.Common.{IsRunOf, IsValid, broken_off, defined, unread, run_of_less, line_not_ok, FolderUse, SinkUse, ViewsPut, failed_write, Rose}
+use Rattle.engine.proofs.Common.{[], ◌≡◌, ℕ, true, List, Option, Some, None, sym, subst, inl, inr, FileSet, Put, InputFault, Wanted, Text, ◌∙◌, read_fault_line, Status, Task, wanting_not_ok, Case}
+use Rattle.engine.proofs.Common.{Answers, AnswersBeside, IsReadingEnd, SidePuts, views_in, IsListingOf, CutOf, case_of, Due, IsRunOf, IsValid, broken_off, defined, unread, run_of_less, line_not_ok}
+use Rattle.engine.proofs.Common.{FolderUse, SinkUse, ViewsPut, failed_write, Rose}
 use Rattle.engine.specs.Watched.{Watched}
 use Rattle.outside.specs.declared.inputs.InputFault.TheVariants as input
 use Rattle.run_puts.specs.declared.puts.Status.TheVariants as status

@@ -1,9 +1,8 @@
 -- What a check that ended Ok says, and that a check has one end.
-use Rattle.engine.proofs.Common.{[], ◌≡◌, ℕ, List, ◌∷◌, Ok, map, subst, sym, ap, refl, inl, inr, ◌∙◌, ◌+◌, ◌<◌, ◌++◌, length, take, get_or, Result, IfOk}
-use Rattle.engine.proofs.Common.{FileSet, Put, Seen, PutsMake, whole_put, FlowModel, IsModel, place, ZonedListing, Text, Status, all_written, ListingVerdict}
-use Rattle.engine.proofs.Common.{Fails, VerdictIsOne, IsVerdict, AskedCheck, Checking, listing_read, read_by_name, steps_read, zones_read, IsCheck}
-use Rattle.engine.proofs.Common.{certified_line, verdict_line, verdict_status, Defines, OneVerdict, IsListed, IsStopped, AreTasks, AskedBatch, job_of, Limits}
-use Rattle.engine.proofs.Common.{Decks, AreDecks, one_deck, listing, IsTask, reads, map-append, take_more, All-push, Refusal, Task, Job, job_task, ◌>>=◌, false}
+use Rattle.engine.proofs.Common.{[], ◌≡◌, ℕ, List, ◌∷◌, Ok, map, subst, sym, ap, refl, inl, inr, ◌∙◌, ◌+◌, ◌<◌, ◌++◌, length, take, get_or, Result, IfOk, FileSet, Put, Seen, PutsMake, whole_put}
+use Rattle.engine.proofs.Common.{FlowModel, IsModel, place, ZonedListing, Text, Status, all_written, ListingVerdict, Fails, VerdictIsOne, IsVerdict, AskedCheck, Checking, listing_read, read_by_name}
+use Rattle.engine.proofs.Common.{steps_read, zones_read, IsCheck, certified_line, verdict_line, verdict_status, Defines, OneVerdict, IsListed, IsStopped, AreTasks, AskedBatch, job_of, Limits, Decks}
+use Rattle.engine.proofs.Common.{AreDecks, one_deck, listing, IsTask, reads, map-append, take_more, All-push, Refusal, Task, Job, job_task, ◌>>=◌, false}
 use Rattle.check_run.specs.declared.verdict.ListingVerdict.TheVariants.{Certified as Holds, Refused as Unbounded}
 use Rattle.engine.proofs.Readings.{named_read, zoned_parts}
 use Rattle.run_puts.specs.declared.puts.Status.TheVariants as status

@@ -1,11 +1,9 @@
 -- The ends of a command that reads decks, one or two, and then lists them, checks a listing of them, or writes the first one.
-use Rattle.engine.proofs.Common.{subst, reads, [], ◌≡◌, ℕ, List, ◌∷◌, Ok, Err, Result, Option, None, Some, sym, ap, inl, inr, ◌∙◌, FileSet, Rose, InputCounts}
-use Rattle.engine.proofs.Common.{Put, InputFault, Refusal, FlowModel, refused_line, IsRun, Status, Task, ListingOrder, AskedCheck, Case, Refuses, Checking}
-use Rattle.engine.proofs.Common.{Writing, read_by_name, Due, ReadsFolder, CutOf, AreDecksAs, Answers, IsReadingEnd, IsValid, defined, Decks, Comparing}
-use Rattle.engine.proofs.Common.{IsListingOf, Begins, all_due, cut, early, nothing, whole, Second, one_deck, Limits, of_both, of_first, of_second, AreAlike}
-use Rattle.engine.proofs.Common.{IfSome, option_map, is_some, unread, case_decks, IsDecksRefusal, listing_read, second_in, two, zones_read, AskedPlan, Bor}
-use Rattle.engine.proofs.Common.{PlanTask, Text, text_if, parts_read, planned_task, broken_off, case_named, case_read, case_listed, Defines, IsRunOf, IsFaultOf}
-use Rattle.engine.proofs.Common.{refl}
+use Rattle.engine.proofs.Common.{subst, reads, [], ◌≡◌, ℕ, List, ◌∷◌, Ok, Err, Result, Option, None, Some, sym, ap, inl, inr, ◌∙◌, FileSet, Rose, InputCounts, Put, InputFault, Refusal, FlowModel}
+use Rattle.engine.proofs.Common.{refused_line, IsRun, Status, Task, ListingOrder, AskedCheck, Case, Refuses, Checking, Writing, read_by_name, Due, ReadsFolder, CutOf, AreDecksAs, Answers}
+use Rattle.engine.proofs.Common.{IsReadingEnd, IsValid, defined, Decks, Comparing, IsListingOf, Begins, all_due, cut, early, nothing, whole, Second, one_deck, Limits, of_both, of_first, of_second}
+use Rattle.engine.proofs.Common.{AreAlike, IfSome, option_map, is_some, unread, case_decks, IsDecksRefusal, listing_read, second_in, two, zones_read, AskedPlan, Bor, PlanTask, Text, text_if}
+use Rattle.engine.proofs.Common.{parts_read, planned_task, broken_off, case_named, case_read, case_listed, Defines, IsRunOf, IsFaultOf, refl}
 use Rattle.engine.proofs.Ends.{fault_ends, of_case, read_reads}
 use Rattle.outside.specs.declared.inputs.InputFault.TheVariants as input
 use Rattle.run_puts.specs.declared.puts.Status.TheVariants as status

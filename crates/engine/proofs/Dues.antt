@@ -1,6 +1,6 @@
 -- How a run ended, by the pieces that are due: those that are defined of its end, the line of a read fault, or the first ones of a listing.
-use Rattle.engine.proofs.Common.{◌≡◌, List, map, refl, inl, inr, ◌⊎◌, Put, Seen, PutsMake, whole_put, Rose, Text, whole, early, IsRun, Status, IsLate}
-use Rattle.engine.proofs.Common.{tail_late, early_rose, late_not_read, IsUnfinished, Agree, IsStopped, IsDue, broken_off, defined, unread}
+use Rattle.engine.proofs.Common.{◌≡◌, List, map, refl, inl, inr, ◌⊎◌, Put, Seen, PutsMake, whole_put, Rose, Text, whole, early, IsRun, Status, IsLate, tail_late, early_rose, late_not_read}
+use Rattle.engine.proofs.Common.{IsUnfinished, Agree, IsStopped, IsDue, broken_off, defined, unread}
 use Rattle.run_puts.specs.declared.puts.Status.TheVariants as status
 
 pub late_stops : (end : Status) → IsLate end → IsStopped end

@@ -1,10 +1,9 @@
 -- The ends of a run, by its words, its reading and its listing.
-use Rattle.engine.proofs.Common.{[], ◌≡◌, ℕ, List, ◌∷◌, Ok, Err, Result, IfOk, subst, sym, ap, refl, inl, inr, FileSet, Rose, Put, IsReading, with_limit}
-use Rattle.engine.proofs.Common.{Refusal, usage_line, FlowModel, IsModel, most_bytes, refused_line, read_fault_line, IsEnd, IsLast, EndsOutOfMemory, wanting}
-use Rattle.engine.proofs.Common.{memory_put, status_after, Text, Status, tail_late, lone_line_is_run, lacks_at_first, run_of_less, Case, NoWords, Refuses}
-use Rattle.engine.proofs.Common.{made_model, Due, ReadsFolder, CutOf, IsMade, Answers, IsStopped, IsValid, defined, unread, read_by_name, made_task}
-use Rattle.engine.proofs.Common.{summed_text, IsReadingEnd, made_fault, InputFault, ListingEnd, last_line, listing, status_of, made_files, made_name, Plain}
-use Rattle.engine.proofs.Common.{IsSummarized, reads, Defines, InputCounts, IsRun, case_read, Making, PutsMore, IsFaultOf}
+use Rattle.engine.proofs.Common.{[], ◌≡◌, ℕ, List, ◌∷◌, Ok, Err, Result, IfOk, subst, sym, ap, refl, inl, inr, FileSet, Rose, Put, IsReading, with_limit, Refusal, usage_line, FlowModel, IsModel}
+use Rattle.engine.proofs.Common.{most_bytes, refused_line, read_fault_line, IsEnd, IsLast, EndsOutOfMemory, wanting, memory_put, status_after, Text, Status, tail_late, lone_line_is_run}
+use Rattle.engine.proofs.Common.{lacks_at_first, run_of_less, Case, NoWords, made_model, Due, ReadsFolder, CutOf, IsMade, Answers, IsStopped, IsValid, defined, unread, read_by_name, made_task}
+use Rattle.engine.proofs.Common.{summed_text, IsReadingEnd, made_fault, InputFault, ListingEnd, last_line, listing, status_of, made_files, made_name, Plain, IsSummarized, reads, Defines, InputCounts}
+use Rattle.engine.proofs.Common.{IsRun, case_read, Making, PutsMore, IsFaultOf}
 use Rattle.engine.proofs.Dues.{late_stops}
 use Rattle.listing_summary.specs.declared.summary.Summary.{Summary}
 use Rattle.outside.specs.declared.inputs.InputFault.TheVariants as input
@@ -69,9 +68,6 @@ module _ {n m : ℕ} {end : Status} {puts : List Put} where
 
   pub ends_usage : IsLast usage_line status.Usage end puts → Answers NoWords n m end puts
   ends_usage h = lone_defined usage_line status.Usage (refl, refl) tt (inl h)
-
-  pub refused_line_answers : (refusal : Refusal) → IsEnd (refused_line refusal) (status.Refused refusal) end puts → Answers (Refuses refusal) n m end puts
-  refused_line_answers refusal h = lone_defined (refused_line refusal) (status.Refused refusal) (refl, refl) tt h
 
   -- A reading that comes to a case.
   module _ {T : Type 0} (r : Result T Refusal) (come : T → Case) where

@@ -1,16 +1,12 @@
 -- The public clauses of a run, from all that it comes to.
-use Rattle.engine.proofs.Common.{[], Wanted, HasNoList, AskedBatch, Batch, Case, IsStopped, HasEnded, IsJobListing, Jobs, case_of, job_of, job_task, names_read}
-use Rattle.engine.proofs.Common.{CutOf, Defines, IsJobEnd, IsRunText, ReadsFolder, model_line, IsValid, IsValidJob, Rose, Put, PutsMake, Seen, FileSet}
-use Rattle.engine.proofs.Common.{whole_put, Text, end_line, Status, List, None, Option, Some, inl, inr, subst, sym, ◌∙◌, ◌≡◌, ◌⊎◌, Err, IfOk, Ok, Result, ap}
-use Rattle.engine.proofs.Common.{map, refl, ◌++◌, ◌∷◌, texts, JobEnd, AreDecks, history_exists, history_is_one, IsWhole, whole_listing, IsListing, listing}
-use Rattle.engine.proofs.Common.{reads, FlowModel, Refusal, all_written, All-head, All-tail, AllZip, concat, All, ◌>>=◌, Batched, case_read, IsRunResult, OneOf}
-use Rattle.engine.proofs.Common.{FolderUse, Serves, SinkUse, failed_write, sink_use, PutsMore}
+use Rattle.engine.proofs.Common.{[], Wanted, HasNoList, AskedBatch, Batch, Case, IsStopped, HasEnded, IsJobListing, Jobs, case_of, job_of, job_task, names_read, CutOf, Defines, IsJobEnd, IsRunText}
+use Rattle.engine.proofs.Common.{ReadsFolder, model_line, IsValid, IsValidJob, Rose, Put, PutsMake, Seen, FileSet, whole_put, Text, end_line, Status, List, None, Option, Some, inl, inr, subst, sym}
+use Rattle.engine.proofs.Common.{◌∙◌, ◌≡◌, ◌⊎◌, Err, IfOk, Ok, Result, ap, map, refl, ◌++◌, ◌∷◌, texts, JobEnd, AreDecks, history_exists, history_is_one, IsWhole, whole_listing, IsListing, listing}
+use Rattle.engine.proofs.Common.{reads, FlowModel, Refusal, all_written, All-head, All-tail, AllZip, concat, All, ◌>>=◌, Batched, case_read, IsRunResult, OneOf, FolderUse, Serves, SinkUse}
+use Rattle.engine.proofs.Common.{failed_write, sink_use, PutsMore}
 use Rattle.outside.specs.declared.traits.Sink.{Ghosts as SinkOf}
-use Rattle.engine.proofs.Outcomes.{complete, decided, put_rose, read_rose}
-use Rattle.engine.proofs.Certifying.{not_stopped}
-use Rattle.engine.proofs.OkRuns.{Laws, headline_of, one_of, valid_of}
-use Rattle.engine.proofs.Dues.{Delivers, delivers}
-use Rattle.engine.proofs.Labels.{job_pairs, listing_times}
+use Rattle.engine.proofs.{Outcomes.complete, Outcomes.decided, Outcomes.put_rose, Outcomes.read_rose, Certifying.not_stopped, OkRuns.Laws, OkRuns.headline_of, OkRuns.one_of, OkRuns.valid_of}
+use Rattle.engine.proofs.{Dues.Delivers, Dues.delivers, Labels.job_pairs, Labels.listing_times}
 use Rattle.run_puts.specs.declared.puts.Status.TheVariants as status
 
 -- The headline of a batch whose jobs ran.

@@ -1,7 +1,6 @@
 -- The times of a listing's steps, and the pairs of zones of their flows, are those of its model.
-use Rattle.engine.proofs.Common.{[], ◌≡◌, List, ◌∷◌, map, None, sym, subst, refl, All, All-cons, All-nil, All-weaker, AreDecks, FlowModel, AllSteps, IsStep}
-use Rattle.engine.proofs.Common.{ListsPairs, Step, Task, TimeStep, Bound, pairs_in, times, one_valid, job_task, AskedBatch, IsModel, Steps, flows_have_pairs}
-use Rattle.engine.proofs.Common.{ZonePair, zones_of_flow}
+use Rattle.engine.proofs.Common.{[], ◌≡◌, List, ◌∷◌, map, None, sym, subst, refl, All, All-cons, All-nil, All-weaker, AreDecks, FlowModel, AllSteps, IsStep, ListsPairs, Step, Task, TimeStep, Bound}
+use Rattle.engine.proofs.Common.{pairs_in, times, one_valid, job_task, AskedBatch, IsModel, Steps, flows_have_pairs, ZonePair, zones_of_flow}
 use Rattle.step_problem.specs.declared.place.ZoneFlow.{ZoneFlow}
 use Rattle.listing_run.specs.declared.text.ListingEnd.TheVariants as ends
 

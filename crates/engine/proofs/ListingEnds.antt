@@ -1,10 +1,8 @@
 -- The ends of listings, and of the jobs of a batch: none is a fault, and which is certain.
-use Rattle.engine.proofs.Common.{TimeStep, JobEnd, AllZip, first_not_ok, or_else, IsBatch, batch_settles, batches_agree, AreDecks, IsRunText, JobDefines}
-use Rattle.engine.proofs.Common.{model_line, IsJobEnd, IsValidJob, GoesThrough, Job, IsListing, status_of, AllSteps, ListingEnd, Step, Task, Refusal, Agree}
-use Rattle.engine.proofs.Common.{Text, Status, Err, IfOk, Ok, Result, ap, inl, inr, refl, subst, sym, ◌∙◌, ◌∷◌, ◌≡◌, List, [], All-head, All-tail, All, NoBound}
-use Rattle.engine.proofs.Common.{false}
-use Rattle.engine.proofs.Certifying.{IsFault}
-use Rattle.engine.proofs.OkRuns.{Laws}
+use Rattle.engine.proofs.Common.{TimeStep, JobEnd, AllZip, first_not_ok, or_else, IsBatch, batch_settles, batches_agree, AreDecks, IsRunText, JobDefines, model_line, IsJobEnd, IsValidJob, GoesThrough}
+use Rattle.engine.proofs.Common.{Job, IsListing, status_of, AllSteps, ListingEnd, Step, Task, Refusal, Agree, Text, Status, Err, IfOk, Ok, Result, ap, inl, inr, refl, subst, sym, ◌∙◌, ◌∷◌, ◌≡◌, List}
+use Rattle.engine.proofs.Common.{[], All-head, All-tail, All, NoBound, false}
+use Rattle.engine.proofs.{Certifying.IsFault, OkRuns.Laws}
 use Rattle.run_puts.specs.declared.puts.Status.TheVariants as status
 use Rattle.listing_run.specs.declared.text.ListingEnd.TheVariants as ends
 

@@ -1,30 +1,20 @@
 -- What a run that ended Ok has put, by what its words ask for and its files are read as.
-use Rattle.engine.proofs.Common.{[], ◌≡◌, ℕ, List, ◌∷◌, Option, Some, None, Result, Ok, Err, map, subst, ◌∙◌, ap, refl, inl, inr, ◌⊎◌, append-nil, FileSet, Put}
-use Rattle.engine.proofs.Common.{Seen, PutsMake, whole_put, Refusal, FlowModel, IsModel, made_files, made_name, Text, end_line, whole, Status, all_written}
-use Rattle.engine.proofs.Common.{one_deck, AreDecks, one_valid, ListingEnd, AllSteps, listing, IsWhole, is_whole, whole_listing, history_exists, history_is_one}
-use Rattle.engine.proofs.Common.{VerdictIsOne, ListingOrder, Case, Run, Make, Check, Write, Listing, Making, Checking, case_of, listing_read, made_model}
-use Rattle.engine.proofs.Common.{read_by_name, task_of, zones_read, OneDeck, Defines, made_task, summed_text, OneSummary, IfOk, IsStopped, IsValid, Plain}
-use Rattle.engine.proofs.Common.{Limits, ListingIsOne, ListingExcludesRefusal, RefusalIsOne, Comparing, two, true, Second, most_bytes, with_limit, case_decks}
-use Rattle.engine.proofs.Common.{span_task_of, deck_text, deck_reads, summary_of, summary_text, HeadlineOf, OneOf, Wanted, AskedBatch, Batch, second_in, reads}
-use Rattle.engine.proofs.Common.{Decks, Batched, case_read, OneListing, false, DifferenceIsOne, Appends, Bool, CheckText, IsSaid, OneDeckListing, OneDeckSpan}
-use Rattle.engine.proofs.Common.{OneSpan, RunHeadline, RunSpanHeadline, Task, Words, after_text, case_listed, concat, decks_text, words_text, zoned_text, ◌++◌}
-use Rattle.engine.proofs.Common.{AreText, AskedText, ListingVerdict, OneTextVerdict, IsVerdict, case_parts, case_rest, certified_line, file_at, is_some}
-use Rattle.engine.proofs.Common.{option_map, pairs_in, sym, verdict_line, unwrap_or, StandsIn, parts_text, steps_after, unlike, Part, ByDeck, AreReadAs}
-use Rattle.engine.proofs.Common.{AskedCheck, AskedPlan, OnePlan, Plan, PlanListingIsOne, PlanListingsEnclose, PlanParts, Planning, parts_read, planned_task}
-use Rattle.engine.proofs.Common.{PlanChecking, PlanVerdict, as_plan, plan_steps_read, to_plan_check, CheckPlan, PlanVerdictIsOne}
+use Rattle.engine.proofs.Common.{[], ◌≡◌, ℕ, List, ◌∷◌, Option, Some, None, Result, Ok, Err, map, subst, ◌∙◌, ap, refl, inl, inr, ◌⊎◌, append-nil, FileSet, Put, Seen, PutsMake, whole_put, Refusal}
+use Rattle.engine.proofs.Common.{FlowModel, IsModel, made_files, made_name, Text, end_line, whole, Status, all_written, one_deck, AreDecks, one_valid, ListingEnd, AllSteps, listing, IsWhole, is_whole}
+use Rattle.engine.proofs.Common.{whole_listing, history_exists, history_is_one, VerdictIsOne, ListingOrder, Case, Run, Make, Check, Write, Listing, Making, Checking, case_of, listing_read, made_model}
+use Rattle.engine.proofs.Common.{read_by_name, task_of, zones_read, OneDeck, Defines, made_task, summed_text, OneSummary, IfOk, IsStopped, IsValid, Plain, Limits, ListingIsOne, ListingExcludesRefusal}
+use Rattle.engine.proofs.Common.{RefusalIsOne, Comparing, two, true, Second, most_bytes, with_limit, case_decks, span_task_of, deck_text, deck_reads, summary_of, summary_text, HeadlineOf, OneOf}
+use Rattle.engine.proofs.Common.{Wanted, AskedBatch, Batch, second_in, reads, Decks, Batched, case_read, OneListing, false, DifferenceIsOne, Appends, Bool, CheckText, IsSaid, OneDeckListing}
+use Rattle.engine.proofs.Common.{OneDeckSpan, OneSpan, RunHeadline, RunSpanHeadline, Task, Words, after_text, case_listed, concat, decks_text, words_text, zoned_text, ◌++◌, AreText, AskedText}
+use Rattle.engine.proofs.Common.{ListingVerdict, OneTextVerdict, IsVerdict, case_parts, case_rest, certified_line, file_at, is_some, option_map, pairs_in, sym, verdict_line, unwrap_or, StandsIn}
+use Rattle.engine.proofs.Common.{parts_text, steps_after, unlike, Part, ByDeck, AreReadAs, AskedCheck, AskedPlan, OnePlan, Plan, PlanListingIsOne, PlanListingsEnclose, PlanParts, Planning, parts_read}
+use Rattle.engine.proofs.Common.{planned_task, PlanChecking, PlanVerdict, as_plan, plan_steps_read, to_plan_check, CheckPlan, PlanVerdictIsOne}
 use Rattle.listing_io.specs.{text_of}
-use Rattle.engine.proofs.Certifying.{certified_and_one, is_certified}
-use Rattle.engine.proofs.Dues.{Delivers}
-use Rattle.engine.proofs.Labels.{listing_pairs, listing_times}
-use Rattle.engine.proofs.Readings.{named_read}
-use Rattle.engine.proofs.Spans.{span_checked, span_listed}
-use Rattle.engine.proofs.PlanChecks.{plan_checked}
-use Rattle.engine.proofs.Plans.{one_read_as, plan_listed, two_read_as}
-use Rattle.engine.proofs.DeckEnds.{to_check, to_list, to_plan, to_write}
-use Rattle.engine.proofs.Afters.{valid_after}
-use Rattle.engine.proofs.Texts.{lines_are_text, ended_after, said, steps_stated}
+use Rattle.engine.proofs.{Certifying.certified_and_one, Certifying.is_certified, Dues.Delivers, Labels.listing_pairs, Labels.listing_times, Readings.named_read, Spans.span_checked, Spans.span_listed}
+use Rattle.engine.proofs.{PlanChecks.plan_checked, Plans.one_read_as, Plans.plan_listed, Plans.two_read_as, DeckEnds.to_check, DeckEnds.to_list, DeckEnds.to_plan, DeckEnds.to_write}
+use Rattle.engine.proofs.{Afters.valid_after, Texts.lines_are_text, Texts.ended_after, Texts.said, Texts.steps_stated, Stating.first_part, Stating.grown, Stating.last_part, Stating.span_stated}
+use Rattle.engine.proofs.{Stating.stated}
 use Rattle.stated_text.proofs.Stands.{parts_stand_in_text}
-use Rattle.engine.proofs.Stating.{first_part, grown, last_part, span_stated, stated}
 unfoldable use Rattle.stated_text.specs.{parts_in}
 unfoldable use Rattle.listing_io.specs.{listing as rows_of}
 use Rattle.run_puts.specs.declared.puts.Status.TheVariants as status

@@ -1,13 +1,11 @@
 -- The public clauses, from all that a run comes to.
-use Rattle.engine.proofs.Common.{◌≡◌, List, Option, Ok, subst, sym, ◌∙◌, ap, refl, inl, inr, ◌⊎◌, FileSet, Rose, Put, Seen, PutsMake, Text, Agree, Status}
-use Rattle.engine.proofs.Common.{After, Saying, one_valid, Case, Listing, Making, Checking, Writing, CutOf, Defines, made_task, GoesWell, IsRunOf, IsStopped}
-use Rattle.engine.proofs.Common.{IsValid, Planning, Difference, Comparing, IsPlain, ReadsFolder, EndsOk, EndIsDefined, Wanted, Jobs, case_of, PlanChecking}
-use Rattle.engine.proofs.Certifying.{IsFault, certifies, check_is_no_fault, one_end, stopped_by_fault}
-use Rattle.engine.proofs.ListingEnds.{statuses_agree, goes_through, jobs_agree, jobs_end_ok, jobs_no_fault, listing_is_no_fault}
-use Rattle.engine.proofs.OkRuns.{Laws, valid_of}
-use Rattle.engine.proofs.PlanChecks.{one_plan_end, plan_certifies, plan_check_is_no_fault}
-use Rattle.engine.proofs.Plans.{plan_goes_through, plan_is_no_fault, plans_agree}
-use Rattle.engine.proofs.Dues.{Ended, read_failed, write_failed, run_ended, end_decided, end_comes}
+use Rattle.engine.proofs.Common.{◌≡◌, List, Option, Ok, subst, sym, ◌∙◌, ap, refl, inl, inr, ◌⊎◌, FileSet, Rose, Put, Seen, PutsMake, Text, Agree, Status, After, Saying, one_valid, Case, Listing}
+use Rattle.engine.proofs.Common.{Making, Checking, Writing, CutOf, Defines, made_task, GoesWell, IsRunOf, IsStopped, IsValid, Planning, Difference, Comparing, IsPlain, ReadsFolder, EndsOk}
+use Rattle.engine.proofs.Common.{EndIsDefined, Wanted, Jobs, case_of, PlanChecking}
+use Rattle.engine.proofs.{Certifying.IsFault, Certifying.certifies, Certifying.check_is_no_fault, Certifying.one_end, Certifying.stopped_by_fault, ListingEnds.statuses_agree, ListingEnds.goes_through}
+use Rattle.engine.proofs.{ListingEnds.jobs_agree, ListingEnds.jobs_end_ok, ListingEnds.jobs_no_fault, ListingEnds.listing_is_no_fault, OkRuns.Laws, OkRuns.valid_of, PlanChecks.one_plan_end}
+use Rattle.engine.proofs.{PlanChecks.plan_certifies, PlanChecks.plan_check_is_no_fault, Plans.plan_goes_through, Plans.plan_is_no_fault, Plans.plans_agree, Dues.Ended, Dues.read_failed}
+use Rattle.engine.proofs.{Dues.write_failed, Dues.run_ended, Dues.end_decided, Dues.end_comes}
 use Rattle.run_puts.specs.declared.puts.Status.TheVariants as status
 use Rattle.listing_run.specs.declared.text.ListingEnd.TheVariants as ends
 

@@ -1,12 +1,8 @@
 -- What a check of a plan's listing that ended Ok says, and that it has one end.
-use Rattle.engine.proofs.Common.{◌≡◌, ◌∙◌, ℕ, List, [], ◌∷◌, Ok, Option, ap, concat, refl, subst, sym, true, AreDecks, AreReadAs, AskedCheck, AskedPlan, Decks}
-use Rattle.engine.proofs.Common.{EnclosesPairs, FileSet, HaveOneHistory, PlanParts, PlanTask, Status, Text, certified_line, file_at, is_some, pairs_in}
-use Rattle.engine.proofs.Common.{parts_read, plan_task, planned_task, Appends, IsPlanCheck, PlanVerdict, as_plan, plan_steps_read, plan_verdict_line}
-use Rattle.engine.proofs.Common.{plan_verdict_status, place_of_plan, IsPlanTask, PlanListingVerdict, Refused, IsPlanVerdict, PlanVerdictIsOne, AreListedPlan}
-use Rattle.engine.proofs.Common.{ListedPlanStep}
-use Rattle.engine.proofs.Certifying.{IsFault}
-use Rattle.engine.proofs.Plans.{parts_are}
-use Rattle.engine.proofs.Readings.{named_read}
+use Rattle.engine.proofs.Common.{◌≡◌, ◌∙◌, ℕ, List, [], ◌∷◌, Ok, Option, ap, concat, refl, subst, sym, true, AreReadAs, AskedCheck, AskedPlan, Decks, EnclosesPairs, FileSet, HaveOneHistory, PlanParts}
+use Rattle.engine.proofs.Common.{PlanTask, Status, Text, certified_line, file_at, is_some, pairs_in, parts_read, plan_task, planned_task, Appends, IsPlanCheck, PlanVerdict, as_plan, plan_steps_read}
+use Rattle.engine.proofs.Common.{plan_verdict_line, plan_verdict_status, place_of_plan, IsPlanTask, PlanListingVerdict, Refused, IsPlanVerdict, PlanVerdictIsOne, AreListedPlan, ListedPlanStep}
+use Rattle.engine.proofs.{Certifying.IsFault, Plans.parts_are, Readings.named_read}
 use Rattle.plan_check.specs.declared.verdict.PlanListingVerdict.TheVariants.{Certified as Holds, Fails}
 use Rattle.run_puts.specs.declared.puts.Status.TheVariants as status
 

@@ -1,19 +1,16 @@
 -- What a run with a plan that ended Ok says.
-use Rattle.engine.proofs.Common.{[], ◌≡◌, ◌∷◌, ◌∙◌, ℕ, Err, List, None, Ok, Option, Result, Some, ap, map, refl, subst, Appends, FileSet, FlowModel}
-use Rattle.engine.proofs.Common.{AllListedSteps, AreDecks, AreReadAs, AskedPlan, Decks, EnclosesPairs, IsPlanListing, OnePlan, PlanListingsEnclose, PlanParts}
-use Rattle.engine.proofs.Common.{PlanTask, PlannedDecks, Refusal, Second, Status, Text, TimeStep, concat, end_line, file_at, one_deck, parts_read, plan_listing}
-use Rattle.engine.proofs.Common.{plan_task, planned_in, planned_task, read_by_name, reads, second_in, times, two, wells_read, zones_read, HaveOneHistory, ◌>>=◌}
-use Rattle.engine.proofs.Common.{Agree, inl, inr, sym, ListingEndsAt, StepsThen, decks_planned, heads_listed, PlanGoesThrough, All, false, IsDefinedEnd}
-use Rattle.engine.proofs.Common.{ListsMore, PlanListingIsOne, IsPlanTask, ListedPlanStep}
+use Rattle.engine.proofs.Common.{[], ◌≡◌, ◌∷◌, ◌∙◌, ℕ, Err, List, None, Ok, Option, Result, Some, ap, map, refl, subst, Appends, FileSet, FlowModel, AllListedSteps, AreDecks, AreReadAs, AskedPlan}
+use Rattle.engine.proofs.Common.{Decks, EnclosesPairs, IsPlanListing, OnePlan, PlanListingsEnclose, PlanParts, PlanTask, PlannedDecks, Refusal, Second, Status, Text, TimeStep, concat, end_line}
+use Rattle.engine.proofs.Common.{file_at, one_deck, parts_read, plan_listing, plan_task, planned_in, planned_task, read_by_name, reads, second_in, times, two, wells_read, zones_read, HaveOneHistory}
+use Rattle.engine.proofs.Common.{◌>>=◌, Agree, inl, inr, sym, ListingEndsAt, StepsThen, decks_planned, heads_listed, PlanGoesThrough, All, false, IsDefinedEnd, ListsMore, PlanListingIsOne, IsPlanTask}
+use Rattle.engine.proofs.Common.{ListedPlanStep}
 use Rattle.std.specs.Prelude.{length}
 use Rattle.model_types.specs.declared.entry.Entry.{Entry}
 use Rattle.plan_wells.specs.{plan_of}
-use Rattle.plan_chain.specs.declared.step.PlanHeads.{PlanHeads}
-use Rattle.plan_chain.specs.declared.walk.PlanEnd.{PlanEnd}
-use Rattle.plan_chain.specs.declared.walk.PlanEnd.TheVariants.{Whole, NoBound, Unfinished}
+use Rattle.plan_chain.specs.{declared.step.PlanHeads.PlanHeads, declared.walk.PlanEnd.PlanEnd, declared.walk.PlanEnd.TheVariants.Whole, declared.walk.PlanEnd.TheVariants.NoBound}
+use Rattle.plan_chain.specs.{declared.walk.PlanEnd.TheVariants.Unfinished}
 use Rattle.plan_run.specs.{last_line, status_of}
-use Rattle.engine.proofs.Certifying.{IsFault}
-use Rattle.engine.proofs.Readings.{named_read, second_parts}
+use Rattle.engine.proofs.{Certifying.IsFault, Readings.named_read, Readings.second_parts}
 use Rattle.run_puts.specs.declared.puts.Status.TheVariants as status
 
 -- no listing of a plan ends with a fault outside or for lack of memory

@@ -1,10 +1,9 @@
 -- What a reading gives, by the name and the files of the folder.
-use Rattle.engine.proofs.Common.{IsRefusedBy, ◌≡◌, ℕ, ◌≤◌, Bool, true, length, List, Option, None, Some, Result, Ok, Err, IfOk, sym, ap, refl, ◌∙◌, codes}
-use Rattle.engine.proofs.Common.{if◌then◌else◌, map, subst, ℤ, unsigned_abs, length-map, FileSet, IsReading, file_refusal, input_fault, IsGoodName}
-use Rattle.engine.proofs.Common.{is_good_name, InputFault, Refusal, Has, Stops, StopsText, FlowModel, IsModel, Text, ListedStep, AreZonesOf, ZonedListing}
-use Rattle.engine.proofs.Common.{read_by_name, Limits, not_alike, ◌>>=◌, model_of, one_deck, AreDecksAs, second_by, Second, of_both, of_first, of_second}
-use Rattle.engine.proofs.Common.{InputCounts, cell_count, AreDecks, Decks, AreDecksOf, IsNoSecond, IfErr, second_in, reads, ReadsOn, names_in, AreAlike, IfSome}
-use Rattle.engine.proofs.Common.{option_map, IsSecond, err_from_is_err_and, IsErrAnd, BadName, TextFault}
+use Rattle.engine.proofs.Common.{IsRefusedBy, ◌≡◌, ℕ, ◌≤◌, Bool, true, length, List, Option, None, Some, Result, Ok, Err, IfOk, sym, ap, refl, ◌∙◌, codes, if◌then◌else◌, map, subst, ℤ, unsigned_abs}
+use Rattle.engine.proofs.Common.{length-map, FileSet, IsReading, file_refusal, input_fault, IsGoodName, is_good_name, InputFault, Refusal, Has, Stops, StopsText, FlowModel, IsModel, Text, ListedStep}
+use Rattle.engine.proofs.Common.{AreZonesOf, ZonedListing, read_by_name, Limits, not_alike, ◌>>=◌, model_of, one_deck, AreDecksAs, second_by, Second, of_both, of_first, of_second, InputCounts}
+use Rattle.engine.proofs.Common.{cell_count, AreDecks, Decks, AreDecksOf, IsNoSecond, IfErr, second_in, reads, ReadsOn, names_in, AreAlike, IfSome, option_map, IsSecond, err_from_is_err_and, IsErrAnd}
+use Rattle.engine.proofs.Common.{BadName, TextFault}
 use Rattle.std.proofs.Common.{false, All}
 use Rattle.name_file.specs.Pairs.{Pairs}
 use Rattle.engine.specs.declared.two_decks.Second.{Second as SecondBy}

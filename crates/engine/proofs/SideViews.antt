@@ -1,9 +1,8 @@
 -- What a viewer that puts to a sink put in a run.
-use Rattle.engine.proofs.Common.{◌≡◌, ◌∙◌, ◌⊎◌, ℕ, List, [], true, false, Option, None, Some, ap, refl, Bool, inl, inr, sym, subst, is_some, Rose, Put}
-use Rattle.engine.proofs.Common.{PutsMake, Seen, SinkError, Bound, Entries, Edges, EnclosesPair, LeadOn, ViewPuts, no_lead, no_view, Task, ReachesFirst}
-use Rattle.engine.proofs.Common.{IsSettledBy, Reaches, RestsOrSettles, rests, settled, IsWatched, Shows, lines_of, TimeStep, times, begun, edges_by}
-use Rattle.outside.specs.declared.traits.SinkError.TheVariants.{Write}
-use Rattle.outside.specs.declared.traits.Sink.{Ghosts as SinkOf}
+use Rattle.engine.proofs.Common.{◌≡◌, ◌∙◌, ◌⊎◌, ℕ, List, [], true, false, Option, None, Some, ap, refl, Bool, inl, inr, sym, subst, is_some, Rose, Put, PutsMake, Seen, SinkError, Bound, Entries}
+use Rattle.engine.proofs.Common.{Edges, EnclosesPair, LeadOn, ViewPuts, no_lead, no_view, Task, ReachesFirst, IsSettledBy, Reaches, RestsOrSettles, rests, settled, IsWatched, Shows, lines_of}
+use Rattle.engine.proofs.Common.{TimeStep, times, begun, edges_by}
+use Rattle.outside.specs.{declared.traits.SinkError.TheVariants.Write, declared.traits.Sink.Ghosts as SinkOf}
 use Rattle.view_puts.specs.declared.viewer.SinkViewer.{SinkViewer}
 use Rattle.engine.proofs.Viewed.{is_watched, side_puts, side_rose}
 

@@ -1,11 +1,8 @@
 -- What a run of two decks, or the check of such a listing, that ended Ok says.
-use Rattle.engine.proofs.Common.{[], ◌≡◌, ℕ, List, ◌∷◌, Option, Ok, map, subst, ap, ◌∙◌, true, FileSet, Put, Seen, PutsMake, whole_put, FlowModel, ZonedListing}
-use Rattle.engine.proofs.Common.{Text, end_line, all_written, AreDecks, read_by_name, steps_read, zones_read, certified_line, ListingOrder, AskedCheck}
-use Rattle.engine.proofs.Common.{listing_read, span_task_of, IsCheck, verdict_line, ArePairOf, OneSpan, SpanVerdict, Second, second_in, listing, ListingIsOne}
-use Rattle.engine.proofs.Common.{have_one, IsWhole, Limits, two, ListingVerdict, IsVerdict, reads, Appends, concat}
-use Rattle.engine.proofs.Certifying.{is_certified}
-use Rattle.engine.proofs.Labels.{listing_pairs, listing_times}
-use Rattle.engine.proofs.Readings.{named_read, second_parts, zoned_parts}
+use Rattle.engine.proofs.Common.{[], ◌≡◌, ℕ, List, ◌∷◌, Option, Ok, map, subst, ap, ◌∙◌, true, FileSet, Put, Seen, PutsMake, whole_put, FlowModel, ZonedListing, Text, end_line, all_written, AreDecks}
+use Rattle.engine.proofs.Common.{read_by_name, steps_read, zones_read, certified_line, ListingOrder, AskedCheck, listing_read, span_task_of, IsCheck, verdict_line, ArePairOf, OneSpan, SpanVerdict}
+use Rattle.engine.proofs.Common.{Second, second_in, listing, ListingIsOne, have_one, IsWhole, Limits, two, ListingVerdict, IsVerdict, reads, Appends, concat}
+use Rattle.engine.proofs.{Certifying.is_certified, Labels.listing_pairs, Labels.listing_times, Readings.named_read, Readings.second_parts, Readings.zoned_parts}
 use Rattle.run_puts.specs.declared.puts.Status.TheVariants as status
 use Rattle.listing_run.specs.declared.text.ListingEnd.TheVariants as ends
 

@@ -1,12 +1,9 @@
 -- What stands between the bytes before a deck and those after its listing, and that a deck has the listing of the files that it was written from.
-use Rattle.engine.proofs.Common.{[], ◌≡◌, ◌≤◌, ◌++◌, ℕ, ℤ, Bool, List, ◌∷◌, Option, None, Some, Result, Ok, ap, sym, subst, ◌∙◌, append_assoc, All, length}
-use Rattle.engine.proofs.Common.{concat, FileSet, Refusal, FlowModel, Limits, Decks, Text, Step, Task, AllSteps, end_line, listing, one_deck, task_of}
-use Rattle.engine.proofs.Common.{deck_reads, deck_text, most_bytes, reads, two, with_limit, zones_read, start_head, Appends, File, deck_name, deck_files}
-use Rattle.engine.proofs.Common.{checked_task, BoundAll, BoundChoices, Bounds, deck_task, DeckAndListingAreStated, DecksAndListingAreStated}
-use Rattle.engine.proofs.Common.{SameModelHasSameListing, DeckHasSameListing, SameDeckHasSameModel, ListingOrder, option_map, refl, zoned_text, SpanStated}
-use Rattle.engine.proofs.Common.{Stated, Choice, step_from}
-use Rattle.engine.specs.Headline.{Headline}
-use Rattle.engine.specs.SpanHeadline.{SpanHeadline}
+use Rattle.engine.proofs.Common.{[], ◌≡◌, ◌≤◌, ◌++◌, ℕ, ℤ, Bool, List, ◌∷◌, Option, None, Some, Result, Ok, ap, sym, subst, ◌∙◌, append_assoc, All, length, concat, FileSet, Refusal, FlowModel, Limits}
+use Rattle.engine.proofs.Common.{Decks, Text, Step, Task, AllSteps, end_line, listing, one_deck, task_of, deck_reads, deck_text, most_bytes, reads, two, with_limit, zones_read, start_head, Appends}
+use Rattle.engine.proofs.Common.{File, deck_name, deck_files, checked_task, BoundAll, BoundChoices, Bounds, deck_task, DeckAndListingAreStated, DecksAndListingAreStated, SameModelHasSameListing}
+use Rattle.engine.proofs.Common.{DeckHasSameListing, SameDeckHasSameModel, ListingOrder, option_map, refl, zoned_text, SpanStated, Stated, Choice, step_from}
+use Rattle.engine.specs.{Headline.Headline, SpanHeadline.SpanHeadline}
 use Rattle.decimal_input.specs.{Fraction}
 use Rattle.flow_equations.specs.{exact_step, heads_of}
 use Rattle.cell_balance.specs.{ExactCell}

@@ -1,9 +1,8 @@
 -- The ends of the check of a text.
-use Rattle.engine.proofs.Common.{◌∷◌, [], ℕ, List, Err, Result, ap, inl, refl, Answers, AreAlike, Case, Comparing, Difference, InputCounts, IsReadingEnd, Put}
-use Rattle.engine.proofs.Common.{Refusal, Second, Status, input_fault, refused_line, StopsText, case_read, ReadsFolder, FlowModel, IsFirstDifference, AskedText}
-use Rattle.engine.proofs.Common.{Checking, None, Option, Some, case_parts, false, one_deck, pairs_in, TextFault, IsRefused, steps_after, Part}
-use Rattle.engine.proofs.Ends.{ends_unread, ends_without_words, lone_defined, read_reads}
-use Rattle.engine.proofs.Readings.{text_read}
+use Rattle.engine.proofs.Common.{◌∷◌, [], ℕ, List, Err, Result, ap, inl, refl, Answers, AreAlike, Case, Comparing, Difference, InputCounts, IsReadingEnd, Put, Refusal, Second, Status, input_fault}
+use Rattle.engine.proofs.Common.{refused_line, StopsText, case_read, ReadsFolder, FlowModel, IsFirstDifference, AskedText, Checking, None, Option, Some, case_parts, false, one_deck, pairs_in}
+use Rattle.engine.proofs.Common.{TextFault, IsRefused, steps_after, Part}
+use Rattle.engine.proofs.{Ends.ends_unread, Ends.ends_without_words, Ends.lone_defined, Ends.read_reads, Readings.text_read}
 use Rattle.outside.specs.declared.inputs.TextFault.TheVariants as texts
 use Rattle.run_puts.specs.declared.puts.Status.TheVariants as status
 

@@ -1,12 +1,10 @@
 -- The text that a run put is certified.
-use Rattle.engine.proofs.Common.{[], ◌≡◌, ◌≤◌, ◌<◌, ◌++◌, ◌∷◌, ◌∙◌, ℕ, ℤ, Bool, List, None, Ok, Err, Option, Some, Result, ap, append-nil, arith, inr}
-use Rattle.engine.proofs.Common.{length-map, map, refl, subst, sym, unsigned_abs, IfSome, option_map, is_some, concat, Appends, AskedText, ListingOrder}
-use Rattle.engine.proofs.Common.{order_of_words, AreDecks, Decks, one_deck, one_valid, two, FlowModel, Step, Task, Text, end_line, listing, ListedStep}
-use Rattle.engine.proofs.Common.{pairs_in, AreNumbers, FileSet, Refusal, AreItsSteps, Case, Defines, IsCheck, RunIsCertified, RunIsReadAgain, as_listed}
-use Rattle.engine.proofs.Common.{case_of, case_parts, case_read, case_rest, certified_line, have_one, reads, run_encloses, span_task_of, task_of, unit_is_short}
-use Rattle.engine.proofs.Common.{zoned_text, zones_read, Wanted, Part, OneDeckListing, OneDeckSpan, cell_count, AreAlike, ◌>>=◌, unwrap_or, text_of, ChecksText}
-use Rattle.engine.proofs.Common.{IsReadableText, OneSpanTextIsCertified, OneTextIsCertified, text_digits, read_writable, CanBeRead, ListingIsReadBack}
-use Rattle.engine.proofs.Common.{parts_text, nat_abs, ◌^◌, zones_of, numbers_small, zones_give, AreZones}
+use Rattle.engine.proofs.Common.{[], ◌≡◌, ◌≤◌, ◌<◌, ◌++◌, ◌∷◌, ◌∙◌, ℕ, ℤ, Bool, List, None, Ok, Err, Option, Some, Result, ap, append-nil, arith, inr, length-map, map, refl, subst, sym, unsigned_abs}
+use Rattle.engine.proofs.Common.{IfSome, option_map, is_some, concat, Appends, AskedText, ListingOrder, order_of_words, AreDecks, Decks, one_deck, one_valid, two, FlowModel, Step, Task, Text}
+use Rattle.engine.proofs.Common.{end_line, listing, ListedStep, pairs_in, AreNumbers, FileSet, Refusal, AreItsSteps, Case, Defines, IsCheck, RunIsCertified, RunIsReadAgain, as_listed, case_of}
+use Rattle.engine.proofs.Common.{case_parts, case_read, case_rest, certified_line, have_one, reads, run_encloses, span_task_of, task_of, unit_is_short, zoned_text, zones_read, Wanted, Part}
+use Rattle.engine.proofs.Common.{OneDeckListing, OneDeckSpan, cell_count, AreAlike, ◌>>=◌, unwrap_or, text_of, ChecksText, IsReadableText, OneSpanTextIsCertified, OneTextIsCertified, text_digits}
+use Rattle.engine.proofs.Common.{read_writable, CanBeRead, ListingIsReadBack, parts_text, nat_abs, ◌^◌, zones_of, numbers_small, zones_give, AreZones}
 use Rattle.engine.proofs.Written.{read_numbers, some_ok}
 use Rattle.check_run.specs.declared.verdict.ListingVerdict.TheVariants.{Certified as Holds}
 use Rattle.stated_text.proofs.ReadBack.{decks_are_read_back, listed_begins, rest_back}

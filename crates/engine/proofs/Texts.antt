@@ -1,14 +1,11 @@
 -- What a text says whose listing is certified.
-use Rattle.engine.proofs.Common.{[], ◌≡◌, ◌++◌, ◌∷◌, ◌∙◌, ◌⊎◌, ℕ, All, All-cons, All-nil, AllZip, Bool, List, None, Ok, Option, Some, ap, append-nil}
-use Rattle.engine.proofs.Common.{append_assoc, inl, inr, is_some, map, refl, subst, sym, true, false, if◌then◌else◌, codes, AreDecks, AreListed, Decks}
-use Rattle.engine.proofs.Common.{FlowModel, ListedStep, ListsPairs, ListingEncloses, Step, Task, TimeStep, checked_task, concat, decks_text, end_line, listing}
-use Rattle.engine.proofs.Common.{pairs_in, times, two, one_deck, zoned_text, HaveOneHistory, steps_of, IsListedAt, ended_line, first_line, step_lines}
-use Rattle.engine.proofs.Common.{onto_first, ◌==◌, ◌-◌, Err, Refusal, Result, ZonePair, listing_in, refusal, BadListing, is_current, later_by, steps_after}
-use Rattle.engine.proofs.Common.{AreText, SpanStated, Stated, text_of}
+use Rattle.engine.proofs.Common.{[], ◌≡◌, ◌++◌, ◌∷◌, ◌∙◌, ◌⊎◌, ℕ, All, All-cons, All-nil, AllZip, Bool, List, None, Ok, Option, Some, ap, append-nil, append_assoc, inl, inr, is_some, map, refl, subst}
+use Rattle.engine.proofs.Common.{sym, true, false, if◌then◌else◌, codes, AreDecks, AreListed, Decks, FlowModel, ListedStep, ListsPairs, ListingEncloses, Step, Task, TimeStep, checked_task, concat}
+use Rattle.engine.proofs.Common.{decks_text, end_line, listing, pairs_in, times, two, one_deck, zoned_text, HaveOneHistory, steps_of, IsListedAt, ended_line, first_line, step_lines, onto_first, ◌==◌}
+use Rattle.engine.proofs.Common.{◌-◌, Err, Refusal, Result, ZonePair, listing_in, refusal, BadListing, is_current, later_by, steps_after, AreText, SpanStated, Stated, text_of}
 use Rattle.listing_io.specs.{end_line as last_row, text_of as text}
-use Rattle.std.proofs.lemmas.Bool.{eqb-true}
+use Rattle.std.proofs.{lemmas.Bool.eqb-true, lemmas.List.Concat.flat_map-append}
 use Rattle.stated_text.proofs.ListedTexts.{listing_was}
-use Rattle.std.proofs.lemmas.List.Concat.{flat_map-append}
 unfoldable use Rattle.listing_io.specs.{all_step_lines, first_text, step_text, listing as rows_of}
 unfoldable use Rattle.outside.specs.{lines}
 

@@ -1,9 +1,8 @@
 -- What a viewer put to its sink, by what it was told and shown.
-use Rattle.engine.proofs.Common.{◌≡◌, ◌∙◌, ◌⊎◌, ℕ, ◌+◌, ◌*◌, ◌<◌, List, [], ◌∷◌, ◌++◌, length, map, Bool, true, Option, Some, None, inl, inr, ap, sym, subst}
-use Rattle.engine.proofs.Common.{refl, arith, is_some, append_assoc, append-nil, map-append, All-append, All-cons, All-nil, All-weaker, Rose, Put, PutsMake}
-use Rattle.engine.proofs.Common.{Seen, failed_put, whole_put, SinkError, Bound, Entries, Edges, TimeStep, AddsPhases, EnclosesPair, Text, failed, AreAllShown}
-use Rattle.engine.proofs.Common.{IsStopPut, LeadOn, ViewPuts, no_lead, Task, Step, IsStep, IsSettledBy, PairEncloses, Reaches, ReachesFirst, begun, rests}
-use Rattle.engine.proofs.Common.{settled, AreViews, AreWatched, ArePutInTurn, IsView, IsWatched, Shows, lines_of, edges_by, false, view_text, early_rose}
+use Rattle.engine.proofs.Common.{◌≡◌, ◌∙◌, ◌⊎◌, ℕ, ◌+◌, ◌*◌, ◌<◌, List, [], ◌∷◌, ◌++◌, length, map, Bool, true, Option, Some, None, inl, inr, ap, sym, subst, refl, arith, is_some, append_assoc}
+use Rattle.engine.proofs.Common.{append-nil, map-append, All-append, All-cons, All-nil, All-weaker, Rose, Put, PutsMake, Seen, failed_put, whole_put, SinkError, Bound, Entries, Edges, TimeStep}
+use Rattle.engine.proofs.Common.{AddsPhases, EnclosesPair, Text, failed, AreAllShown, IsStopPut, LeadOn, ViewPuts, no_lead, Task, Step, IsStep, IsSettledBy, PairEncloses, Reaches, ReachesFirst, begun}
+use Rattle.engine.proofs.Common.{rests, settled, AreViews, AreWatched, ArePutInTurn, IsView, IsWatched, Shows, lines_of, edges_by, false, view_text, early_rose}
 use Rattle.std.proofs.Common.{All}
 use Rattle.view_puts.proofs.Views.{lead_more}
 use Rattle.model_types.specs.{times as times_of}

@@ -1,14 +1,11 @@
 -- What a run wrote is certified.
-use Rattle.engine.proofs.Common.{[], ◌≡◌, ℕ, Bool, List, ◌∷◌, map, Option, None, Some, Result, Ok, Err, refl, sym, ap, ◌∙◌, subst, arith, ℤ, unsigned_abs}
-use Rattle.engine.proofs.Common.{concat, FileSet, Refusal, FlowModel, Wanted, order_of_words, pairs_in, AreNumbers, ListedStep, all_lines, listing_at}
-use Rattle.engine.proofs.Common.{or_bad_listing, one_valid, Text, end_line, IsListing, listing, IsWhole, whole_listing, ZonedListing, Case, Checking, case_of}
-use Rattle.engine.proofs.Common.{listing_read, steps_read, task_of, zones_read, IsCheck, certified_line, Defines, Limits, unit_is_short, IsReadable}
-use Rattle.engine.proofs.Common.{RunIsCertified, RunIsReadAgain, as_listed, Step, ChecksWritten, WrittenIsCertified, Task, reads, AreDecks, is_some, listing_in}
-use Rattle.engine.proofs.Common.{◌>>=◌, case_read, option_map, ListingOrder, Decks, read_by_name, OneSpan, span_task_of, have_one, AreItsSteps, OneListing}
-use Rattle.engine.proofs.Common.{run_encloses, zones_of, check_digits, numbers_small}
+use Rattle.engine.proofs.Common.{[], ◌≡◌, ℕ, Bool, List, ◌∷◌, map, Option, None, Some, Result, Ok, Err, refl, sym, ap, ◌∙◌, subst, arith, ℤ, unsigned_abs, concat, FileSet, Refusal, FlowModel, Wanted}
+use Rattle.engine.proofs.Common.{order_of_words, pairs_in, AreNumbers, ListedStep, all_lines, listing_at, or_bad_listing, one_valid, Text, end_line, IsListing, listing, IsWhole, whole_listing}
+use Rattle.engine.proofs.Common.{ZonedListing, Case, Checking, case_of, listing_read, steps_read, task_of, zones_read, IsCheck, certified_line, Defines, Limits, unit_is_short, IsReadable}
+use Rattle.engine.proofs.Common.{RunIsCertified, RunIsReadAgain, as_listed, Step, ChecksWritten, WrittenIsCertified, Task, reads, AreDecks, is_some, listing_in, ◌>>=◌, case_read, option_map}
+use Rattle.engine.proofs.Common.{ListingOrder, Decks, read_by_name, OneSpan, span_task_of, have_one, AreItsSteps, OneListing, run_encloses, zones_of, check_digits, numbers_small}
 use Rattle.check_run.specs.declared.verdict.ListingVerdict.TheVariants.{Certified as Holds}
-use Rattle.engine.proofs.Readings.{decks_read, named_read}
-use Rattle.engine.proofs.DeckEnds.{case_within, to_check, within_defines}
+use Rattle.engine.proofs.{Readings.decks_read, Readings.named_read, DeckEnds.case_within, DeckEnds.to_check, DeckEnds.within_defines}
 use Rattle.run_puts.specs.declared.puts.Status.TheVariants as status
 use Rattle.listing_run.specs.declared.text.ListingEnd.TheVariants as ends
 

@@ -1,12 +1,9 @@
 -- What the reading of a batch returns.
 use Rattle.std.specs.Prelude.{ℕ, List, Result, Ok, Err, IfOk, All}
-use Rattle.std.specs.declared.vec.Vec.{Vec}
-use Rattle.std.specs.declared.alloc.Global.{Global}
-use Rattle.outside.specs.{FileSet, IsReading}
-use Rattle.outside.specs.declared.inputs.InputFault.{InputFault}
+use Rattle.std.specs.{declared.vec.Vec.Vec, declared.alloc.Global.Global}
+use Rattle.outside.specs.{FileSet, IsReading, declared.inputs.InputFault.InputFault}
 use Rattle.listing_run.specs.{IsTask}
-use Rattle.engine.specs.declared.job.Job.{Job}
-use Rattle.engine.specs.Cases.{jobs_read, names_read}
+use Rattle.engine.specs.{declared.job.Job.Job, Cases.jobs_read, Cases.names_read}
 use Rattle.command_line.specs.{AskedBatch}
 use Rattle.outside.specs.declared.inputs.InputFault.TheVariants as input
 

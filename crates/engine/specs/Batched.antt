@@ -1,24 +1,16 @@
 -- The headline of a batch: of each listing among its texts.
 use Rattle.std.specs.Prelude.{◌≡◌, ℕ, ℤ, All, List, map, false, [], ◌∷◌, ◌++◌, Ok, Err, Option}
-use Rattle.std.specs.List.{AllZip, concat}
-use Rattle.std.specs.Io.KnownBytes.{Appends}
-use Rattle.outside.specs.{FileSet}
-use Rattle.outside.specs.declared.inputs.Refusal.{Refusal}
-use Rattle.model_types.specs.declared.model.FlowModel.{FlowModel}
-use Rattle.model_types.specs.{start_head, times, IsModel}
+use Rattle.std.specs.{List.AllZip, List.concat, Io.KnownBytes.Appends}
+use Rattle.outside.specs.{FileSet, declared.inputs.Refusal.Refusal}
+use Rattle.model_types.specs.{declared.model.FlowModel.FlowModel, start_head, times, IsModel}
 use Rattle.model_reader.specs.{reads}
 use Rattle.flow_equations.specs.{Solves}
-use Rattle.run_puts.specs.{Text, end_line, first_not_ok, texts}
-use Rattle.run_puts.specs.declared.puts.Status.{Status}
+use Rattle.run_puts.specs.{Text, end_line, first_not_ok, texts, declared.puts.Status.Status, declared.job_end.JobEnd.JobEnd}
 use Rattle.run_puts.specs.declared.puts.Status.TheVariants as status
-use Rattle.listing_run.specs.declared.solving.Step.{Step}
-use Rattle.listing_run.specs.declared.text.ListingEnd.TheVariants.{Whole}
-use Rattle.listing_run.specs.{AllSteps, listing, BoundAll}
+use Rattle.listing_run.specs.{declared.solving.Step.Step, declared.text.ListingEnd.TheVariants.Whole, AllSteps, listing, BoundAll}
 use Rattle.exact_histories.specs.{HasHistory, AreSame}
-use Rattle.run_puts.specs.declared.job_end.JobEnd.{JobEnd}
 use Rattle.command_line.specs.{AskedBatch}
-use Rattle.engine.specs.Cases.{job_of, job_task, names_read}
-use Rattle.engine.specs.Defined.{IsJobEnd, model_line}
+use Rattle.engine.specs.{Cases.job_of, Cases.job_task, Cases.names_read, Defined.IsJobEnd, Defined.model_line}
 
 -- The text of a name is a listing that its files define, and without --quick the one; and every history of heads that solves
 -- the manual's exact equations of these files lies, step by step and cell by cell, between its heads, with each of its budget

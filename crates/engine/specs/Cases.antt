@@ -1,47 +1,31 @@
 -- The case of a run: what its words and files define.
 use Rattle.std.specs.Prelude.{◌≡◌, ℕ, Bool, true, false, List, [], ◌++◌, map, Result, Ok, Err, IfOk, Option, Some, None, codes, if◌then◌else◌, option_map}
 use Rattle.std.specs.Prelude.{is_some, unsigned_abs}
-use Rattle.outside.specs.{FileSet, with_limit, file_at, file_refusal, is_good_name}
+use Rattle.outside.specs.{FileSet, with_limit, file_at, file_refusal, is_good_name, declared.codes.Code.TheVariants.BadName, declared.inputs.Refusal.Refusal}
 use Rattle.record_lines.specs.{◌>>=◌}
-use Rattle.model_types.specs.{most_bytes}
-use Rattle.outside.specs.declared.codes.Code.TheVariants.{BadName}
-use Rattle.outside.specs.declared.inputs.Refusal.{Refusal}
+use Rattle.model_types.specs.{most_bytes, declared.limits.Limits.Limits, declared.limits.Limits.TheVariants.Plain, declared.model.FlowModel.FlowModel}
 use Rattle.command_line.specs.{ListingOrder, AskedBatch, AskedCheck, AskedPlan, AskedText, Batch, Check, CheckPlan, CheckText, Make, Plan, Run, Wanted, Words}
-use Rattle.command_line.specs.{Write, wanted_by}
-use Rattle.command_line.specs.declared.order.Order.{Order}
-use Rattle.command_line.specs.declared.order.WordsFault.{WordsFault}
+use Rattle.command_line.specs.{Write, wanted_by, declared.order.Order.Order, declared.order.WordsFault.WordsFault}
 use Rattle.command_line.specs.declared.order.WordsFault.TheVariants as fault
-use Rattle.model_types.specs.declared.limits.Limits.{Limits}
-use Rattle.model_types.specs.declared.limits.Limits.TheVariants.{Plain}
-use Rattle.model_types.specs.declared.model.FlowModel.{FlowModel}
 use Rattle.model_reader.specs.{reads}
 use Rattle.model_text.specs.{zoned_text}
 use Rattle.zone_file.specs.{zones_of}
 use Rattle.model_maker.specs.{made_files, made_name}
 use Rattle.zone_pairs.specs.{pairs_in}
-use Rattle.listing_io.specs.declared.listing.ListedStep.{ListedStep}
-use Rattle.listing_io.specs.{listing_in}
+use Rattle.listing_io.specs.{declared.listing.ListedStep.ListedStep, listing_in}
 use Rattle.run_puts.specs.{Text}
-use Rattle.listing_run.specs.declared.steps.Task.{Task}
+use Rattle.listing_run.specs.{declared.steps.Task.Task, deck_task, one_task}
 use Rattle.deck_span.specs.{AreAlike}
-use Rattle.deck_problems.specs.declared.decks.Decks.{Decks}
-use Rattle.deck_problems.specs.{one_deck}
+use Rattle.deck_problems.specs.{declared.decks.Decks.Decks, one_deck}
 use Rattle.step_chain.specs.{two}
-use Rattle.listing_run.specs.{deck_task, one_task}
 use Rattle.batch_list.specs.{names_in}
-use Rattle.stated_text.specs.{steps_after, unlike}
+use Rattle.stated_text.specs.{steps_after, unlike, declared.part.Part.Part}
 unfoldable use Rattle.stated_text.specs.{parts_in}
-use Rattle.stated_text.specs.declared.part.Part.{Part}
-use Rattle.engine.specs.declared.job.Job.{Job}
-use Rattle.engine.specs.declared.plan_parts.PlanParts.{PlanParts}
-use Rattle.engine.specs.declared.zoned.ZonedListing.{ZonedListing}
+use Rattle.engine.specs.{declared.job.Job.Job, declared.plan_parts.PlanParts.PlanParts, declared.zoned.ZonedListing.ZonedListing, TwoDecks.Second}
+use Rattle.engine.specs.{TwoDecks.second_in, Words.words_text}
 use Rattle.plan_chain.specs.declared.step.PlanTask.{PlanTask}
-use Rattle.plan_listing.specs.{plan_listing_in}
-use Rattle.plan_listing.specs.declared.listing.ListedPlanStep.{ListedPlanStep}
-use Rattle.plan_run.specs.{planned_in}
-use Rattle.plan_run.specs.declared.decks.PlannedDecks.{PlannedDecks}
-use Rattle.engine.specs.TwoDecks.{Second, second_in}
-use Rattle.engine.specs.Words.{words_text}
+use Rattle.plan_listing.specs.{plan_listing_in, declared.listing.ListedPlanStep.ListedPlanStep}
+use Rattle.plan_run.specs.{planned_in, declared.decks.PlannedDecks.PlannedDecks}
 
 -- the order for one model: none if it is for a batch
 abbrev pub but_batch : Option Wanted → Option Wanted

@@ -3,8 +3,7 @@ use Rattle.std.specs.Prelude.{◌≡◌, ℕ, ℤ, false, List, Ok, Option}
 use Rattle.std.specs.Io.KnownBytes.{Appends}
 use Rattle.command_line.specs.{AskedCheck}
 use Rattle.outside.specs.{FileSet}
-use Rattle.model_types.specs.declared.model.FlowModel.{FlowModel}
-use Rattle.model_types.specs.{start_head, times, IsModel}
+use Rattle.model_types.specs.{declared.model.FlowModel.FlowModel, start_head, times, IsModel}
 use Rattle.model_reader.specs.{reads}
 use Rattle.flow_equations.specs.{Solves}
 use Rattle.listing_io.specs.declared.listing.ListedStep.{ListedStep}
@@ -12,8 +11,7 @@ use Rattle.listing_run.specs.{BoundAll}
 use Rattle.deck_problems.specs.{one_deck}
 use Rattle.check_run.specs.{checked_task, steps_of}
 use Rattle.exact_histories.specs.{HasHistory, AreSame}
-use Rattle.engine.specs.Cases.{steps_read, zones_read}
-use Rattle.engine.specs.Checked.{certified_line}
+use Rattle.engine.specs.{Cases.steps_read, Cases.zones_read, Checked.certified_line}
 
 -- A check that was asked for so, over these files, that ended Ok, where a sink had the bytes `old` before it and `new` after
 -- it: the files have a listing, whoever wrote it, and every history of heads that solves the manual's exact equations

@@ -1,17 +1,14 @@
 -- How a check ends, and with which line.
 use Rattle.std.specs.Prelude.{◌≡◌, ℕ, List, [], ◌∷◌, codes}
-use Rattle.model_types.specs.declared.grid.Grid.{Grid}
-use Rattle.model_types.specs.declared.limits.Limits.{Limits}
+use Rattle.model_types.specs.{declared.grid.Grid.Grid, declared.limits.Limits.Limits}
 use Rattle.deck_problems.specs.declared.decks.Decks.{Decks}
 use Rattle.listing_io.specs.{no_bound_line, not_certified_line}
-use Rattle.run_puts.specs.{Text}
-use Rattle.run_puts.specs.declared.puts.Status.{Status}
+use Rattle.run_puts.specs.{Text, declared.puts.Status.Status}
 use Rattle.run_puts.specs.declared.puts.Status.TheVariants as status
 use Rattle.engine.specs.declared.zoned.ZonedListing.{ZonedListing}
-use Rattle.check_run.specs.declared.verdict.ListingVerdict.{ListingVerdict}
-use Rattle.check_run.specs.declared.verdict.ListingVerdict.TheVariants.{Certified, Fails, Refused}
+use Rattle.check_run.specs.{declared.verdict.ListingVerdict.ListingVerdict, declared.verdict.ListingVerdict.TheVariants.Certified}
+use Rattle.check_run.specs.{declared.verdict.ListingVerdict.TheVariants.Fails, declared.verdict.ListingVerdict.TheVariants.Refused, IsVerdict, ListingEncloses}
 use Rattle.exact_histories.specs.{HaveOneHistory}
-use Rattle.check_run.specs.{IsVerdict, ListingEncloses}
 
 abbrev pub certified_line : Text
 certified_line = codes "CERTIFIED\n"

@@ -1,15 +1,12 @@
 -- The headline of a run with --deck.
-use Rattle.std.specs.Prelude.{ℕ, List, Option, Some, ◌++◌}
+use Rattle.std.specs.Prelude.{ℕ, List, Option, ◌++◌}
 use Rattle.std.specs.Io.KnownBytes.{Appends}
 use Rattle.command_line.specs.{ListingOrder}
 use Rattle.outside.specs.{FileSet}
 use Rattle.model_text.specs.{zoned_text, IsReadAgain}
 use Rattle.run_puts.specs.{Text}
-use Rattle.engine.specs.Cases.{span_task_of, task_of}
-use Rattle.engine.specs.Headline.{Headline}
-use Rattle.engine.specs.OneListing.{AreItsSteps}
-use Rattle.engine.specs.SpanHeadline.{SpanHeadline}
-use Rattle.engine.specs.Stated.{SpanStated, Stated}
+use Rattle.engine.specs.{Cases.span_task_of, Cases.task_of, Headline.Headline, OneListing.AreItsSteps, SpanHeadline.SpanHeadline, Stated.SpanStated}
+use Rattle.engine.specs.{Stated.Stated}
 
 -- A run that was asked for so, with --deck, over these files, that ended Ok, where a sink had the bytes `old` before it and `new` after
 -- it, has written the deck of the model that the files read as, with the zones of its cells, up to the bytes `mid`; and then what a run

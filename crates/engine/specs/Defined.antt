@@ -4,20 +4,14 @@ use Rattle.std.specs.List.{concat}
 use Rattle.outside.specs.declared.inputs.Refusal.{Refusal}
 use Rattle.command_line.specs.{usage_line}
 use Rattle.listing_io.specs.{refused_line}
-use Rattle.run_puts.specs.{Text, read_fault_line, IsBatch}
-use Rattle.run_puts.specs.declared.puts.Status.{Status}
+use Rattle.run_puts.specs.{Text, read_fault_line, IsBatch, declared.puts.Status.Status, declared.job_end.JobEnd.JobEnd}
 use Rattle.run_puts.specs.declared.puts.Status.TheVariants as status
-use Rattle.listing_run.specs.declared.steps.Task.{Task}
-use Rattle.run_puts.specs.declared.job_end.JobEnd.{JobEnd}
-use Rattle.engine.specs.declared.job.Job.{Job}
-use Rattle.listing_run.specs.{IsListing, IsCutListing}
+use Rattle.listing_run.specs.{declared.steps.Task.Task, IsListing, IsCutListing}
+use Rattle.engine.specs.{declared.job.Job.Job, Cases.Case, Cases.NoWords, Cases.Refuses, Cases.Listing, Cases.Planning, Cases.Making, Cases.Checking}
+use Rattle.engine.specs.{Cases.PlanChecking, Cases.Jobs, Cases.Writing, Cases.Saying, Cases.After, Cases.Comparing, TwoDecks.IsUnlike, Made.IsMade}
+use Rattle.engine.specs.{Checked.IsCheck, PlanChecked.IsPlanCheck}
 use Rattle.plan_run.specs.{IsCutPlanListing, IsPlanListing}
-use Rattle.engine.specs.Cases.{Case, NoWords, Refuses, Listing, Planning, Making, Checking, PlanChecking, Jobs, Writing, Saying, After, Comparing}
 use Rattle.deck_span.specs.{AreAlike}
-use Rattle.engine.specs.TwoDecks.{IsUnlike}
-use Rattle.engine.specs.Made.{IsMade}
-use Rattle.engine.specs.Checked.{IsCheck}
-use Rattle.engine.specs.PlanChecked.{IsPlanCheck}
 use Rattle.model_text.specs.{deck_text}
 
 -- a refusal has this end and these pieces: its line

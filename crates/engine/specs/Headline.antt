@@ -1,17 +1,14 @@
 -- The headline.
 use Rattle.std.specs.Prelude.{◌≡◌, ℕ, ℤ, All, List, map, Ok, Option}
-use Rattle.std.specs.List.{concat}
-use Rattle.std.specs.Io.KnownBytes.{Appends}
+use Rattle.std.specs.{List.concat, Io.KnownBytes.Appends}
 use Rattle.command_line.specs.{ListingOrder}
 use Rattle.outside.specs.{FileSet}
-use Rattle.model_types.specs.declared.model.FlowModel.{FlowModel}
-use Rattle.model_types.specs.{start_head, times, IsModel}
+use Rattle.model_types.specs.{declared.model.FlowModel.FlowModel, start_head, times, IsModel}
 use Rattle.model_reader.specs.{reads}
 use Rattle.flow_equations.specs.{Solves}
 use Rattle.run_puts.specs.{end_line}
 use Rattle.zone_pairs.specs.{pairs_in, zones_of_flow}
-use Rattle.listing_run.specs.declared.solving.Step.{Step}
-use Rattle.listing_run.specs.{listing, BoundAll}
+use Rattle.listing_run.specs.{declared.solving.Step.Step, listing, BoundAll}
 use Rattle.exact_histories.specs.{HasHistory, AreSame}
 use Rattle.engine.specs.Cases.{task_of, zones_read}
 

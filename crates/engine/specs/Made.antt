@@ -1,26 +1,19 @@
 -- A model that is made from a seed: the end and the pieces of its run.
-use Rattle.outside.specs.{with_limit}
-use Rattle.model_types.specs.{most_bytes, start_head, IsModel}
+use Rattle.outside.specs.{with_limit, declared.inputs.Refusal.Refusal}
+use Rattle.model_types.specs.{most_bytes, start_head, IsModel, declared.limits.Limits.TheVariants.Plain, declared.grid.Grid.Grid}
+use Rattle.model_types.specs.{declared.model.FlowModel.FlowModel}
 use Rattle.std.specs.Prelude.{◌≡◌, ℕ, ℤ, false, List, [], ◌∷◌, Ok, Err, Option, None, Result}
 use Rattle.std.specs.Io.KnownBytes.{Appends}
-use Rattle.outside.specs.declared.inputs.Refusal.{Refusal}
-use Rattle.model_types.specs.declared.limits.Limits.TheVariants.{Plain}
-use Rattle.model_types.specs.declared.grid.Grid.{Grid}
-use Rattle.model_types.specs.declared.model.FlowModel.{FlowModel}
 use Rattle.model_maker.specs.{made_files, made_name}
 use Rattle.model_reader.specs.{reads}
 use Rattle.flow_equations.specs.{Solves}
 use Rattle.listing_io.specs.{refused_line}
-use Rattle.run_puts.specs.{Text}
-use Rattle.run_puts.specs.declared.puts.Status.{Status}
+use Rattle.run_puts.specs.{Text, declared.puts.Status.Status}
 use Rattle.run_puts.specs.declared.puts.Status.TheVariants as status
-use Rattle.listing_run.specs.declared.text.ListingEnd.{ListingEnd}
+use Rattle.listing_run.specs.{declared.text.ListingEnd.ListingEnd, declared.steps.Task.Task, declared.solving.Step.Step, BoundAll, IsListing, last_line}
+use Rattle.listing_run.specs.{one_task}
 use Rattle.listing_run.specs.declared.text.ListingEnd.TheVariants as ends
-use Rattle.listing_run.specs.declared.steps.Task.{Task}
-use Rattle.listing_run.specs.declared.solving.Step.{Step}
-use Rattle.listing_run.specs.{BoundAll, IsListing, last_line, one_task}
-use Rattle.listing_summary.specs.declared.summary.Summary.{Summary}
-use Rattle.listing_summary.specs.{summary_of, summary_text}
+use Rattle.listing_summary.specs.{declared.summary.Summary.Summary, summary_of, summary_text}
 use Rattle.exact_histories.specs.{HasHistory, AreSame}
 
 -- the task of its listing, with the digits and the rounds of a run without options

@@ -2,17 +2,10 @@
 use Rattle.std.specs.Prelude.{◌≡◌, ℕ, false, List, Option}
 use Rattle.outside.specs.{FileSet}
 use Rattle.command_line.specs.{ListingOrder, AskedCheck}
-use Rattle.listing_run.specs.declared.solving.Step.{Step}
-use Rattle.listing_run.specs.declared.text.ListingEnd.TheVariants.{Whole}
-use Rattle.listing_run.specs.declared.steps.Task.{Task}
-use Rattle.listing_run.specs.{AllSteps, EnclosesHistories}
-use Rattle.check_run.specs.declared.verdict.ListingVerdict.TheVariants.{Certified as Holds}
+use Rattle.listing_run.specs.{declared.solving.Step.Step, declared.text.ListingEnd.TheVariants.Whole, declared.steps.Task.Task, AllSteps, EnclosesHistories}
+use Rattle.check_run.specs.{declared.verdict.ListingVerdict.TheVariants.Certified as Holds, IsVerdict}
 use Rattle.deck_problems.specs.{one_deck}
-use Rattle.check_run.specs.{IsVerdict}
-use Rattle.engine.specs.Cases.{task_of}
-use Rattle.engine.specs.Certified.{Certified}
-use Rattle.engine.specs.Headline.{Headline}
-use Rattle.engine.specs.Made.{Made, made_task}
+use Rattle.engine.specs.{Cases.task_of, Certified.Certified, Headline.Headline, Made.Made, Made.made_task}
 
 -- All time steps of a task have these values, which are heads, budgets and flows between zones, each step by a pair that is a certificate;
 -- without --quick no others; and they enclose its histories.

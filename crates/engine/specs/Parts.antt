@@ -1,41 +1,27 @@
 -- What the parts of a run return and put.
-use Rattle.std.specs.Prelude.{◌≡◌, ◌⊎◌, ℕ, Bool, List, [], ◌∷◌, Result, Ok, Err, Option, Some, None, true, false, IfOk, codes, option_map, All}
-use Rattle.outside.specs.{Rose, Put, FileSet, file_refusal}
+use Rattle.std.specs.Prelude.{◌≡◌, ◌⊎◌, ℕ, Bool, List, [], ◌∷◌, Result, Ok, Err, Option, Some, None, true, false, IfOk, option_map, All}
+use Rattle.outside.specs.{Rose, Put, FileSet, declared.inputs.InputFault.InputFault, declared.inputs.Refusal.Refusal}
 use Rattle.command_line.specs.{AskedPlan, ListingOrder, Run, Wanted}
-use Rattle.outside.specs.declared.codes.Code.TheVariants.{BadName}
-use Rattle.outside.specs.declared.inputs.InputFault.{InputFault}
-use Rattle.outside.specs.declared.inputs.Refusal.{Refusal}
 use Rattle.outside.specs.declared.inputs.InputFault.TheVariants as input
-use Rattle.model_types.specs.declared.limits.Limits.{Limits}
-use Rattle.model_types.specs.declared.model.FlowModel.{FlowModel}
-use Rattle.model_types.specs.{IsModel}
+use Rattle.model_types.specs.{declared.limits.Limits.Limits, declared.model.FlowModel.FlowModel, IsModel}
 use Rattle.model_reader.specs.{reads}
 use Rattle.listing_io.specs.{AreListed, refused_line}
 use Rattle.zone_pairs.specs.{pairs_in, AreZones}
-use Rattle.engine.specs.declared.zoned.ZonedListing.{ZonedListing}
-use Rattle.deck_problems.specs.{AreDecks}
-use Rattle.deck_problems.specs.declared.decks.Decks.{Decks}
-use Rattle.deck_span.specs.{AreAlike, IsFirstDifference}
-use Rattle.engine.specs.declared.two_decks.Second.{Second as SecondBy}
-use Rattle.engine.specs.TwoDecks.{AreDecksRead, Second, not_alike, second_in}
-use Rattle.deck_span.specs.declared.difference.Difference.{Difference}
+use Rattle.engine.specs.{declared.zoned.ZonedListing.ZonedListing, declared.two_decks.Second.Second as SecondBy, TwoDecks.AreDecksRead, TwoDecks.Second}
+use Rattle.engine.specs.{TwoDecks.not_alike, TwoDecks.second_in, Cases.After, Cases.Case, Cases.Listing, Cases.Making, Cases.Checking, Cases.Jobs}
+use Rattle.engine.specs.{Cases.PlanChecking, Cases.Planning, Cases.Writing, Cases.Comparing, Cases.case_planned, Cases.decks_task, Cases.parts_read}
+use Rattle.engine.specs.{Cases.case_of, Cases.planned_task, Cases.read_by_name, Cases.zones_read, declared.plan_parts.PlanParts.PlanParts, Defined.Defines}
+use Rattle.engine.specs.{Defined.ReadsFolder, Uses.FolderUse, Uses.SinkUse, Uses.failed_write, declared.job.Job.Job, Runs.IsRunOf, Watched.SidePuts}
+use Rattle.engine.specs.{Watched.Watched, Watched.views_in}
+use Rattle.deck_problems.specs.{AreDecks, declared.decks.Decks.Decks}
+use Rattle.deck_span.specs.{AreAlike, IsFirstDifference, declared.difference.Difference.Difference}
 use Rattle.step_chain.specs.{two}
-use Rattle.run_puts.specs.{IsEnd, IsLast, IsPut, EndsOutOfMemory, Text, read_fault_line}
-use Rattle.run_puts.specs.declared.puts.Status.{Status}
+use Rattle.run_puts.specs.{IsEnd, IsLast, IsPut, EndsOutOfMemory, Text, read_fault_line, declared.puts.Status.Status}
 use Rattle.run_puts.specs.declared.puts.Status.TheVariants as status
-use Rattle.engine.specs.Cases.{After, Case, Listing, Making, Checking, Jobs, PlanChecking, Planning, Writing, Comparing, case_planned, decks_task, parts_read}
-use Rattle.engine.specs.Cases.{case_of, planned_task, read_by_name, zones_read}
-use Rattle.engine.specs.declared.plan_parts.PlanParts.{PlanParts}
-use Rattle.plan_chain.specs.{IsPlanTask}
+use Rattle.plan_chain.specs.{IsPlanTask, declared.step.PlanTask.PlanTask}
 use Rattle.plan_listing.specs.{AreListedPlan}
-use Rattle.plan_chain.specs.declared.step.PlanTask.{PlanTask}
 use Rattle.plan_run.specs.{IsPlannedBy}
-use Rattle.engine.specs.Defined.{Defines, ReadsFolder}
 use Rattle.listing_run.specs.declared.steps.Task.{Task}
-use Rattle.engine.specs.Uses.{FolderUse, SinkUse, failed_write}
-use Rattle.engine.specs.declared.job.Job.{Job}
-use Rattle.engine.specs.Runs.{IsRunOf}
-use Rattle.engine.specs.Watched.{SidePuts, Watched, views_in}
 
 -- the puts of an end because of this fault of reading
 abbrev pub IsReadingEnd : InputFault → Status → List Put → Type 0

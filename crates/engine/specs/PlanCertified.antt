@@ -10,12 +10,9 @@ use Rattle.plan_wells.specs.{plan_of}
 use Rattle.plan_chain.specs.{decks_with}
 use Rattle.plan_listing.specs.declared.listing.ListedPlanStep.{ListedPlanStep}
 use Rattle.plan_run.specs.{EnclosesPairs}
-use Rattle.plan_check.specs.declared.verdict.PlanListingVerdict.TheVariants.{Certified as Holds}
-use Rattle.plan_check.specs.{IsPlanVerdict}
+use Rattle.plan_check.specs.{declared.verdict.PlanListingVerdict.TheVariants.Certified as Holds, IsPlanVerdict}
 use Rattle.run_puts.specs.{Text}
-use Rattle.engine.specs.Cases.{as_plan, plan_steps_read, zones_read}
-use Rattle.engine.specs.Checked.{certified_line}
-use Rattle.engine.specs.PlanHeadline.{AreReadAs, plan_task}
+use Rattle.engine.specs.{Cases.as_plan, Cases.plan_steps_read, Cases.zones_read, Checked.certified_line, PlanHeadline.AreReadAs, PlanHeadline.plan_task}
 
 -- A check of a plan's listing that was asked for so, over these files, that ended Ok, where a sink had the bytes `old` before it and `new` after it: the
 -- files have a listing of what a plan's wells do, whoever wrote it, and every two histories of heads that solve the manual's exact equations, the one of

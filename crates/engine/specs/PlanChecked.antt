@@ -1,21 +1,17 @@
 -- How a check of a plan's listing ends, and with which line.
 use Rattle.std.specs.Prelude.{◌≡◌, List, [], ◌∷◌}
-use Rattle.step_problem.specs.declared.place.Dir.TheVariants.{In}
-use Rattle.step_problem.specs.declared.place.Place.{Place}
+use Rattle.step_problem.specs.{declared.place.Dir.TheVariants.In, declared.place.Place.Place}
 use Rattle.step_problem.specs.declared.place.Place.TheVariants as place
 use Rattle.model_types.specs.declared.grid.Grid.{Grid}
 use Rattle.exact_histories.specs.{HaveOneHistory}
 use Rattle.plan_chain.specs.declared.step.PlanTask.{PlanTask}
 unfoldable use Rattle.plan_listing.specs.{plan_no_bound_line, plan_not_certified_line}
-use Rattle.plan_listing.specs.declared.last_lines.PlanPlace.{PlanPlace}
+use Rattle.plan_listing.specs.{declared.last_lines.PlanPlace.PlanPlace, declared.listing.ListedPlanStep.ListedPlanStep}
 use Rattle.plan_listing.specs.declared.last_lines.PlanPlace.TheVariants as places
-use Rattle.plan_listing.specs.declared.listing.ListedPlanStep.{ListedPlanStep}
 use Rattle.plan_run.specs.{EnclosesPairs}
-use Rattle.plan_check.specs.{IsPlanVerdict}
-use Rattle.plan_check.specs.declared.verdict.PlanListingVerdict.{PlanListingVerdict}
-use Rattle.plan_check.specs.declared.verdict.PlanListingVerdict.TheVariants.{Certified, Fails, Refused}
-use Rattle.run_puts.specs.{Text}
-use Rattle.run_puts.specs.declared.puts.Status.{Status}
+use Rattle.plan_check.specs.{IsPlanVerdict, declared.verdict.PlanListingVerdict.PlanListingVerdict, declared.verdict.PlanListingVerdict.TheVariants.Certified}
+use Rattle.plan_check.specs.{declared.verdict.PlanListingVerdict.TheVariants.Fails, declared.verdict.PlanListingVerdict.TheVariants.Refused}
+use Rattle.run_puts.specs.{Text, declared.puts.Status.Status}
 use Rattle.run_puts.specs.declared.puts.Status.TheVariants as status
 use Rattle.engine.specs.Checked.{certified_line}
 

@@ -1,20 +1,14 @@
 -- The headline of a run with a plan.
 use Rattle.std.specs.Prelude.{◌≡◌, ℕ, All, false, List, Ok, Option, length, map, option_map}
-use Rattle.std.specs.List.{concat}
-use Rattle.std.specs.Io.KnownBytes.{Appends}
+use Rattle.std.specs.{List.concat, Io.KnownBytes.Appends}
 use Rattle.command_line.specs.{AskedPlan}
 use Rattle.outside.specs.{FileSet, file_at}
-use Rattle.model_types.specs.declared.entry.Entry.{Entry}
-use Rattle.model_types.specs.declared.limits.Limits.{Limits}
-use Rattle.model_types.specs.{times}
+use Rattle.model_types.specs.{declared.entry.Entry.Entry, declared.limits.Limits.Limits, times}
 use Rattle.model_reader.specs.{reads}
-use Rattle.deck_problems.specs.{AreDecks}
-use Rattle.deck_problems.specs.declared.decks.Decks.{Decks}
+use Rattle.deck_problems.specs.{AreDecks, declared.decks.Decks.Decks}
 use Rattle.exact_histories.specs.{HaveOneHistory}
 use Rattle.plan_wells.specs.{plan_of}
-use Rattle.plan_chain.specs.{decks_with}
-use Rattle.plan_chain.specs.declared.step.PlanTask.{PlanTask}
-use Rattle.plan_chain.specs.declared.walk.PlanEnd.TheVariants.{Whole}
+use Rattle.plan_chain.specs.{decks_with, declared.step.PlanTask.PlanTask, declared.walk.PlanEnd.TheVariants.Whole}
 use Rattle.plan_listing.specs.declared.listing.ListedPlanStep.{ListedPlanStep}
 use Rattle.plan_run.specs.{AllListedSteps, EnclosesPairs, ListsMore, plan_listing}
 use Rattle.run_puts.specs.{Text, end_line}

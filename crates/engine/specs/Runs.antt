@@ -1,30 +1,23 @@
 -- What a run puts, how it ends, and which end is certain.
-use Rattle.std.specs.Prelude.{◌≡◌, ◌⊎◌, ℕ, List, false, Ok, Option, IfOk, All}
+use Rattle.std.specs.Prelude.{◌≡◌, ◌⊎◌, List, false, Ok, Option, IfOk, All}
 use Rattle.command_line.specs.{Wanted}
 use Rattle.outside.specs.{Put, FileSet, Rose}
 use Rattle.step_problem.specs.declared.place.NoBound.{NoBound}
 use Rattle.model_types.specs.declared.time_steps.TimeStep.{TimeStep}
-use Rattle.run_puts.specs.{IsUnfinished, Text, IsRun}
-use Rattle.run_puts.specs.declared.puts.Status.{Status}
+use Rattle.run_puts.specs.{IsUnfinished, Text, IsRun, declared.puts.Status.Status}
 use Rattle.run_puts.specs.declared.puts.Status.TheVariants as status
-use Rattle.listing_run.specs.declared.steps.Task.{Task}
-use Rattle.listing_run.specs.declared.solving.Step.{Step}
+use Rattle.listing_run.specs.{declared.steps.Task.Task, declared.solving.Step.Step, AllSteps}
 use Rattle.listing_run.specs.declared.text.ListingEnd.TheVariants as ends
-use Rattle.listing_run.specs.{AllSteps}
-use Rattle.plan_chain.specs.declared.step.PlanPart.{PlanPart}
-use Rattle.plan_chain.specs.declared.step.PlanTask.{PlanTask}
+use Rattle.plan_chain.specs.{declared.step.PlanPart.PlanPart, declared.step.PlanTask.PlanTask}
 use Rattle.plan_chain.specs.declared.walk.PlanEnd.TheVariants as plan
 use Rattle.plan_listing.specs.declared.listing.ListedPlanStep.{ListedPlanStep}
 use Rattle.plan_run.specs.{AllListedSteps}
-use Rattle.check_run.specs.declared.verdict.ListingVerdict.TheVariants.{Certified}
-use Rattle.check_run.specs.{IsVerdict}
-use Rattle.plan_check.specs.declared.verdict.PlanListingVerdict.TheVariants.{Certified as PlanHolds}
-use Rattle.plan_check.specs.{IsPlanVerdict}
-use Rattle.engine.specs.Cases.{After, Case, Checking, Listing, Making, Comparing, Jobs, PlanChecking, Planning, Saying, Writing, case_of}
+use Rattle.check_run.specs.{declared.verdict.ListingVerdict.TheVariants.Certified, IsVerdict}
+use Rattle.plan_check.specs.{declared.verdict.PlanListingVerdict.TheVariants.Certified as PlanHolds, IsPlanVerdict}
+use Rattle.engine.specs.{Cases.After, Cases.Case, Cases.Checking, Cases.Listing, Cases.Making, Cases.Comparing, Cases.Jobs, Cases.PlanChecking, Cases.Planning}
+use Rattle.engine.specs.{Cases.Saying, Cases.Writing, Cases.case_of, Made.made_task, Defined.Defines, Defined.Due, Defined.CutOf, Uses.FolderUse, Uses.SinkUse}
+use Rattle.engine.specs.{Uses.failed_write}
 use Rattle.deck_span.specs.{AreAlike}
-use Rattle.engine.specs.Made.{made_task}
-use Rattle.engine.specs.Defined.{Defines, Due, CutOf}
-use Rattle.engine.specs.Uses.{FolderUse, SinkUse, failed_write}
 
 -- the puts of a run of this case with this end
 abbrev pub IsRunOf : Type 0 → Type 0 → Case → Status → List Put → Type 0

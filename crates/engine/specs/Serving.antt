@@ -2,30 +2,17 @@
 use Rattle.std.specs.Prelude.{◌≡◌, ◌⊎◌, ℕ, Bool, List, Option, Some, true, false, [], ◌∷◌, ◌++◌, None, option_to_list}
 use Rattle.std.specs.Io.KnownBytes.{Appends}
 use Rattle.outside.specs.{FileSet, Rose}
-use Rattle.run_puts.specs.{Text, code_of}
-use Rattle.run_puts.specs.declared.puts.Status.{Status}
+use Rattle.run_puts.specs.{Text, code_of, declared.puts.Status.Status}
 use Rattle.run_puts.specs.declared.puts.Status.TheVariants as status
-use Rattle.engine.specs.Certified.{Certified}
-use Rattle.engine.specs.DeckListing.{DeckHeadline, DeckSpanHeadline, OneDeckListing, OneDeckSpan}
-use Rattle.engine.specs.Decks.{OneDeck}
-use Rattle.engine.specs.Headline.{Headline}
-use Rattle.engine.specs.Made.{Made}
-use Rattle.engine.specs.OneListing.{OneListing, OneSummary, OneVerdict}
-use Rattle.engine.specs.PlanCertified.{PlanCertified, PlanVerdict}
-use Rattle.engine.specs.PlanHeadline.{OnePlan, PlanHeadline}
-use Rattle.engine.specs.SpanHeadline.{OneSpan, SpanCertified, SpanHeadline, SpanVerdict}
-use Rattle.engine.specs.TextCertified.{OneTextVerdict, TextCertified}
-use Rattle.engine.specs.Parts.{IsStopped}
-use Rattle.engine.specs.Runs.{EndsOk, EndIsDefined, Puts}
-use Rattle.engine.specs.Uses.{FolderUse, HasFailed, SinkUse, failed_write}
-use Rattle.engine.specs.Watched.{SidePuts, Watched, views_in}
-use Rattle.engine.specs.Words.{words_text}
-use Rattle.engine.specs.Batched.{Batched, HasNoList}
+use Rattle.engine.specs.{Certified.Certified, DeckListing.DeckHeadline, DeckListing.DeckSpanHeadline, DeckListing.OneDeckListing, DeckListing.OneDeckSpan}
+use Rattle.engine.specs.{Decks.OneDeck, Headline.Headline, Made.Made, OneListing.OneListing, OneListing.OneSummary, OneListing.OneVerdict}
+use Rattle.engine.specs.{PlanCertified.PlanCertified, PlanCertified.PlanVerdict, PlanHeadline.OnePlan, PlanHeadline.PlanHeadline, SpanHeadline.OneSpan}
+use Rattle.engine.specs.{SpanHeadline.SpanCertified, SpanHeadline.SpanHeadline, SpanHeadline.SpanVerdict, TextCertified.OneTextVerdict}
+use Rattle.engine.specs.{TextCertified.TextCertified, Parts.IsStopped, Runs.EndsOk, Runs.EndIsDefined, Runs.Puts, Uses.FolderUse, Uses.HasFailed, Uses.SinkUse}
+use Rattle.engine.specs.{Uses.failed_write, Watched.SidePuts, Watched.Watched, Watched.views_in, Words.words_text, Batched.Batched, Batched.HasNoList}
+use Rattle.engine.specs.{Cases.case_of}
 use Rattle.command_line.specs.{AskedBatch, Batch, Check, CheckPlan, CheckText, ListingOrder, Make, Plan, Run, Wanted, Words, Write, order_of_words}
-use Rattle.engine.specs.Cases.{case_of}
-use Rattle.model_types.specs.{most_bytes}
-use Rattle.model_types.specs.declared.limits.Limits.{Limits}
-use Rattle.model_types.specs.declared.limits.Limits.TheVariants.{Plain}
+use Rattle.model_types.specs.{most_bytes, declared.limits.Limits.Limits, declared.limits.Limits.TheVariants.Plain}
 
 -- The files that the words name, and how many bytes of one are read.
 -- the name file of a run, the second one if there is one, and its zone file if there is one; the same of a plan, and its wells; the same of a

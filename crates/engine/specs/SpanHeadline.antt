@@ -1,12 +1,9 @@
 -- The headline of a run of all models between two decks, and of the check of such a listing.
 use Rattle.std.specs.Prelude.{◌≡◌, ℕ, ℤ, true, All, List, map, Ok, Option}
-use Rattle.std.specs.List.{concat}
-use Rattle.std.specs.Io.KnownBytes.{Appends}
+use Rattle.std.specs.{List.concat, Io.KnownBytes.Appends}
 use Rattle.command_line.specs.{ListingOrder, AskedCheck}
 use Rattle.outside.specs.{FileSet}
-use Rattle.model_types.specs.declared.limits.Limits.{Limits}
-use Rattle.model_types.specs.declared.model.FlowModel.{FlowModel}
-use Rattle.model_types.specs.{times, IsModel}
+use Rattle.model_types.specs.{declared.limits.Limits.Limits, declared.model.FlowModel.FlowModel, times, IsModel}
 use Rattle.model_reader.specs.{reads}
 use Rattle.decimal_input.specs.{Fraction}
 use Rattle.deck_span.specs.{AreAlike, AreChoices, Choice, SolvesChoices}
@@ -14,14 +11,9 @@ use Rattle.step_chain.specs.{two}
 use Rattle.exact_histories.specs.{ChoicesHaveOne}
 use Rattle.listing_io.specs.declared.listing.ListedStep.{ListedStep}
 use Rattle.run_puts.specs.{Text, end_line}
-use Rattle.listing_run.specs.declared.solving.Step.{Step}
-use Rattle.listing_run.specs.{listing, BoundChoices}
-use Rattle.check_run.specs.declared.verdict.ListingVerdict.TheVariants.{Certified as Holds}
-use Rattle.check_run.specs.{IsVerdict, checked_task, steps_of}
-use Rattle.engine.specs.Cases.{span_task_of, steps_read, zones_read}
-use Rattle.engine.specs.Checked.{certified_line}
-use Rattle.engine.specs.Headline.{ListsPairs}
-use Rattle.engine.specs.OneListing.{AreItsSteps}
+use Rattle.listing_run.specs.{declared.solving.Step.Step, listing, BoundChoices}
+use Rattle.check_run.specs.{declared.verdict.ListingVerdict.TheVariants.Certified as Holds, IsVerdict, checked_task, steps_of}
+use Rattle.engine.specs.{Cases.span_task_of, Cases.steps_read, Cases.zones_read, Checked.certified_line, Headline.ListsPairs, OneListing.AreItsSteps}
 
 -- The files of two names read by limits as valid models that are alike: they differ only in numbers of their stresses and in STRT.
 pub record ArePairOf (limits : Limits) (files : FileSet) (name to : Text) : Type 0 where

@@ -1,12 +1,9 @@
 -- What is promised over the text of a deck: how files are read has no part in it.
 use Rattle.std.specs.Prelude.{◌≡◌, ◌≤◌, ℕ, ℤ, false, [], All, List, length, map, ◌++◌, None, Ok, Option, Some}
-use Rattle.std.specs.List.{concat}
-use Rattle.std.specs.Io.KnownBytes.{Appends}
+use Rattle.std.specs.{List.concat, Io.KnownBytes.Appends}
 use Rattle.command_line.specs.{ListingOrder}
 use Rattle.outside.specs.{FileSet, with_limit}
-use Rattle.model_types.specs.declared.model.FlowModel.{FlowModel}
-use Rattle.model_types.specs.declared.limits.Limits.{Limits}
-use Rattle.model_types.specs.{start_head, times, most_bytes, IsModel}
+use Rattle.model_types.specs.{declared.model.FlowModel.FlowModel, declared.limits.Limits.Limits, start_head, times, most_bytes, IsModel}
 use Rattle.model_reader.specs.{reads}
 use Rattle.array_text.specs.{IsShort}
 use Rattle.model_text.specs.{deck_name, deck_files, zoned_text}
@@ -16,14 +13,10 @@ use Rattle.decimal_input.specs.{Fraction}
 use Rattle.deck_span.specs.{AreChoices, Choice, SolvesChoices}
 use Rattle.step_chain.specs.{two}
 use Rattle.run_puts.specs.{Text, end_line}
-use Rattle.listing_run.specs.declared.solving.Step.{Step}
-use Rattle.listing_run.specs.{listing, BoundAll, BoundChoices}
+use Rattle.listing_run.specs.{declared.solving.Step.Step, listing, BoundAll, BoundChoices}
 use Rattle.check_run.specs.{checked_task}
 use Rattle.exact_histories.specs.{HasHistory, AreSame, ChoicesHaveOne}
-use Rattle.engine.specs.Decks.{OneDeck}
-use Rattle.engine.specs.Headline.{Headline, ListsPairs}
-use Rattle.engine.specs.OneListing.{OneListing}
-use Rattle.engine.specs.SpanHeadline.{SpanHeadline}
+use Rattle.engine.specs.{Decks.OneDeck, Headline.Headline, Headline.ListsPairs, OneListing.OneListing, SpanHeadline.SpanHeadline}
 
 -- Between the bytes `old` and the bytes `new` stands the text of a deck, with the zones of its cells if there are some, and then a listing of
 -- its model; and every history of heads that solves the manual's exact equations of this model lies, step by step and

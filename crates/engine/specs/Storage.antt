@@ -1,13 +1,8 @@
 -- Where storage holds the heads of a step.
 use Rattle.std.specs.Prelude.{◌≢◌, ℕ, List, Bool, Option}
-use Rattle.step_problem.specs.declared.heads.Bound.{Bound}
-use Rattle.step_problem.specs.declared.place.NoBound.{NoBound}
-use Rattle.step_problem.specs.declared.refusal.StepRefusal.TheVariants.{NoBarrierLow, NoBarrierHigh}
-use Rattle.step_problem.specs.{number_of}
-use Rattle.step_problem.specs.Entries.{Entries}
-use Rattle.model_types.specs.declared.limits.Limits.{Limits}
-use Rattle.model_types.specs.declared.model.FlowModel.{FlowModel}
-use Rattle.model_types.specs.declared.time_steps.TimeStep.{TimeStep}
+use Rattle.step_problem.specs.{declared.heads.Bound.Bound, declared.place.NoBound.NoBound, declared.refusal.StepRefusal.TheVariants.NoBarrierLow}
+use Rattle.step_problem.specs.{declared.refusal.StepRefusal.TheVariants.NoBarrierHigh, number_of, Entries.Entries}
+use Rattle.model_types.specs.{declared.limits.Limits.Limits, declared.model.FlowModel.FlowModel, declared.time_steps.TimeStep.TimeStep}
 use Rattle.problem_builder.specs.{IsProblemOf}
 use Rattle.barrier_vector.specs.{HasStorage}
 use Rattle.listing_run.specs.{HasNoBound, one_task}

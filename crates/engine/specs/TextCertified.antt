@@ -4,13 +4,9 @@ use Rattle.std.specs.Io.KnownBytes.{Appends}
 use Rattle.command_line.specs.{AskedText}
 use Rattle.outside.specs.{FileSet, file_at}
 use Rattle.deck_problems.specs.declared.decks.Decks.{Decks}
-use Rattle.listing_io.specs.declared.listing.ListedStep.{ListedStep}
-use Rattle.listing_io.specs.{listing, text_of}
-use Rattle.check_run.specs.declared.verdict.ListingVerdict.TheVariants.{Certified as Holds}
-use Rattle.check_run.specs.{IsVerdict}
-use Rattle.engine.specs.Cases.{decks_text}
-use Rattle.engine.specs.Checked.{certified_line}
-use Rattle.engine.specs.Stated.{SpanStated, Stated}
+use Rattle.listing_io.specs.{declared.listing.ListedStep.ListedStep, listing, text_of}
+use Rattle.check_run.specs.{declared.verdict.ListingVerdict.TheVariants.Certified as Holds, IsVerdict}
+use Rattle.engine.specs.{Cases.decks_text, Checked.certified_line, Stated.SpanStated, Stated.Stated}
 
 -- bytes are a text, the last line of which may lack its line feed
 abbrev pub AreText : (bytes text : List ℕ) → Type 0

@@ -3,15 +3,11 @@ use Rattle.std.specs.Prelude.{◌≡◌, ◌≤◌, ℕ, List, [], ◌∷◌, Al
 use Rattle.command_line.specs.{AskedText, CheckText, ListingOrder, order_of_words}
 use Rattle.outside.specs.{FileSet, file_at}
 use Rattle.array_text.specs.{IsShort}
-use Rattle.model_types.specs.declared.model.FlowModel.{FlowModel}
-use Rattle.model_types.specs.{most_bytes}
+use Rattle.model_types.specs.{declared.model.FlowModel.FlowModel, most_bytes}
 use Rattle.model_text.specs.{zoned_text}
 use Rattle.run_puts.specs.{Text}
 use Rattle.run_puts.specs.declared.puts.Status.TheVariants as status
-use Rattle.engine.specs.Cases.{case_of, read_by_name}
-use Rattle.engine.specs.Checked.{certified_line}
-use Rattle.engine.specs.DeckListing.{OneDeckListing, OneDeckSpan}
-use Rattle.engine.specs.Defined.{Defines}
+use Rattle.engine.specs.{Cases.case_of, Cases.read_by_name, Checked.certified_line, DeckListing.OneDeckListing, DeckListing.OneDeckSpan, Defined.Defines}
 
 -- These words ask for the check of a text, and it has these bytes; the limits and the digits are those of a run that was asked for so.
 pub record ChecksText (words : List Text) (files : FileSet) (asked : ListingOrder) (bytes : List ℕ) : Type 0 where

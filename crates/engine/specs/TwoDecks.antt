@@ -1,24 +1,15 @@
 -- Decks that are read, one or two, and the refusal where two aren't alike.
 use Rattle.std.specs.Prelude.{◌≡◌, List, [], ◌∷◌, Result, Ok, Err, Option, Some, IfSome, option_map, unwrap_or}
-use Rattle.outside.specs.{FileSet}
-use Rattle.outside.specs.declared.codes.Code.TheVariants.{NotAlike}
-use Rattle.outside.specs.declared.inputs.Refusal.{Refusal}
-use Rattle.outside.specs.declared.inputs.InputFault.{InputFault}
+use Rattle.outside.specs.{FileSet, declared.codes.Code.TheVariants.NotAlike, declared.inputs.Refusal.Refusal, declared.inputs.InputFault.InputFault}
 use Rattle.outside.specs.declared.inputs.InputFault.TheVariants as input
 use Rattle.record_lines.specs.{◌>>=◌}
-use Rattle.name_file.specs.Pairs.{Pairs}
-use Rattle.name_file.specs.{file_of}
-use Rattle.model_types.specs.declared.grid.Grid.{Grid}
-use Rattle.model_types.specs.declared.limits.Limits.{Limits}
-use Rattle.model_types.specs.declared.model.FlowModel.{FlowModel}
-use Rattle.model_types.specs.{place}
+use Rattle.name_file.specs.{Pairs.Pairs, file_of}
+use Rattle.model_types.specs.{declared.grid.Grid.Grid, declared.limits.Limits.Limits, declared.model.FlowModel.FlowModel, place}
 use Rattle.model_reader.specs.{model_of, names_in}
-use Rattle.deck_span.specs.{AreAlike, IsFirstDifference}
-use Rattle.deck_span.specs.declared.difference.Difference.{Difference}
+use Rattle.deck_span.specs.{AreAlike, IsFirstDifference, declared.difference.Difference.Difference}
 use Rattle.deck_problems.specs.declared.decks.Decks.{Decks}
 use Rattle.listing_io.specs.{refused_line}
-use Rattle.run_puts.specs.{Text}
-use Rattle.run_puts.specs.declared.puts.Status.{Status}
+use Rattle.run_puts.specs.{Text, declared.puts.Status.Status}
 use Rattle.run_puts.specs.declared.puts.Status.TheVariants as status
 
 -- A second deck: its model, and its refusal at a difference from the first one.

@@ -1,8 +1,6 @@
 -- What a run did with its folder and its sinks.
 use Rattle.std.specs.Prelude.{ℕ, List, ◌⊎◌}
-use Rattle.outside.specs.{FileSet, Put, Rose, Seen}
-use Rattle.outside.specs.declared.traits.Folder.{Ghosts as FolderOf}
-use Rattle.outside.specs.declared.traits.Sink.{Ghosts as SinkOf}
+use Rattle.outside.specs.{FileSet, Put, Rose, Seen, declared.traits.Folder.Ghosts as FolderOf, declared.traits.Sink.Ghosts as SinkOf}
 
 -- What a run did with its folder.
 pub record FolderUse : Type 1 where

@@ -1,26 +1,17 @@
 -- What a watched run puts to its side sink.
 use Rattle.std.specs.Prelude.{◌≡◌, ◌⊎◌, ℕ, ◌*◌, ◌<◌, List, [], ◌∷◌, ◌++◌, length, map, All, Bool, true, false, Option, Some, None}
-use Rattle.outside.specs.{Put, whole_put, failed_put}
-use Rattle.outside.specs.declared.traits.SinkError.{SinkError}
-use Rattle.step_problem.specs.declared.heads.Bound.{Bound}
-use Rattle.step_problem.specs.Entries.{Entries}
-use Rattle.step_problem.specs.{Edges}
+use Rattle.outside.specs.{Put, whole_put, failed_put, declared.traits.SinkError.SinkError}
+use Rattle.step_problem.specs.{declared.heads.Bound.Bound, Entries.Entries, Edges}
 use Rattle.command_line.specs.{Run, Wanted}
-use Rattle.model_types.specs.declared.grid.Grid.{Grid}
-use Rattle.model_types.specs.declared.time_steps.TimeStep.{TimeStep}
-use Rattle.model_types.specs.{times}
+use Rattle.model_types.specs.{declared.grid.Grid.Grid, declared.time_steps.TimeStep.TimeStep, times}
 use Rattle.deck_problems.specs.{AreStartHeadsFor}
 use Rattle.settle_driver.specs.{AddsPhases, EnclosesPair}
 use Rattle.step_chain.specs.{edges_by, IsPosed}
 use Rattle.listing_io.specs.{view_text}
-use Rattle.run_puts.specs.{Text}
-use Rattle.listing_run.specs.declared.steps.Task.{Task}
-use Rattle.listing_run.specs.declared.solving.Step.{Step}
-use Rattle.listing_run.specs.{time, EnclosesSolutions, IsStep}
-use Rattle.run_puts.specs.declared.puts.Status.{Status}
+use Rattle.run_puts.specs.{Text, declared.puts.Status.Status}
+use Rattle.listing_run.specs.{declared.steps.Task.Task, declared.solving.Step.Step, time, EnclosesSolutions, IsStep}
 use Rattle.run_puts.specs.declared.puts.Status.TheVariants as status
-use Rattle.engine.specs.Cases.{Case, IsListingOf}
-use Rattle.engine.specs.Uses.{SinkUse}
+use Rattle.engine.specs.{Cases.Case, Cases.IsListingOf, Uses.SinkUse}
 
 -- the number of views in each phase that the words ask for
 abbrev pub views_in : Option Wanted → Option ℕ

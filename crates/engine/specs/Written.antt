@@ -9,11 +9,8 @@ use Rattle.deck_problems.specs.{AreDecks}
 use Rattle.run_puts.specs.{Text}
 use Rattle.run_puts.specs.declared.puts.Status.TheVariants as status
 use Rattle.listing_run.specs.declared.steps.Task.{Task}
-use Rattle.engine.specs.Cases.{Listing, case_of, read_by_name, span_task_of, task_of, zones_read}
-use Rattle.engine.specs.Checked.{certified_line}
-use Rattle.engine.specs.Defined.{Defines}
-use Rattle.engine.specs.OneListing.{OneListing}
-use Rattle.engine.specs.SpanHeadline.{OneSpan}
+use Rattle.engine.specs.{Cases.Listing, Cases.case_of, Cases.read_by_name, Cases.span_task_of, Cases.task_of, Cases.zones_read, Checked.certified_line}
+use Rattle.engine.specs.{Defined.Defines, OneListing.OneListing, SpanHeadline.OneSpan}
 
 -- These words ask for the check of a file with these bytes, at most a file's limit, by the task's limits and as a listing with its
 -- digits, and the files read as the task's first deck, as its second one if it has one, and, by the zone file that the words name or

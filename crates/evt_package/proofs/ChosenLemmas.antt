@@ -1,12 +1,9 @@
 -- The cell that an option chooses is the one of its column.
-use Rattle.evt_package.proofs.Common.{◌≡◌, ◌⊎◌, inl, inr, ℕ, zero, suc, ◌+◌, ◌-◌, ◌*◌, ◌<◌, ◌≤◌, Bool, true, false, ◌&&◌, ◌||◌, ◌==◌, nat_le, nat_lt, List, ℤ}
-use Rattle.evt_package.proofs.Common.{pos, negsuc, Some, get_or, length, refl, sym, ap, ◌∙◌, zero-add, arith, if◌then◌else◌, and_parts, not-true, eqb-true}
-use Rattle.evt_package.proofs.Common.{le-leb, lt-ltb, div-add-mod', Grid, FlowModel, cell_count, layer_of, layer_size, place_in_layer, HasSize, int_at}
-use Rattle.evt_package.proofs.Common.{is_active, is_nonzero, is_chosen, is_highest, is_int, layer_below, within, chosen_cell, highest_active, in_layer}
-use Rattle.std.proofs.lemmas.Bool.Decides.{leb_tells}
+use Rattle.evt_package.proofs.Common.{◌≡◌, ◌⊎◌, inl, inr, ℕ, zero, suc, ◌+◌, ◌-◌, ◌*◌, ◌<◌, ◌≤◌, Bool, true, false, ◌&&◌, ◌||◌, ◌==◌, nat_le, nat_lt, List, ℤ, pos, negsuc, Some, get_or, length, refl}
+use Rattle.evt_package.proofs.Common.{sym, ap, ◌∙◌, zero-add, arith, if◌then◌else◌, and_parts, not-true, eqb-true, le-leb, lt-ltb, div-add-mod', Grid, FlowModel, cell_count, layer_of, layer_size}
+use Rattle.evt_package.proofs.Common.{place_in_layer, HasSize, int_at, is_active, is_nonzero, is_chosen, is_highest, is_int, layer_below, within, chosen_cell, highest_active, in_layer}
+use Rattle.std.proofs.{lemmas.Bool.Decides.leb_tells, lemmas.List.Folds.list_any_at, lemmas.List.FromFn.get_or-range_with_len, lemmas.List.FromFn.length-range_with_len}
 use Rattle.std.specs.List.{list_any, range_with_len}
-use Rattle.std.proofs.lemmas.List.Folds.{list_any_at}
-use Rattle.std.proofs.lemmas.List.FromFn.{get_or-range_with_len, length-range_with_len}
 
 -- the first active layer t is found
 found_at : (g : Grid) (ibound : List ℤ) (i n k t : ℕ) → k ≤ t → t < k + n → is_nonzero (int_at ibound (t * layer_size g + i)) ≡ true

@@ -1,12 +1,11 @@
 -- What evaporates from a model whose columns passed their tests is in limits.
-use Rattle.evt_package.proofs.Common.{◌≡◌, ℕ, zero, suc, ◌+◌, ◌≤◌, ◌<◌, ℤ, pos, neg_ℤ, ◌+ℤ◌, ◌≤ℤ◌, Bool, true, false, not, ◌&&◌, ◌==◌, Option, Some, None, refl}
-use Rattle.evt_package.proofs.Common.{sym, arith, if◌then◌else◌, EvapSource, IsEvapValid, is_positive, evap_fault, has_extinction, is_reached, is_head}
+use Rattle.evt_package.proofs.Common.{◌≡◌, ℕ, zero, suc, ◌+◌, ◌≤◌, ◌<◌, ℤ, pos, neg_ℤ, ◌+ℤ◌, ◌≤ℤ◌, Bool, true, false, not, ◌&&◌, ◌==◌, Option, Some, None, refl, sym, arith, if◌then◌else◌, EvapSource}
+use Rattle.evt_package.proofs.Common.{IsEvapValid, is_positive, evap_fault, has_extinction, is_reached, is_head}
 use Rattle.std.proofs.lemmas.Int.{ints}
 use Rattle.decimal_input.specs.{floor, ceiling, IsDec}
 use Rattle.decimal_input.proofs.SignedFloors.{floor_means, ceiling_means}
 use Rattle.outside.specs.declared.codes.Code.TheVariants.{BadProperty, HeadTooLarge}
-use Rattle.number_limits.proofs.HeadLemmas.{head_of}
-use Rattle.number_limits.proofs.SignLemmas.{positive_of}
+use Rattle.number_limits.proofs.{HeadLemmas.head_of, SignLemmas.positive_of}
 
 -- a source without a fault whose rate isn't 0
 pub source_sound : (x : EvapSource) → IsDec x.rate → IsDec x.surface → IsDec x.depth → evap_fault x ≡ None → (x.rate.digits == 0) ≡ false → IsEvapValid x

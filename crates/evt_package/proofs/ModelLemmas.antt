@@ -1,19 +1,15 @@
 -- What evaporates from a model with evapotranspiration is in limits.
-use Rattle.evt_package.proofs.Common.{◌≡◌, ◌⊎◌, inl, inr, ℕ, ◌-◌, ◌<◌, ◌≤◌, ℤ, Bool, true, false, not, cond, ◌&&◌, ◌==◌, List, [], All, Option, Some, None, Ok}
-use Rattle.evt_package.proofs.Common.{length, refl, arith, suc, ◌+◌, ◌*◌, cases_lt, mod_below, Grid, FlowModel, cell_count, layer_size, place_in_layer, HasSize}
-use Rattle.evt_package.proofs.Common.{EvapSource, is_active, is_chosen, IsEvapValid, evap_sources, no_period, period_at, int_at, is_nonzero, size_some}
-use Rattle.evt_package.proofs.Common.{cell_tested, column_step, column_tested, columns_tested, source, evap_fault, area_in, evaporation_arrays, highest_active}
-use Rattle.evt_package.proofs.Common.{each_step}
+use Rattle.evt_package.proofs.Common.{◌≡◌, ◌⊎◌, inl, inr, ℕ, ◌-◌, ◌<◌, ◌≤◌, ℤ, Bool, true, false, not, cond, ◌&&◌, ◌==◌, List, [], All, Option, Some, None, Ok, length, refl, arith, suc, ◌+◌, ◌*◌}
+use Rattle.evt_package.proofs.Common.{cases_lt, mod_below, Grid, FlowModel, cell_count, layer_size, place_in_layer, HasSize, EvapSource, is_active, is_chosen, IsEvapValid, evap_sources, no_period}
+use Rattle.evt_package.proofs.Common.{period_at, int_at, is_nonzero, size_some, cell_tested, column_step, column_tested, columns_tested, source, evap_fault, area_in, evaporation_arrays}
+use Rattle.evt_package.proofs.Common.{highest_active, each_step}
 use Rattle.period_arrays.specs.{HasArrays}
 use Rattle.std.specs.Option.{option_to_list}
-use Rattle.std.proofs.lemmas.List.Elements.{All-nil, All-cons}
-use Rattle.std.proofs.lemmas.List.{get_or_past}
+use Rattle.std.proofs.{lemmas.List.Elements.All-nil, lemmas.List.Elements.All-cons, lemmas.List.get_or_past, Math.Nat.mul-le-mul_right}
 use Rattle.outside.specs.declared.codes.Code.{Code}
 use Rattle.model_types.specs.declared.period.Stresses.{Stresses}
 use Rattle.number_limits.proofs.Canonical.{dec_at_is}
-use Rattle.evt_package.proofs.ChosenLemmas.{chosen_is}
-use Rattle.evt_package.proofs.EvapLemmas.{source_sound}
-use Rattle.std.proofs.Math.Nat.{mul-le-mul_right}
+use Rattle.evt_package.proofs.{ChosenLemmas.chosen_is, EvapLemmas.source_sound}
 
 passed_is : (file : List ℕ) (grid : Grid) (c : ℕ) (o : Option Code) → cell_tested file grid c o ≡ Ok tt → o ≡ None
 passed_is file grid c None h = refl

@@ -1,21 +1,14 @@
 -- The evapotranspiration package (TM 6-A16, EVT).
 use Rattle.std.specs.Prelude.{ℕ, true, List, Result, Ok, pos, neg_ℤ, ℤ, ◌+ℤ◌, Bool, false, not, ◌&&◌, ◌==◌, int_le, Option, Some, None, if◌then◌else◌, zero}
 use Rattle.std.specs.Prelude.{suc, ◌+◌, ◌-◌, ◌*◌, Err}
-use Rattle.outside.specs.{FileSet}
-use Rattle.outside.specs.declared.inputs.Refusal.{Refusal}
+use Rattle.outside.specs.{FileSet, declared.inputs.Refusal.Refusal, declared.codes.Code.Code, declared.codes.Code.TheVariants.BadProperty}
+use Rattle.outside.specs.{declared.codes.Code.TheVariants.HeadTooLarge}
 use Rattle.record_lines.specs.{◌>>=◌, each_number}
-use Rattle.model_types.specs.declared.model.FlowModel.{FlowModel}
-use Rattle.model_types.specs.declared.period.Stresses.{Stresses}
-use Rattle.period_arrays.specs.{ArrayKind, arrays_in, refusal_at}
-use Rattle.period_arrays.specs.declared.area.Area.{Area}
-use Rattle.period_arrays.specs.declared.read.ArrayFile.{ArrayFile}
-use Rattle.decimal_input.specs.declared.dec.Dec.{Dec}
-use Rattle.outside.specs.declared.codes.Code.{Code}
-use Rattle.outside.specs.declared.codes.Code.TheVariants.{BadProperty, HeadTooLarge}
-use Rattle.model_types.specs.{EvapSource, is_int, layer_size, dec_at, int_at, is_nonzero}
+use Rattle.model_types.specs.{declared.model.FlowModel.FlowModel, declared.period.Stresses.Stresses, EvapSource, is_int, layer_size, dec_at, int_at, is_nonzero}
+use Rattle.model_types.specs.{declared.grid.Grid.Grid}
+use Rattle.period_arrays.specs.{ArrayKind, arrays_in, refusal_at, declared.area.Area.Area, declared.read.ArrayFile.ArrayFile}
+use Rattle.decimal_input.specs.{declared.dec.Dec.Dec, floor, ceiling}
 use Rattle.number_limits.specs.{is_head, is_positive, within}
-use Rattle.decimal_input.specs.{floor, ceiling}
-use Rattle.model_types.specs.declared.grid.Grid.{Grid}
 
 -- The tests of an evapotranspiration. Limits are this program's own.
 -- from -4 * 10 ^ 18 on, in units of 10 ^ -9

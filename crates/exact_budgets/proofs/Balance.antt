@@ -1,13 +1,11 @@
 -- The budget of a solution is balanced: over all cells the flows over links cancel, and each cell's balance is zero.
-use Rattle.exact_budgets.proofs.Common.{◌≡◌, ℕ, zero, suc, ◌*◌, ◌<◌, refl, sym, ap, ◌∙◌, subst, arith, ℤ, pos, ◌+ℤ◌, ◌-ℤ◌, ◌*ℤ◌, List, [], ◌∷◌, length, All}
-use Rattle.exact_budgets.proofs.Common.{true, mul-pos, AllZip, ints, All-from_get_or, Fraction, fraction_total, IsOver, total, In, Out, Term, ExactCell}
-use Rattle.exact_budgets.proofs.Common.{cell_at, no_cell, AreLinked, no_link, link_flow, share, SolvesStep, IsOver-plus, IsOver-minus, IsOver-none}
-use Rattle.exact_budgets.proofs.Common.{IsOver-total, zero_over, over_zero, LinkOver, CellOver, link_over, WholeCell, whole_at, no_whole, whole_link, same_over}
-use Rattle.exact_budgets.proofs.Common.{all_terms, exact_part, exact_singles, exact_term, heads_of, net_flow, SolutionsBalance, AllZip-at, AllZip-length}
-use Rattle.exact_budgets.proofs.Common.{step_common, whole_step, total_below, whole_solves}
+use Rattle.exact_budgets.proofs.Common.{◌≡◌, ℕ, zero, suc, ◌*◌, ◌<◌, refl, sym, ap, ◌∙◌, subst, arith, ℤ, pos, ◌+ℤ◌, ◌-ℤ◌, ◌*ℤ◌, List, [], ◌∷◌, length, All, true, mul-pos, AllZip, ints}
+use Rattle.exact_budgets.proofs.Common.{All-from_get_or, Fraction, fraction_total, IsOver, total, In, Out, Term, ExactCell, cell_at, no_cell, AreLinked, no_link, link_flow, share, SolvesStep}
+use Rattle.exact_budgets.proofs.Common.{IsOver-plus, IsOver-minus, IsOver-none, IsOver-total, zero_over, over_zero, LinkOver, CellOver, link_over, WholeCell, whole_at, no_whole, whole_link, same_over}
+use Rattle.exact_budgets.proofs.Common.{all_terms, exact_part, exact_singles, exact_term, heads_of, net_flow, SolutionsBalance, AllZip-at, AllZip-length, step_common, whole_step, total_below}
+use Rattle.exact_budgets.proofs.Common.{whole_solves}
 use Rattle.cell_balance.proofs.ExactLaws.{heads_over, links_cancel}
-use Rattle.exact_budgets.proofs.Kept.{Parts}
-use Rattle.exact_budgets.proofs.CellNets.{net_of, parts_of, nets_balance}
+use Rattle.exact_budgets.proofs.{Kept.Parts, CellNets.net_of, CellNets.parts_of, CellNets.nets_balance}
 
 total-same : (f g : Term → ℤ) → ((t : Term) → f t ≡ g t) → (ts : List Term) → total f ts ≡ total g ts
 total-same f g each [] = refl

@@ -1,28 +1,18 @@
 -- A net flow lies between the bounds of its In and Out, and so in minus the sum of the others.
-use Rattle.exact_budgets.proofs.Common.{◌≡◌, ℕ, ◌+◌, ◌^◌, refl, sym, arith, ℤ, pos, neg_ℤ, ◌+ℤ◌, ◌-ℤ◌, List, [], ◌∷◌, Bool, true, false, not, ◌<◌, inl, inr, ap}
-use Rattle.exact_budgets.proofs.Common.{subst, map, Option, filter, ints, Fraction, opposite, fraction_total, EnclosesSigned, den, Same, total, In, Out, Term}
-use Rattle.exact_budgets.proofs.Common.{Storage, ExactCell, AreLinked, IsOver-negated, same_over, plus_encloses, none_encloses, is_term, all_terms, bounds_in}
-use Rattle.exact_budgets.proofs.Common.{BudgetEncloses, exact_term, net_flow, net_lower, net_upper, others, lower_by_others, upper_by_others, NetTermsLie}
-use Rattle.exact_budgets.proofs.Common.{NetTermsLieInTheOthers, StepsHaveTheirTimes, CertifiedHaveTheirTimes, NetTermsLieAt, AllNetTermsLie, heads_of}
-use Rattle.exact_budgets.proofs.Common.{variable_heads, SolvesAt, SolvesFrom, exact_step}
+use Rattle.exact_budgets.proofs.Common.{◌≡◌, ℕ, ◌+◌, ◌^◌, refl, sym, arith, ℤ, pos, neg_ℤ, ◌+ℤ◌, ◌-ℤ◌, List, [], ◌∷◌, Bool, true, false, not, ◌<◌, inl, inr, ap, subst, map, Option, filter, ints}
+use Rattle.exact_budgets.proofs.Common.{Fraction, opposite, fraction_total, EnclosesSigned, den, Same, total, In, Out, Term, Storage, ExactCell, AreLinked, IsOver-negated, same_over, plus_encloses}
+use Rattle.exact_budgets.proofs.Common.{none_encloses, is_term, all_terms, bounds_in, BudgetEncloses, exact_term, net_flow, net_lower, net_upper, others, lower_by_others, upper_by_others, NetTermsLie}
+use Rattle.exact_budgets.proofs.Common.{NetTermsLieInTheOthers, StepsHaveTheirTimes, CertifiedHaveTheirTimes, NetTermsLieAt, AllNetTermsLie, heads_of, variable_heads, SolvesAt, SolvesFrom, exact_step}
 use Rattle.decimal_input.proofs.FloorLaws.{cross_trans_signed, negated_enclosed}
 use Rattle.budget_bounds.specs.declared.pair.Budget.{Budget}
 use Rattle.exact_budgets.proofs.Balance.{TermsOver, over_terms, net_over, terms_over, solutions_balance}
-use Rattle.model_types.specs.declared.limits.Limits.{Limits}
-use Rattle.model_types.specs.declared.model.FlowModel.{FlowModel}
-use Rattle.model_types.specs.declared.time_steps.TimeStep.{TimeStep}
-use Rattle.model_types.specs.{start_head, times, IsModel}
+use Rattle.model_types.specs.{declared.limits.Limits.Limits, declared.model.FlowModel.FlowModel, declared.time_steps.TimeStep.TimeStep, start_head, times, IsModel}
 use Rattle.step_problem.specs.declared.heads.Bound.{Bound}
 use Rattle.flow_equations.proofs.Links.{are_linked}
 use Rattle.listing_io.specs.declared.listing.ListedStep.{ListedStep}
-use Rattle.check_run.specs.declared.verdict.ListingVerdict.TheVariants.{Certified}
-use Rattle.deck_problems.specs.declared.decks.Decks.{Decks}
-use Rattle.deck_problems.specs.{one_deck}
-use Rattle.check_run.specs.{Checks, steps_of}
-use Rattle.listing_run.specs.declared.steps.Task.{Task}
-use Rattle.listing_run.specs.declared.solving.Step.{Step}
-use Rattle.listing_run.specs.declared.text.ListingEnd.TheVariants.{Whole}
-use Rattle.listing_run.specs.{Steps, one_task, Bounds, BoundAll}
+use Rattle.check_run.specs.{declared.verdict.ListingVerdict.TheVariants.Certified, Checks, steps_of}
+use Rattle.deck_problems.specs.{declared.decks.Decks.Decks, one_deck}
+use Rattle.listing_run.specs.{declared.steps.Task.Task, declared.solving.Step.Step, declared.text.ListingEnd.TheVariants.Whole, Steps, one_task, Bounds, BoundAll}
 
 -- bounds of a fraction are bounds of the same number
 same_encloses : (lo hi : ℤ) (s : ℕ) (f g : Fraction) → Same f g → EnclosesSigned lo hi s f → EnclosesSigned lo hi s g

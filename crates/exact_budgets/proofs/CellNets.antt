@@ -1,9 +1,8 @@
 -- The net flow of each term into a cell, over one denominator. With the flows over its links they sum to its balance.
-use Rattle.exact_budgets.proofs.Common.{◌≡◌, ℕ, ◌*◌, arith, ℤ, pos, ◌+ℤ◌, Bool, cond, map, filter, ints, Fraction, IsOver, total, FixedKind, Term, Storage}
-use Rattle.exact_budgets.proofs.Common.{ConstantHead, Wells, Drains, RiverLeakage, HeadDepBounds, Recharge, Et, ExactFlow, ExactFixed, ExactCell, fixed_flow}
-use Rattle.exact_budgets.proofs.Common.{river_flow, drain_flow, evap_flow, FlowOver, FixedOver, RiverOver, DrainOver, EvapOver, CellOver, fixed_over}
-use Rattle.exact_budgets.proofs.Common.{river_over, drain_over, evap_over, WholeCell, whole_link, whole_fixed, whole_river, whole_drain, whole_evap}
-use Rattle.exact_budgets.proofs.Common.{whole_balance, fixed_term, flow_term, is_term, all_terms, exact_singles}
+use Rattle.exact_budgets.proofs.Common.{◌≡◌, ℕ, ◌*◌, arith, ℤ, pos, ◌+ℤ◌, Bool, cond, map, filter, ints, Fraction, IsOver, total, FixedKind, Term, Storage, ConstantHead, Wells, Drains, RiverLeakage}
+use Rattle.exact_budgets.proofs.Common.{HeadDepBounds, Recharge, Et, ExactFlow, ExactFixed, ExactCell, fixed_flow, river_flow, drain_flow, evap_flow, FlowOver, FixedOver, RiverOver, DrainOver}
+use Rattle.exact_budgets.proofs.Common.{EvapOver, CellOver, fixed_over, river_over, drain_over, evap_over, WholeCell, whole_link, whole_fixed, whole_river, whole_drain, whole_evap, whole_balance}
+use Rattle.exact_budgets.proofs.Common.{fixed_term, flow_term, is_term, all_terms, exact_singles}
 use Rattle.step_problem.specs.declared.entry.FlowKind.{FlowKind}
 use Rattle.exact_budgets.proofs.Kept.{Parts, kept, all_parts, kept_parts, total_by_three, total_by_two}
 use Rattle.step_problem.specs.declared.entry.FixedKind.TheVariants as kinds

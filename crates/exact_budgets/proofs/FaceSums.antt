@@ -1,8 +1,7 @@
 -- Sums of the flows over the faces between two zones, as whole numbers over one denominator.
-use Rattle.exact_budgets.proofs.Common.{◌≡◌, ℕ, zero, suc, ◌<◌, ◌==◌, Bool, true, false, cond, ◌&&◌, List, [], ◌∷◌, ◌++◌, length, get_or, All, refl, sym, subst}
-use Rattle.exact_budgets.proofs.Common.{arith, ℤ, pos, ◌+ℤ◌, slice_index, filter, flat_map, and_parts, eqb-true, All-head, All-tail, AllZip, ints, Fraction}
-use Rattle.exact_budgets.proofs.Common.{whole, times, as_fraction, fraction_total, IsOver, FixedKind, Constant, General, minus, ExactFace, exact_from}
-use Rattle.exact_budgets.proofs.Common.{exact_by_kind, is_exact_between, is_constant, IsOver-plus, IsOver-none, sum_below, Ratio, is_lower_zone}
+use Rattle.exact_budgets.proofs.Common.{◌≡◌, ℕ, zero, suc, ◌<◌, ◌==◌, Bool, true, false, cond, ◌&&◌, List, [], ◌∷◌, ◌++◌, length, get_or, All, refl, sym, subst, arith, ℤ, pos, ◌+ℤ◌, slice_index}
+use Rattle.exact_budgets.proofs.Common.{filter, flat_map, and_parts, eqb-true, All-head, All-tail, AllZip, ints, Fraction, whole, times, as_fraction, fraction_total, IsOver, FixedKind, Constant}
+use Rattle.exact_budgets.proofs.Common.{General, minus, ExactFace, exact_from, exact_by_kind, is_exact_between, is_constant, IsOver-plus, IsOver-none, sum_below, Ratio, is_lower_zone}
 use Rattle.std.proofs.lemmas.Bool.Decides.{nat_tests}
 use Rattle.step_problem.specs.declared.entry.FixedKind.TheVariants.{Storage}
 use Rattle.exact_budgets.proofs.Kept.{kept}

@@ -1,7 +1,6 @@
 -- Flows over one denominator, as whole numbers: what of them goes in, and out; of a whole list, and of those that a test keeps.
-use Rattle.exact_budgets.proofs.Common.{◌≡◌, ℕ, refl, arith, ℤ, pos, neg_ℤ, ◌+ℤ◌, ◌-ℤ◌, List, [], ◌∷◌, map, Bool, true, false, cond, AllZip, filter, ints}
-use Rattle.exact_budgets.proofs.Common.{clamps, Fraction, whole, opposite, fraction_total, IsOver, total, In, Out, IsOver-plus, IsOver-negated, IsOver-none}
-use Rattle.exact_budgets.proofs.Common.{IsOver-greater, exact_part, All, All-head, All-tail}
+use Rattle.exact_budgets.proofs.Common.{◌≡◌, ℕ, refl, arith, ℤ, pos, neg_ℤ, ◌+ℤ◌, ◌-ℤ◌, List, [], ◌∷◌, map, Bool, true, false, cond, AllZip, filter, ints, clamps, Fraction, whole, opposite}
+use Rattle.exact_budgets.proofs.Common.{fraction_total, IsOver, total, In, Out, IsOver-plus, IsOver-negated, IsOver-none, IsOver-greater, exact_part, All, All-head, All-tail}
 use Rattle.std.specs.Int.{int_max}
 
 -- what of these flows goes in, and out, over D; their sum is z

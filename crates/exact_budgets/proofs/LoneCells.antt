@@ -1,21 +1,14 @@
 -- What flows between the zone of a lone cell and another zone is what flows over the cell's links and from its constant heads.
-use Rattle.exact_budgets.proofs.Common.{◌≡◌, ◌⊎◌, inl, inr, ℕ, zero, suc, ◌+◌, ◌*◌, ◌<◌, ◌==◌, Bool, true, false, cond, ◌&&◌, List, [], ◌∷◌, length, All, refl}
-use Rattle.exact_budgets.proofs.Common.{sym, ap, ◌∙◌, subst, arith, mul-pos, ℤ, pos, neg_ℤ, ◌+ℤ◌, ◌-ℤ◌, ◌*ℤ◌, slice_index, flat_map, AllZip, ints, total}
-use Rattle.exact_budgets.proofs.Common.{Fraction, den, opposite, times, as_fraction, IsOver, Same, Constant, ExactLink, ExactFixed, ExactCell, cell_at, no_cell}
-use Rattle.exact_budgets.proofs.Common.{AreLinked, minus, link_flow, fixed_flow, ExactFace, exact_link, exact_fixed, exact_cell, exact_faces, is_exact_between}
-use Rattle.exact_budgets.proofs.Common.{exact_flow, is_constant, own_zone, IsAlone, inflow_from, LoneCellsHaveTheirFlows, same_over, IsOver-plus}
-use Rattle.exact_budgets.proofs.Common.{IsOver-negated, LinkOver, FixedOver, CellOver, link_over, fixed_over, WholeCell, whole_at, no_whole, whole_link}
-use Rattle.exact_budgets.proofs.Common.{whole_fixed, cases_eq, eq-eqb, ne_eqb, All-weaker, nat_eq, sum_below, WholeLink, WholeEntry, AllZip-at, AllZip-length}
-use Rattle.exact_budgets.proofs.Common.{All-zip, Goes, Goes-trans, product, some_product, fraction_over, step_common, whole_step}
+use Rattle.exact_budgets.proofs.Common.{◌≡◌, ◌⊎◌, inl, inr, ℕ, zero, suc, ◌+◌, ◌*◌, ◌<◌, ◌==◌, Bool, true, false, cond, ◌&&◌, List, [], ◌∷◌, length, All, refl, sym, ap, ◌∙◌, subst, arith, mul-pos, ℤ}
+use Rattle.exact_budgets.proofs.Common.{pos, neg_ℤ, ◌+ℤ◌, ◌-ℤ◌, ◌*ℤ◌, slice_index, flat_map, AllZip, ints, total, Fraction, den, opposite, times, as_fraction, IsOver, Same, Constant, ExactLink}
+use Rattle.exact_budgets.proofs.Common.{ExactFixed, ExactCell, cell_at, no_cell, AreLinked, minus, link_flow, fixed_flow, ExactFace, exact_link, exact_fixed, exact_cell, exact_faces, is_exact_between}
+use Rattle.exact_budgets.proofs.Common.{exact_flow, is_constant, own_zone, IsAlone, inflow_from, LoneCellsHaveTheirFlows, same_over, IsOver-plus, IsOver-negated, LinkOver, FixedOver, CellOver}
+use Rattle.exact_budgets.proofs.Common.{link_over, fixed_over, WholeCell, whole_at, no_whole, whole_link, whole_fixed, cases_eq, eq-eqb, ne_eqb, All-weaker, nat_eq, sum_below, WholeLink, WholeEntry}
+use Rattle.exact_budgets.proofs.Common.{AllZip-at, AllZip-length, All-zip, Goes, Goes-trans, product, some_product, fraction_over, step_common, whole_step}
 use Rattle.std.proofs.Math.IntN.{*ℤ-zero, zero-*ℤ}
 use Rattle.std.proofs.Math.Bool.{and-true, and-false}
-use Rattle.cell_balance.proofs.Dry.{weight, by_weight, IsMutual}
-use Rattle.cell_balance.proofs.Sums.{sum-add, sum-one}
-use Rattle.cell_balance.proofs.Mutual.{mutual_whole}
+use Rattle.cell_balance.proofs.{Dry.weight, Dry.by_weight, Dry.IsMutual, Sums.sum-add, Sums.sum-one, Mutual.mutual_whole, Deep.add_mul, EntryFlows.difference_over, WholeBalances.times_one}
 use Rattle.step_problem.proofs.Leasts.{mul_neg}
-use Rattle.cell_balance.proofs.Deep.{add_mul}
-use Rattle.cell_balance.proofs.EntryFlows.{difference_over}
-use Rattle.cell_balance.proofs.WholeBalances.{times_one}
 use Rattle.exact_budgets.proofs.Kept.{kept, kept_over, kept_is, kept_none, kept_turned}
 use Rattle.exact_budgets.proofs.FaceSums.{sum_over, sum_append, sum_none, sum_kept, sum_at, leads, Between, from_sum, from_none, known_sum}
 

@@ -1,7 +1,6 @@
 -- The worked cell and the worked zone: their solutions, the bounds of the cell's terms, and the zone's flows. Everything is computed.
-use Rattle.exact_budgets.proofs.Common.{zero, suc, refl, arith, ints, In, Out, Storage, SolvesStep, BudgetEncloses, exact_term, exact_singles, heads_of, ◌≡◌, ℕ}
-use Rattle.exact_budgets.proofs.Common.{◌<◌, length, All, slice_index, Constant, ExactFixed, cell_at, exact_from, exact_cell, exact_faces, IsAlone, pumped_step}
-use Rattle.exact_budgets.proofs.Common.{five, pumped_budget, PumpedCell, middle_step, own_zones, MiddleCell}
+use Rattle.exact_budgets.proofs.Common.{zero, suc, refl, arith, ints, In, Out, Storage, SolvesStep, BudgetEncloses, exact_term, exact_singles, heads_of, ◌≡◌, ℕ, ◌<◌, length, All, slice_index}
+use Rattle.exact_budgets.proofs.Common.{Constant, ExactFixed, cell_at, exact_from, exact_cell, exact_faces, IsAlone, pumped_step, five, pumped_budget, PumpedCell, middle_step, own_zones, MiddleCell}
 
 solved : SolvesStep pumped_step 1 five
 solved zero h = refl

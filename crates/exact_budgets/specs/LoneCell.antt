@@ -1,8 +1,7 @@
 -- A cell that is alone in its zone, and what flows from it into another zone.
 use Rattle.std.specs.Prelude.{◌≡◌, ℕ, ◌<◌, ◌==◌, Bool, true, false, ◌&&◌, List, length, All, slice_index}
 use Rattle.std.specs.List.{filter}
-use Rattle.decimal_input.specs.{Fraction, opposite, fraction_total}
-use Rattle.decimal_input.specs.Fractions.{plus, Same}
+use Rattle.decimal_input.specs.{Fraction, opposite, fraction_total, Fractions.plus, Fractions.Same}
 use Rattle.step_problem.specs.declared.entry.FixedKind.{FixedKind}
 use Rattle.step_problem.specs.declared.entry.FixedKind.TheVariants.{Storage, Constant, General}
 use Rattle.cell_balance.specs.{ExactLink, ExactFixed, ExactCell, cell_at, AreLinked, link_flow, fixed_flow}

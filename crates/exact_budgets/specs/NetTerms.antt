@@ -1,27 +1,17 @@
 -- The net terms of a volumetric budget, exact and by their bounds (TM 6-A16, chapter 3, the volumetric budget).
 use Rattle.std.specs.Prelude.{◌≡◌, ℕ, ◌+◌, not, List, ℤ, pos, neg_ℤ, ◌-ℤ◌, [], ◌∷◌, ◌<◌, map, Bool, Option}
 use Rattle.std.specs.List.{filter}
-use Rattle.decimal_input.specs.{Fraction, fraction_total, EnclosesSigned}
-use Rattle.decimal_input.specs.Fractions.{Same}
-use Rattle.step_problem.specs.{total}
-use Rattle.step_problem.specs.declared.place.Dir.{Dir}
-use Rattle.step_problem.specs.declared.place.Dir.TheVariants.{In, Out}
-use Rattle.step_problem.specs.declared.place.Term.{Term}
+use Rattle.decimal_input.specs.{Fraction, fraction_total, EnclosesSigned, Fractions.Same}
+use Rattle.step_problem.specs.{total, declared.place.Dir.Dir, declared.place.Dir.TheVariants.In, declared.place.Dir.TheVariants.Out, declared.place.Term.Term}
 use Rattle.cell_balance.specs.{ExactCell, AreLinked, minus, SolvesStep}
-use Rattle.budget_bounds.specs.declared.pair.Budget.{Budget}
-use Rattle.budget_bounds.specs.{is_term, all_terms, bounds_in, exact_term}
-use Rattle.model_types.specs.declared.model.FlowModel.{FlowModel}
+use Rattle.budget_bounds.specs.{declared.pair.Budget.Budget, is_term, all_terms, bounds_in, exact_term}
+use Rattle.model_types.specs.{declared.model.FlowModel.FlowModel, declared.limits.Limits.Limits, start_head, times, IsModel}
 use Rattle.flow_equations.specs.{exact_step, heads_of, variable_heads, Solves}
-use Rattle.listing_run.specs.declared.solving.Step.{Step}
-use Rattle.model_types.specs.declared.limits.Limits.{Limits}
-use Rattle.model_types.specs.{start_head, times, IsModel}
-use Rattle.listing_run.specs.declared.steps.Task.{Task}
-use Rattle.listing_run.specs.declared.text.ListingEnd.TheVariants.{Whole}
-use Rattle.listing_run.specs.{AllSteps, one_task, EnclosesHistories}
+use Rattle.listing_run.specs.{declared.solving.Step.Step, declared.steps.Task.Task, declared.text.ListingEnd.TheVariants.Whole, AllSteps, one_task}
+use Rattle.listing_run.specs.{EnclosesHistories}
 use Rattle.deck_problems.specs.{one_deck}
 use Rattle.listing_io.specs.declared.listing.ListedStep.{ListedStep}
-use Rattle.check_run.specs.declared.verdict.ListingVerdict.TheVariants.{Certified}
-use Rattle.check_run.specs.{IsVerdict, steps_of}
+use Rattle.check_run.specs.{declared.verdict.ListingVerdict.TheVariants.Certified, IsVerdict, steps_of}
 
 -- TOTAL IN or TOTAL OUT: the sum of all terms in this direction
 abbrev pub total_flow : List ExactCell → (ℕ → Fraction) → Dir → Fraction

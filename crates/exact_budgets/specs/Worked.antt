@@ -1,12 +1,9 @@
 -- A step that is solved by hand, and a listed budget of it. Lengths in metres, flows in cubic metres per day.
 use Rattle.std.specs.Prelude.{◌≡◌, ℕ, ◌*◌, List, [], ◌∷◌, pos, neg_ℤ, ℤ, ◌+◌}
-use Rattle.decimal_input.specs.{whole, Fraction}
-use Rattle.decimal_input.specs.Fractions.{Same}
+use Rattle.decimal_input.specs.{whole, Fraction, Fractions.Same}
 use Rattle.step_problem.specs.declared.place.Term.TheVariants.{Storage}
 use Rattle.cell_balance.specs.{ExactCell, ExactFixed, SolvesStep, one}
-use Rattle.budget_bounds.specs.declared.pair.TermPair.{TermPair}
-use Rattle.budget_bounds.specs.declared.pair.Budget.{Budget}
-use Rattle.budget_bounds.specs.{no_pair, BudgetEncloses}
+use Rattle.budget_bounds.specs.{declared.pair.TermPair.TermPair, declared.pair.Budget.Budget, no_pair, BudgetEncloses}
 use Rattle.flow_equations.specs.{heads_of}
 use Rattle.exact_budgets.specs.NetTerms.{net_flow, net_lower, net_upper, lower_by_others, upper_by_others}
 use Rattle.zone_flows.specs.{exact_faces, exact_flow}

@@ -1,7 +1,6 @@
 -- Each choice between two models has a history, and one alone: all steps of two decks are turns.
 use Rattle.exact_histories.proofs.Common.{map, two, ChoicesHaveOneHistory, times, starts_enclose_all, starts_fit_decks, Some}
-use Rattle.exact_histories.proofs.Turns.{turns_of, heads_at}
-use Rattle.exact_histories.proofs.HaveOne.{have_one_by}
+use Rattle.exact_histories.proofs.{Turns.turns_of, Turns.heads_at, HaveOne.have_one_by}
 
 pub choices_one : ChoicesHaveOneHistory
 choices_one limits a b s kind xs have =

@@ -1,9 +1,7 @@
 -- A model between two others gives choices between them, which its histories solve.
-use Rattle.exact_histories.proofs.Common.{[], ◌∷◌, ℕ, ℤ, subst, List, Contains, map, Fraction, start_head, times, FlowModel, TimeStep, heads_of, IsModel}
-use Rattle.exact_histories.proofs.Common.{SolvesFrom, first_in, next_in, own_choice, SolvesChoicesFrom, ModelsAreChosen, IsBetween, IsChoiceBetween, AllZip}
-use Rattle.exact_histories.proofs.Common.{time_of}
-use Rattle.deck_span.proofs.OwnChoices.{models_give, models_solve}
-use Rattle.deck_span.proofs.SameFrames.{starts_between, times_are}
+use Rattle.exact_histories.proofs.Common.{[], ◌∷◌, ℕ, ℤ, subst, List, Contains, map, Fraction, start_head, times, FlowModel, TimeStep, heads_of, IsModel, SolvesFrom, first_in, next_in, own_choice}
+use Rattle.exact_histories.proofs.Common.{SolvesChoicesFrom, ModelsAreChosen, IsBetween, IsChoiceBetween, AllZip, time_of}
+use Rattle.deck_span.proofs.{OwnChoices.models_give, OwnChoices.models_solve, SameFrames.starts_between, SameFrames.times_are}
 
 module _ (a m b : FlowModel) (valid : IsModel a) (between : IsBetween a m b) where
   chosen : (ats : List TimeStep) → ((at : TimeStep) → Contains ats at → Contains (times a) at) → AllZip (IsChoiceBetween a b) ats (map (own_choice m) ats)

@@ -1,9 +1,7 @@
 -- Where all steps of one deck or of two are turns, the model of the one deck has one history, or so has each choice between the two.
-use Rattle.exact_histories.proofs.Common.{Limits, ◌∷◌, [], ℕ, refl, ℤ, List, Option, map, Fraction, start_head, times, own_choice, own_choice_is, own_solves}
-use Rattle.exact_histories.proofs.Common.{solves_own, FlowModel, TimeStep, Bound, HeadsEnclose, heads_of, SolvesFrom, one_deck, IsStartOf, two}
-use Rattle.exact_histories.proofs.Common.{SolvesChoicesFrom, ChoicesHaveOne, None, Some, HasOneHistory, HaveOneBy}
-use Rattle.exact_histories.proofs.GridVectors.{history_exists}
-use Rattle.exact_histories.proofs.Turns.{AreChosen, AreTurns, goes_on, are_one}
+use Rattle.exact_histories.proofs.Common.{Limits, ◌∷◌, [], ℕ, refl, ℤ, List, Option, map, Fraction, start_head, times, own_choice, own_choice_is, own_solves, solves_own, FlowModel, TimeStep, Bound}
+use Rattle.exact_histories.proofs.Common.{HeadsEnclose, heads_of, SolvesFrom, one_deck, IsStartOf, two, SolvesChoicesFrom, ChoicesHaveOne, None, Some, HasOneHistory, HaveOneBy}
+use Rattle.exact_histories.proofs.{GridVectors.history_exists, Turns.AreChosen, Turns.AreTurns, Turns.goes_on, Turns.are_one}
 
 -- the model's own choice for each of these times
 module _ (m : FlowModel) where

@@ -1,23 +1,17 @@
 -- One step of one deck or of two: each choice of the step has a solution, from exact heads within the old ones, and one alone.
-use Rattle.exact_histories.proofs.Common.{Limits, ◌≡◌, ◌<◌, ◌∙◌, [], ◌∷◌, ℕ, true, inl, inr, refl, sym, subst, arith, ℤ, List, Option, length, map, All}
-use Rattle.exact_histories.proofs.Common.{Fraction, Same, Same-sym, Same-trans, FlowModel, TimeStep, Bound, share, heads_of, variable_heads, HeadsEnclose}
-use Rattle.exact_histories.proofs.Common.{AreSameHeads, IsBefore, problem_encloses, pair_encloses, IsPosed, IsStepBy, Entries, cases_Bool, cell_count, cell_at}
-use Rattle.exact_histories.proofs.Common.{no_cell, HasSize, is_variable, is_constant, index_of, variable_cells, exact_step, PairKind, Solved, None, Some, Decks}
-use Rattle.exact_histories.proofs.Common.{IsChoiceOf, Choice, SolvesChoiceAt, step_from, chosen_cells, lies_encloses, ExactCell, ExactLink, HasAtMostOne}
-use Rattle.exact_histories.proofs.Common.{steps_enclose, Edges, IsProblem, EnclosesStep, problem_fits, IsCellBetween, IsStepBetween, none, are_linked, time_of}
+use Rattle.exact_histories.proofs.Common.{Limits, ◌≡◌, ◌<◌, ◌∙◌, [], ◌∷◌, ℕ, true, inl, inr, refl, sym, subst, arith, ℤ, List, Option, length, map, All, Fraction, Same, Same-sym, Same-trans}
+use Rattle.exact_histories.proofs.Common.{FlowModel, TimeStep, Bound, share, heads_of, variable_heads, HeadsEnclose, AreSameHeads, IsBefore, problem_encloses, pair_encloses, IsPosed, IsStepBy}
+use Rattle.exact_histories.proofs.Common.{Entries, cases_Bool, cell_count, cell_at, no_cell, HasSize, is_variable, is_constant, index_of, variable_cells, exact_step, PairKind, Solved, None, Some}
+use Rattle.exact_histories.proofs.Common.{Decks, IsChoiceOf, Choice, SolvesChoiceAt, step_from, chosen_cells, lies_encloses, ExactCell, ExactLink, HasAtMostOne, steps_enclose, Edges, IsProblem}
+use Rattle.exact_histories.proofs.Common.{EnclosesStep, problem_fits, IsCellBetween, IsStepBetween, none, are_linked, time_of}
 use Rattle.deck_span.proofs.ThreeLists.{three_at, three_lengths}
 use Rattle.model_types.proofs.Members.{All-In}
 use Rattle.exact_solutions.proofs.HeldSteps.{solution_exists, solution_is_one, same_share}
-use Rattle.problem_builder.proofs.Members.{variable_active, variable-In}
-use Rattle.step_chain.proofs.Limits.{cut_by, held_by}
-use Rattle.step_chain.proofs.Assembled.{active_constant, index_below, count_of, number_of}
+use Rattle.problem_builder.proofs.{Members.variable_active, Members.variable-In, Steps.cells_of, Problems.is_problem}
+use Rattle.step_chain.proofs.{Limits.cut_by, Limits.held_by, Assembled.active_constant, Assembled.index_below, Assembled.count_of, Assembled.number_of}
 use Rattle.certificate_check.proofs.Cut.{words_enclose}
 use Rattle.problem_builder.specs.{ProblemFits as ModelProblemFits}
-use Rattle.problem_builder.proofs.Steps.{cells_of}
-use Rattle.problem_builder.proofs.Problems.{is_problem}
-use Rattle.exact_histories.proofs.GridVectors.{HasVector, LinkedWithin, vector_exists}
-use Rattle.exact_histories.proofs.SameSteps.{balances_same}
-use Rattle.exact_histories.proofs.Ceilings.{held_above}
+use Rattle.exact_histories.proofs.{GridVectors.HasVector, GridVectors.LinkedWithin, GridVectors.vector_exists, SameSteps.balances_same, Ceilings.held_above}
 
 -- a problem of a model meets the conditions on problems
 model_fits : ModelProblemFits

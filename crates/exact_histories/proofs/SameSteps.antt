@@ -1,16 +1,12 @@
 -- The same heads, however their fractions are written, solve the same step, however its known heads are written.
-use Rattle.exact_histories.proofs.Common.{◌≡◌, ◌*◌, ◌<◌, ◌∙◌, ◌*ℤ◌, [], ◌∷◌, refl, ℕ, sym, ap, subst, arith, ℤ, pos, List, length, mul-pos, Fraction, den, Same}
-use Rattle.exact_histories.proofs.Common.{IsOver, mul_assoc, balance, share, SolvesStep, ExactFixed, ExactCell, cell_at, no_cell, zero, suc, map, get_or, All}
-use Rattle.exact_histories.proofs.Common.{All-nil, All-cons, All-head, All-tail, FlowModel, TimeStep, step_from, fixed_from, head_from, Choice, SolvesChoiceAt}
-use Rattle.exact_histories.proofs.Common.{variable_heads, last_factors_swap, AllZip}
+use Rattle.exact_histories.proofs.Common.{◌≡◌, ◌*◌, ◌<◌, ◌∙◌, ◌*ℤ◌, [], ◌∷◌, refl, ℕ, sym, ap, subst, arith, ℤ, pos, List, length, mul-pos, Fraction, den, Same, IsOver, mul_assoc, balance, share}
+use Rattle.exact_histories.proofs.Common.{SolvesStep, ExactFixed, ExactCell, cell_at, no_cell, zero, suc, map, get_or, All, All-nil, All-cons, All-head, All-tail, FlowModel, TimeStep, step_from}
+use Rattle.exact_histories.proofs.Common.{fixed_from, head_from, Choice, SolvesChoiceAt, variable_heads, last_factors_swap, AllZip}
 use Rattle.step_problem.specs.declared.entry.FixedKind.{FixedKind}
 use Rattle.step_problem.specs.declared.entry.FixedKind.TheVariants.{Storage, Constant, General}
 use Rattle.exact_solutions.proofs.LinearSteps.{cancel_same}
-use Rattle.cell_balance.proofs.Denominators.{step_common}
-use Rattle.cell_balance.proofs.Encloses.{share_is, whole_solves, whole_step}
-use Rattle.cell_balance.proofs.Over.{FlowOver, LinkOver, FixedOver, RiverOver, DrainOver, EvapOver, CellOver, balance_over}
-use Rattle.cell_balance.proofs.Scaling.{over_zero}
-use Rattle.cell_balance.proofs.Zips.{WholeEntry, WholeCell, whole_at, no_whole, AllZip-at, AllZip-length}
+use Rattle.cell_balance.proofs.{Denominators.step_common, Encloses.share_is, Encloses.whole_solves, Encloses.whole_step, Over.FlowOver, Over.LinkOver, Over.FixedOver, Over.RiverOver, Over.DrainOver}
+use Rattle.cell_balance.proofs.{Over.EvapOver, Over.CellOver, Over.balance_over, Scaling.over_zero, Zips.WholeEntry, Zips.WholeCell, Zips.whole_at, Zips.no_whole, Zips.AllZip-at, Zips.AllZip-length}
 
 pub record FixedAgrees (x y : ExactFixed) : Type 0 where
   pub conductance : x.conductance ≡ y.conductance

@@ -1,10 +1,8 @@
 -- Turns of one deck or of two: a problem for each time, and heads that each solution of a choice lands within. By them the choices have a
 -- history, and one alone, by induction on the time steps.
-use Rattle.exact_histories.proofs.Common.{Limits, ◌<◌, [], ◌∷◌, ℕ, ℤ, List, Contains, map, Fraction, Same-sym, TimeStep, Bound, heads_of, HeadsEnclose}
-use Rattle.exact_histories.proofs.Common.{AreGridHeads, AreSameHeads, AreSame, IsBefore, AreDecks, Choice, SolvesChoicesFrom, times, AreSteps, Solved, PairKind}
-use Rattle.exact_histories.proofs.Common.{pair_fits, Decks, IsChoiceOf, first_in, next_in, all_fit, AllZip}
-use Rattle.exact_histories.proofs.GridVectors.{GoOn}
-use Rattle.exact_histories.proofs.OneTurn.{IsTurn, turn_of, has_vector, heads_same}
+use Rattle.exact_histories.proofs.Common.{Limits, ◌<◌, [], ◌∷◌, ℕ, ℤ, List, Contains, map, Fraction, Same-sym, TimeStep, Bound, heads_of, HeadsEnclose, AreGridHeads, AreSameHeads, AreSame, IsBefore}
+use Rattle.exact_histories.proofs.Common.{AreDecks, Choice, SolvesChoicesFrom, times, AreSteps, Solved, PairKind, pair_fits, Decks, IsChoiceOf, first_in, next_in, all_fit, AllZip}
+use Rattle.exact_histories.proofs.{GridVectors.GoOn, OneTurn.IsTurn, OneTurn.turn_of, OneTurn.has_vector, OneTurn.heads_same}
 
 abbrev pub heads_at : Solved → List Bound
 heads_at x = x.heads

@@ -1,12 +1,8 @@
 -- Where all steps of a task have values, the model of its one deck has a history, and one alone, or so has each choice between two.
-use Rattle.exact_histories.proofs.Common.{◌∷◌, [], subst, List, map, times, TimeStep, Bound, AreSteps, starts_enclose_all, Solved, starts_fit_decks, one_valid}
-use Rattle.exact_histories.proofs.Common.{RunsHaveAHistory, RunsHaveOneHistory, AreDecks, HaveOneHistory}
-use Rattle.listing_run.specs.declared.text.ListingEnd.TheVariants.{Whole}
-use Rattle.listing_run.specs.{AllSteps, one_task, pairs_of, Steps}
-use Rattle.listing_run.specs.declared.solving.Step.{Step}
-use Rattle.listing_run.specs.declared.steps.Task.{Task}
-use Rattle.exact_histories.proofs.Turns.{turns_of, heads_at}
-use Rattle.exact_histories.proofs.HaveOne.{have_one_by}
+use Rattle.exact_histories.proofs.Common.{◌∷◌, [], subst, List, map, times, TimeStep, Bound, AreSteps, starts_enclose_all, Solved, starts_fit_decks, one_valid, RunsHaveAHistory, RunsHaveOneHistory}
+use Rattle.exact_histories.proofs.Common.{AreDecks, HaveOneHistory}
+use Rattle.listing_run.specs.{declared.text.ListingEnd.TheVariants.Whole, AllSteps, one_task, pairs_of, Steps, declared.solving.Step.Step, declared.steps.Task.Task}
+use Rattle.exact_histories.proofs.{Turns.turns_of, Turns.heads_at, HaveOne.have_one_by}
 
 module _ (k : Task) where
   solved_steps : (ats : List TimeStep) (values : List Step) (old : List Bound) → Steps k old ats values Whole → (xs : List Solved) × AreSteps k.limits k.decks k.digits (pairs_of k) old ats xs

@@ -1,20 +1,14 @@
 -- That a model has a history of heads that solves its exact equations, and when two histories are the same.
 use Rattle.std.specs.Prelude.{ℕ, ℤ, List, Bool, Option, map, Some, None}
 use Rattle.std.specs.List.{AllZip}
-use Rattle.decimal_input.specs.{Fraction}
-use Rattle.decimal_input.specs.Fractions.{Same}
-use Rattle.model_types.specs.declared.model.FlowModel.{FlowModel}
+use Rattle.decimal_input.specs.{Fraction, Fractions.Same}
+use Rattle.model_types.specs.{declared.model.FlowModel.FlowModel, declared.limits.Limits.Limits, IsModel, times, start_head}
 use Rattle.flow_equations.specs.{heads_of, Solves}
 use Rattle.problem_builder.specs.{IsActive}
-use Rattle.model_types.specs.declared.limits.Limits.{Limits}
-use Rattle.model_types.specs.{IsModel, times, start_head}
-use Rattle.listing_run.specs.declared.solving.Step.{Step}
-use Rattle.listing_run.specs.declared.text.ListingEnd.TheVariants.{Whole}
-use Rattle.listing_run.specs.{AllSteps, one_task}
+use Rattle.listing_run.specs.{declared.solving.Step.Step, declared.text.ListingEnd.TheVariants.Whole, AllSteps, one_task}
 use Rattle.deck_span.specs.{AreChoices, Choice, IsBetween, SolvesChoices, own_choice}
-use Rattle.step_chain.specs.declared.solved.Solved.{Solved}
+use Rattle.step_chain.specs.{declared.solved.Solved.Solved, AreAllSteps}
 use Rattle.step_problem.specs.{PairKind}
-use Rattle.step_chain.specs.{AreAllSteps}
 use Rattle.deck_problems.specs.declared.decks.Decks.{Decks}
 
 -- A history of heads, over some denominator, solves the model's exact equations.

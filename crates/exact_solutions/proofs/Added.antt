@@ -1,7 +1,6 @@
 -- A step with all heads higher, with one ramp more, or with a conductance and a flow more at one cell.
-use Rattle.exact_solutions.proofs.Common.{mul_mono, ◌*ℤ◌, ◌+ℤ◌, ◌+◌, ◌-ℤ◌, ◌<◌, ◌∷◌, ◌≡◌, ◌≤ℤ◌, Bool, List, ap, arith, cond, false, nat_eq, pos, refl, suc}
-use Rattle.exact_solutions.proofs.Common.{true, ℕ, ℤ, sym, zero, eq-eqb, ne_eqb, ints, total, as_diff, diffs, same_diff, sum-same, sum_inside_at_most, Ramp}
-use Rattle.exact_solutions.proofs.Common.{ramp_flow, link_flow, net_flow, deep, IsHeldFromBelow, flows_fall, *ℤ-zero, sum_below}
+use Rattle.exact_solutions.proofs.Common.{mul_mono, ◌*ℤ◌, ◌+ℤ◌, ◌+◌, ◌-ℤ◌, ◌<◌, ◌∷◌, ◌≡◌, ◌≤ℤ◌, Bool, List, ap, arith, cond, false, nat_eq, pos, refl, suc, true, ℕ, ℤ, sym, zero, eq-eqb, ne_eqb, ints}
+use Rattle.exact_solutions.proofs.Common.{total, as_diff, diffs, same_diff, sum-same, sum_inside_at_most, Ramp, ramp_flow, link_flow, net_flow, deep, IsHeldFromBelow, flows_fall, *ℤ-zero, sum_below}
 
 module _ (n : ℕ) (a : ℕ → ℕ → ℤ) where
   -- all heads higher by k

@@ -1,7 +1,6 @@
 -- A linear step whose matrix is inverse-positive has a solution: the last cell is eliminated without fractions.
-use Rattle.exact_solutions.proofs.Common.{◌*ℤ◌, ◌*◌, ◌+ℤ◌, ◌-ℤ◌, ◌<ℤ◌, ◌<◌, ◌∙◌, ◌≡◌, ◌≤ℤ◌, ap, arith, inl, inr, neg_ℤ, negsuc, pos, subst, suc, zero, ℕ, ℤ}
-use Rattle.exact_solutions.proofs.Common.{mul-pos, *ℤ-zero, zero-*ℤ, cases_eq, by_lt_z, ints, as_diff, diffs, mul_nonneg, same_diff, sum_below, cancel_le}
-use Rattle.exact_solutions.proofs.Common.{positive_natural}
+use Rattle.exact_solutions.proofs.Common.{◌*ℤ◌, ◌*◌, ◌+ℤ◌, ◌-ℤ◌, ◌<ℤ◌, ◌<◌, ◌∙◌, ◌≡◌, ◌≤ℤ◌, ap, arith, inl, inr, neg_ℤ, negsuc, pos, subst, suc, zero, ℕ, ℤ, mul-pos, *ℤ-zero, zero-*ℤ, cases_eq}
+use Rattle.exact_solutions.proofs.Common.{by_lt_z, ints, as_diff, diffs, mul_nonneg, same_diff, sum_below, cancel_le, positive_natural}
 use Rattle.exact_solutions.proofs.Added.{with_last, with_last-at, with_last-below, sum_below-with_last, sum_below-combined}
 
 -- An inverse-positive matrix: where D i * X i is at least the sum of a i j * X j in each row, no X i is below 0. (Textbook; cell i has the total conductance D i, and conducts a i j to cell j.)

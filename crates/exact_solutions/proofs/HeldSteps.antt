@@ -1,14 +1,11 @@
 -- Each exact step that a problem encloses has a solution where its components are held below and above, and one alone where they are held below.
-use Rattle.exact_solutions.proofs.Common.{step_common, ◌*◌, ◌^◌, ◌∙◌, arith, length, pos, mul-pos, ◌+ℤ◌, ◌<◌, ◌≡◌, ◌≤ℤ◌, List, inl, inr, ℕ, ℤ, ◌*ℤ◌, ap, sym}
-use Rattle.exact_solutions.proofs.Common.{mutual_whole, whole_step, AllZip-length, WholeCell, WholeEntry, whole_at, CellWithin, DrainWithin, RiverWithin}
-use Rattle.exact_solutions.proofs.Common.{last_factors_swap, AllZip, ints, All-contains, total, entries_at, HeldHaveASolution, HeldHaveAtMostOne}
-use Rattle.exact_solutions.proofs.Common.{IsAnchoredAbove, IsHeldAbove, ramps_from, a_of, b_of, q_of, ramps_at_cell, open_conductance, open_conductance_at}
-use Rattle.exact_solutions.proofs.Common.{IsHeldFromAbove, both_ways, All-back, none_conduct, total_positive, CellEncloses, share, Fraction, IsOver, Same, den}
+use Rattle.exact_solutions.proofs.Common.{step_common, ◌*◌, ◌^◌, ◌∙◌, arith, length, pos, mul-pos, ◌+ℤ◌, ◌<◌, ◌≡◌, ◌≤ℤ◌, List, inl, inr, ℕ, ℤ, ◌*ℤ◌, ap, sym, mutual_whole, whole_step, AllZip-length}
+use Rattle.exact_solutions.proofs.Common.{WholeCell, WholeEntry, whole_at, CellWithin, DrainWithin, RiverWithin, last_factors_swap, AllZip, ints, All-contains, total, entries_at, HeldHaveASolution}
+use Rattle.exact_solutions.proofs.Common.{HeldHaveAtMostOne, IsAnchoredAbove, IsHeldAbove, ramps_from, a_of, b_of, q_of, ramps_at_cell, open_conductance, open_conductance_at, IsHeldFromAbove}
+use Rattle.exact_solutions.proofs.Common.{both_ways, All-back, none_conduct, total_positive, CellEncloses, share, Fraction, IsOver, Same, den}
 use Rattle.decimal_input.proofs.Powers.{ten_pos}
 use Rattle.cell_balance.proofs.Enclosed.{step_within, entries_are_linked, links_good}
-use Rattle.exact_solutions.proofs.LinearSteps.{cancel_same, one_whole_solution}
-use Rattle.exact_solutions.proofs.OneRamp.{whole_solution_exists}
-use Rattle.exact_solutions.proofs.WholeSolutions.{solves_step, solves_whole}
+use Rattle.exact_solutions.proofs.{LinearSteps.cancel_same, LinearSteps.one_whole_solution, OneRamp.whole_solution_exists, WholeSolutions.solves_step, WholeSolutions.solves_whole}
 use Rattle.step_problem.specs.Entries.{Entries}
 use Rattle.cell_balance.proofs.HeldBelow.{held_below, closed_set_holds_lead, no_fixed, some_conducts, cell_within}
 

@@ -1,10 +1,9 @@
 -- A step without ramps, of whose closed sets each has a conductance to a known head, has a solution; and where some heads let no cell gain water, no held set is without one.
 pub use Rattle.decimal_input.proofs.FloorLaws.{le-of as same_at_most}
-use Rattle.exact_solutions.proofs.Common.{[], ◌*ℤ◌, ◌+ℤ◌, ◌-ℤ◌, ◌<◌, ◌≡◌, ◌≤ℤ◌, Bool, arith, pos, refl, suc, true, zero, ℕ, ℤ, *ℤ-zero, zero-*ℤ, ints, as_diff}
-use Rattle.exact_solutions.proofs.Common.{diffs, same_diff, sum_below, sum_nonneg, add_mul, cancel_right, le_anti, ◌*◌, ◌∙◌, ◌∷◌, List, None, Option, Some}
-use Rattle.exact_solutions.proofs.Common.{cond, false, nat_eq, neg_ℤ, subst, sym, mul-pos, int_min, total, mul_assoc, max_times, min_times, sum-same, sum-times}
-use Rattle.exact_solutions.proofs.Common.{sub_mul, mul_mono_right, IsClosed, AreMutual, net_flow, IsHeldFromBelow, IsSolution, Ramp, rise, ramp_flow, link_flow}
-use Rattle.exact_solutions.proofs.Common.{carried_gain, heads_compare}
+use Rattle.exact_solutions.proofs.Common.{[], ◌*ℤ◌, ◌+ℤ◌, ◌-ℤ◌, ◌<◌, ◌≡◌, ◌≤ℤ◌, Bool, arith, pos, refl, suc, true, zero, ℕ, ℤ, *ℤ-zero, zero-*ℤ, ints, as_diff, diffs, same_diff, sum_below, sum_nonneg}
+use Rattle.exact_solutions.proofs.Common.{add_mul, cancel_right, le_anti, ◌*◌, ◌∙◌, ◌∷◌, List, None, Option, Some, cond, false, nat_eq, neg_ℤ, subst, sym, mul-pos, int_min, total, mul_assoc}
+use Rattle.exact_solutions.proofs.Common.{max_times, min_times, sum-same, sum-times, sub_mul, mul_mono_right, IsClosed, AreMutual, net_flow, IsHeldFromBelow, IsSolution, Ramp, rise, ramp_flow}
+use Rattle.exact_solutions.proofs.Common.{link_flow, carried_gain, heads_compare}
 use Rattle.exact_solutions.proofs.Elimination.{IsInversePositive, inverse_positive_solved}
 
 -- no closed set of cells is without a conductance to a known head

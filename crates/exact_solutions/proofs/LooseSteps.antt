@@ -1,13 +1,10 @@
 -- Steps with cells that nothing holds: heads one lower over these cells are another solution, where their deep flows sum to at most 0 or no river or drain of them conducts.
-use Rattle.exact_solutions.proofs.Common.{step_common, ◌≡◌, ◌*◌, ◌<◌, ◌∙◌, ◌+ℤ◌, ◌-ℤ◌, ◌*ℤ◌, ◌≤ℤ◌, [], ◌∷◌, ℕ, refl, sym, ap, arith, ℤ, pos, neg_ℤ, List}
-use Rattle.exact_solutions.proofs.Common.{length, All, Bool, true, false, cond, mul-pos, int_max, AllZip, zero-*ℤ, ints, clamps, Same, total, total_mono}
-use Rattle.exact_solutions.proofs.Common.{mul_assoc, mul_mono, sum_below, sum_inside, deep_flow, AreLinked, share, SolvesStep, ExactCell, cell_at, no_cell}
-use Rattle.exact_solutions.proofs.Common.{IsMutual, whole_solves, mutual_whole, FixedOver, RiverOver, DrainOver, EvapOver, CellOver, IsOver-none, sub_mul}
-use Rattle.exact_solutions.proofs.Common.{WholeEntry, WholeCell, whole_at, no_whole, whole_link, whole_fixed, whole_river, whole_drain, whole_evap}
-use Rattle.exact_solutions.proofs.Common.{whole_balance, whole_deep_river, whole_full, whole_deep, whole_step, AllZip-at, AllZip-length, All-zip, le_anti}
-use Rattle.exact_solutions.proofs.Common.{deep_over, HasNoKnownHead, DrainedHaveAnother, AfloatHaveAnother, closed_cancel, le-trans, sum_below-tight}
-use Rattle.exact_solutions.proofs.Common.{heads_over, whole_falls, *ℤ-zero, loss_falls, none_shared, sum_inside-add, total-none, sum_inside-zero, same_length}
-use Rattle.exact_solutions.proofs.Common.{cell_over, closed_whole}
+use Rattle.exact_solutions.proofs.Common.{step_common, ◌≡◌, ◌*◌, ◌<◌, ◌∙◌, ◌+ℤ◌, ◌-ℤ◌, ◌*ℤ◌, ◌≤ℤ◌, [], ◌∷◌, ℕ, refl, sym, ap, arith, ℤ, pos, neg_ℤ, List, length, All, Bool, true, false, cond, mul-pos}
+use Rattle.exact_solutions.proofs.Common.{int_max, AllZip, zero-*ℤ, ints, clamps, Same, total, total_mono, mul_assoc, mul_mono, sum_below, sum_inside, deep_flow, AreLinked, share, SolvesStep}
+use Rattle.exact_solutions.proofs.Common.{ExactCell, cell_at, no_cell, IsMutual, whole_solves, mutual_whole, FixedOver, RiverOver, DrainOver, EvapOver, CellOver, IsOver-none, sub_mul, WholeEntry}
+use Rattle.exact_solutions.proofs.Common.{WholeCell, whole_at, no_whole, whole_link, whole_fixed, whole_river, whole_drain, whole_evap, whole_balance, whole_deep_river, whole_full, whole_deep}
+use Rattle.exact_solutions.proofs.Common.{whole_step, AllZip-at, AllZip-length, All-zip, le_anti, deep_over, HasNoKnownHead, DrainedHaveAnother, AfloatHaveAnother, closed_cancel, le-trans}
+use Rattle.exact_solutions.proofs.Common.{sum_below-tight, heads_over, whole_falls, *ℤ-zero, loss_falls, none_shared, sum_inside-add, total-none, sum_inside-zero, same_length, cell_over, closed_whole}
 use Rattle.cell_balance.proofs.Enclosing.{over_le, IsOver-inside}
 use Rattle.exact_solutions.proofs.WholeSolutions.{without_links, lowered, balance-links, lowered_balances, whole_balances_solve}
 use Rattle.exact_solutions.proofs.HeldSteps.{same_crossed}

@@ -1,13 +1,11 @@
 -- One ramp more: solve with it as a conductance to its foot; where that head lies on the ramp it is the solution, else solve without the ramp, or with its full rate.
-use Rattle.exact_solutions.proofs.Common.{◌*ℤ◌, ◌+ℤ◌, ◌-ℤ◌, ◌<◌, ◌∙◌, ◌∷◌, ◌≡◌, ◌≤ℤ◌, List, Option, Some, ap, arith, cond, nat_eq, neg_ℤ, pos, refl, subst, sym}
-use Rattle.exact_solutions.proofs.Common.{ℕ, ℤ, [], ◌<ℤ◌, None, inl, inr, suc, zero, *ℤ-zero, zero-*ℤ, ints, by_lt_z, cancel_right, mul_mono_right}
-use Rattle.exact_solutions.proofs.Common.{last_factors_swap, loss_falls, as_diff, diffs, mul_mono, same_diff, sub_mul, Ramp, rise, ramp_flow, AreMutual}
-use Rattle.exact_solutions.proofs.Common.{net_flow, IsHeldFromBelow, IsSolution, HasWholeSolution, IsSinking, HasSinking, rise_within_extent, rise-below_foot}
-use Rattle.exact_solutions.proofs.Common.{rise-above_top, extent-between, IsHeldFromAbove, rise-no_extent, rise-no_top, rise-between, cases_lt}
+use Rattle.exact_solutions.proofs.Common.{◌*ℤ◌, ◌+ℤ◌, ◌-ℤ◌, ◌<◌, ◌∙◌, ◌∷◌, ◌≡◌, ◌≤ℤ◌, List, Option, Some, ap, arith, cond, nat_eq, neg_ℤ, pos, refl, subst, sym, ℕ, ℤ, [], ◌<ℤ◌, None, inl, inr, suc}
+use Rattle.exact_solutions.proofs.Common.{zero, *ℤ-zero, zero-*ℤ, ints, by_lt_z, cancel_right, mul_mono_right, last_factors_swap, loss_falls, as_diff, diffs, mul_mono, same_diff, sub_mul, Ramp, rise}
+use Rattle.exact_solutions.proofs.Common.{ramp_flow, AreMutual, net_flow, IsHeldFromBelow, IsSolution, HasWholeSolution, IsSinking, HasSinking, rise_within_extent, rise-below_foot, rise-above_top}
+use Rattle.exact_solutions.proofs.Common.{extent-between, IsHeldFromAbove, rise-no_extent, rise-no_top, rise-between, cases_lt}
 use Rattle.exact_solutions.proofs.LinearSteps.{same_at_most, same_at_least, comparison_over, linear_solution, not_loose}
 use Rattle.exact_solutions.proofs.Added.{net_flow-cons, conductance_added, flow_added, net_flow-added}
-use Rattle.exact_solutions.proofs.Regimes.{cond_same, cond_less, cond_nonneg, cond_none, ramp, flow-middle, flow-full, held_without, held_full, held_middle}
-use Rattle.exact_solutions.proofs.Regimes.{sinking_middle, sinking_exists}
+use Rattle.exact_solutions.proofs.Regimes.{cond_same, cond_less, cond_nonneg, cond_none, ramp, flow-middle, flow-full, held_without, held_full, held_middle, sinking_middle, sinking_exists}
 
 -- (y * e ≤ x * d), and x at most t * e
 below_over : (e d : ℕ) (x y t : ℤ) → 0 < e → (y *ℤ pos e) ≤ℤ (x *ℤ pos d) → x ≤ℤ (t *ℤ pos e) → y ≤ℤ (t *ℤ pos d)

@@ -1,11 +1,9 @@
 -- A ramp in one regime: as a conductance to its foot, or at its full rate; and a step that is held stays held where its first ramp is left out or put in one regime.
-use Rattle.exact_solutions.proofs.Common.{◌≡◌, ◌≤ℤ◌, arith, cond, inl, inr, nat_eq, pos, refl, ℕ, ℤ, cases_eq, eq-eqb, ne_eqb, ints, ◌*ℤ◌, ◌+ℤ◌, ◌-ℤ◌, ◌∙◌, ◌∷◌}
-use Rattle.exact_solutions.proofs.Common.{Bool, List, None, Option, Some, false, neg_ℤ, suc, true, zero-*ℤ, total, as_diff, diffs, same_diff, [], ap, subst}
-use Rattle.exact_solutions.proofs.Common.{int_max, clamps, loss_falls, Ramp, full_rate, IsHeldFromBelow, IsHeldFromAbove, extent-between, ramp_flow, AreMutual}
-use Rattle.exact_solutions.proofs.Common.{HasSinking, rise_within_height, rise-no_top, full_rate_nonneg, flow_leaves}
-use Rattle.exact_solutions.proofs.Added.{held_where_deeper, conductance_added, flow_added, added_zero, added_zero_away, flow_added-away, flow_added-at}
-use Rattle.exact_solutions.proofs.Added.{conductance_added-at, net_flow_lifted, net_flow-cons, net_flow-added}
-use Rattle.exact_solutions.proofs.LinearSteps.{same_at_most, linear_solution}
+use Rattle.exact_solutions.proofs.Common.{◌≡◌, ◌≤ℤ◌, arith, cond, inl, inr, nat_eq, pos, refl, ℕ, ℤ, cases_eq, eq-eqb, ne_eqb, ints, ◌*ℤ◌, ◌+ℤ◌, ◌-ℤ◌, ◌∙◌, ◌∷◌, Bool, List, None, Option, Some, false}
+use Rattle.exact_solutions.proofs.Common.{neg_ℤ, suc, true, zero-*ℤ, total, as_diff, diffs, same_diff, [], ap, subst, int_max, clamps, loss_falls, Ramp, full_rate, IsHeldFromBelow, IsHeldFromAbove}
+use Rattle.exact_solutions.proofs.Common.{extent-between, ramp_flow, AreMutual, HasSinking, rise_within_height, rise-no_top, full_rate_nonneg, flow_leaves}
+use Rattle.exact_solutions.proofs.{Added.held_where_deeper, Added.conductance_added, Added.flow_added, Added.added_zero, Added.added_zero_away, Added.flow_added-away, Added.flow_added-at}
+use Rattle.exact_solutions.proofs.{Added.conductance_added-at, Added.net_flow_lifted, Added.net_flow-cons, Added.net_flow-added, LinearSteps.same_at_most, LinearSteps.linear_solution}
 
 -- at one cell alone
 pub cond_same : (k i : ℕ) (x y : ℤ) → (k ≡ i → x ≡ y) → cond (nat_eq k i) x (pos 0) ≡ cond (nat_eq k i) y (pos 0)

@@ -1,11 +1,9 @@
 -- Heads solve an exact step just where they solve its whole numbers.
-use Rattle.exact_solutions.proofs.Common.{[], ◌*ℤ◌, ◌*◌, ◌<◌, ◌∙◌, ◌∷◌, ◌≡◌, List, ap, arith, length, map, pos, refl, subst, suc, sym, zero, ℕ, ℤ, mul-pos}
-use Rattle.exact_solutions.proofs.Common.{◌+ℤ◌, ◌-ℤ◌, inl, inr, All, Bool, true, false, cond, AllZip, Fraction, IsOver, Ratio, den, mul_assoc, SolvesStep}
-use Rattle.exact_solutions.proofs.Common.{share, ExactCell, cell_at, no_cell, balance, HasLinkBack, AreLinked, ExactLink, IsMutual, whole_solves, CellOver}
-use Rattle.exact_solutions.proofs.Common.{DrainOver, EvapOver, FixedOver, FlowOver, LinkOver, RiverOver, balance_over, EntryOver, over_zero, WholeCell}
-use Rattle.exact_solutions.proofs.Common.{WholeEntry, no_whole, whole_at, whole_balance, AllZip-at, AllZip-length, WholeLink, whole_link, All-zip}
-use Rattle.exact_solutions.proofs.Common.{last_factors_swap, IsSolution, ramps_from, a_of, b_of, q_of, scaled, scaled_entry, scaled_balance, true≢false}
-use Rattle.exact_solutions.proofs.Common.{cases_Bool, ints, All-nil, All-cons, All-head, All-tail, All-contains, total, total-same, heads_over}
+use Rattle.exact_solutions.proofs.Common.{[], ◌*ℤ◌, ◌*◌, ◌<◌, ◌∙◌, ◌∷◌, ◌≡◌, List, ap, arith, length, map, pos, refl, subst, suc, sym, zero, ℕ, ℤ, mul-pos, ◌+ℤ◌, ◌-ℤ◌, inl, inr, All, Bool, true}
+use Rattle.exact_solutions.proofs.Common.{false, cond, AllZip, Fraction, IsOver, Ratio, den, mul_assoc, SolvesStep, share, ExactCell, cell_at, no_cell, balance, HasLinkBack, AreLinked, ExactLink}
+use Rattle.exact_solutions.proofs.Common.{IsMutual, whole_solves, CellOver, DrainOver, EvapOver, FixedOver, FlowOver, LinkOver, RiverOver, balance_over, EntryOver, over_zero, WholeCell, WholeEntry}
+use Rattle.exact_solutions.proofs.Common.{no_whole, whole_at, whole_balance, AllZip-at, AllZip-length, WholeLink, whole_link, All-zip, last_factors_swap, IsSolution, ramps_from, a_of, b_of, q_of}
+use Rattle.exact_solutions.proofs.Common.{scaled, scaled_entry, scaled_balance, true≢false, cases_Bool, ints, All-nil, All-cons, All-head, All-tail, All-contains, total, total-same, heads_over}
 use Rattle.cell_balance.specs.{IsClosed}
 
 AllZip-map : {X Y Z : Type 0} (R : X → Y → Type 0) (S : X → Z → Type 0) (f : Y → Z) → ((x : X) (y : Y) → R x y → S x (f y)) → (xs : List X) (ys : List Y) → AllZip R xs ys → AllZip S xs (map f ys)

@@ -1,10 +1,8 @@
 -- The worked steps: the balance of a cell with a river and a well, and of two linked cells, and the heads at which they are zero.
-use Rattle.exact_solutions.proofs.Common.{◌≡◌, ◌*◌, ◌<◌, ◌∙◌, ◌+ℤ◌, ◌-ℤ◌, ◌*ℤ◌, ◌≤ℤ◌, [], ◌∷◌, ℕ, zero, suc, refl, sym, ap, arith, ℤ, pos, neg_ℤ, List, int_max}
-use Rattle.exact_solutions.proofs.Common.{AllZip, ints, clamps, Same, whole, IsOver, share, SolvesStep, whole_solves, CellOver, add_mul, sub_mul, WholeCell}
-use Rattle.exact_solutions.proofs.Common.{whole_at, whole_balance, mul_mono_right, last_factors_swap, HasNoneOrMany, river_and_well, two_cells}
-use Rattle.exact_solutions.proofs.Common.{WellPastDeepFlow, WellWithinDeepFlow, WellOfDeepFlow, TwoLooseCells, neg_mul}
-use Rattle.exact_solutions.proofs.HeldSteps.{crossed_same, same_crossed}
-use Rattle.exact_solutions.proofs.WholeSolutions.{share_is_over, whole_balances_solve}
+use Rattle.exact_solutions.proofs.Common.{◌≡◌, ◌*◌, ◌<◌, ◌∙◌, ◌+ℤ◌, ◌-ℤ◌, ◌*ℤ◌, ◌≤ℤ◌, [], ◌∷◌, ℕ, zero, suc, refl, sym, ap, arith, ℤ, pos, neg_ℤ, List, int_max, AllZip, ints, clamps, Same, whole}
+use Rattle.exact_solutions.proofs.Common.{IsOver, share, SolvesStep, whole_solves, CellOver, add_mul, sub_mul, WholeCell, whole_at, whole_balance, mul_mono_right, last_factors_swap, HasNoneOrMany}
+use Rattle.exact_solutions.proofs.Common.{river_and_well, two_cells, WellPastDeepFlow, WellWithinDeepFlow, WellOfDeepFlow, TwoLooseCells, neg_mul}
+use Rattle.exact_solutions.proofs.{HeldSteps.crossed_same, HeldSteps.same_crossed, WholeSolutions.share_is_over, WholeSolutions.whole_balances_solve}
 
 -- a whole number over d
 whole_over : (d : ℕ) (z : ℤ) → IsOver d (whole z) (z *ℤ pos d)

@@ -1,14 +1,10 @@
 -- What holds the heads of a problem on the high side: from each cell links lead to one that can always let more water out.
 use Rattle.std.specs.Prelude.{ℕ, ◌<◌, ◌⊎◌, List, length, Contains, ℤ, ◌≡◌, [], All, Bool, true, pos, ◌∷◌, neg_ℤ, ◌-ℤ◌}
-use Rattle.step_problem.specs.declared.entry.River.{River}
-use Rattle.step_problem.specs.declared.entry.Drain.{Drain}
-use Rattle.step_problem.specs.Entries.{Entries}
-use Rattle.step_problem.specs.{entries_at, IsProblem}
+use Rattle.step_problem.specs.{declared.entry.River.River, declared.entry.Drain.Drain, Entries.Entries, entries_at, IsProblem}
+use Rattle.step_problem.specs.{declared.entry.FlowKind.TheVariants.Wells}
 use Rattle.cell_balance.specs.{LeadsTo, IsAnchored, IsHeldBelow, ExactCell, cell_at, AreLinked, share, SolvesStep, EnclosesStep, IsClosed, total_inside}
 use Rattle.cell_balance.specs.{deep_flow, one}
-use Rattle.decimal_input.specs.Fractions.{Same, AtMost}
-use Rattle.decimal_input.specs.{whole}
-use Rattle.step_problem.specs.declared.entry.FlowKind.TheVariants.{Wells}
+use Rattle.decimal_input.specs.{Fractions.Same, Fractions.AtMost, whole}
 
 -- A cell that is anchored above: a fixed link, a river or a drain of it certainly conducts.
 -- (An evapotranspiration doesn't count: it takes no more than its full rate.)

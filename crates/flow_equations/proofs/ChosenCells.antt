@@ -1,8 +1,7 @@
 -- The cell of a column of layers that an option chooses.
-use Rattle.flow_equations.proofs.Common.{◌≡◌, ℕ, zero, suc, ◌+◌, ◌*◌, ◌<◌, inl, inr, Bool, true, false, ◌&&◌, ◌||◌, List, [], ◌∷◌, refl, sym, ap, ◌∙◌, arith, ℤ}
-use Rattle.flow_equations.proofs.Common.{pos, negsuc, ◌==◌, range_with_len, list_any, eqb-true, cases_lt, false≢true, and_parts, not-true, FlowModel}
-use Rattle.flow_equations.proofs.Common.{layer_size, layer_of, place_in_layer, int_at, is_active, is_int, is_chosen, is_highest, range_more, ChoosesOneCell}
-use Rattle.flow_equations.proofs.Common.{or_cases, or_right, ints, list_any-append}
+use Rattle.flow_equations.proofs.Common.{◌≡◌, ℕ, zero, suc, ◌+◌, ◌*◌, ◌<◌, inl, inr, Bool, true, false, ◌&&◌, ◌||◌, List, [], ◌∷◌, refl, sym, ap, ◌∙◌, arith, ℤ, pos, negsuc, ◌==◌, range_with_len}
+use Rattle.flow_equations.proofs.Common.{list_any, eqb-true, cases_lt, false≢true, and_parts, not-true, FlowModel, layer_size, layer_of, place_in_layer, int_at, is_active, is_int, is_chosen}
+use Rattle.flow_equations.proofs.Common.{is_highest, range_more, ChoosesOneCell, or_cases, or_right, ints, list_any-append}
 use Rattle.std.proofs.lemmas.Nat.{div-add-mod'}
 
 int_is : (z : ℤ) (k : ℕ) → is_int z k ≡ true → z ≡ pos k

@@ -1,7 +1,7 @@
 -- Conductances by the textbook.
-use Rattle.flow_equations.proofs.Common.{◌≡◌, ℕ, zero, suc, ◌+◌, ◌*◌, ◌<◌, ◌≤◌, sym, ap, ◌∙◌, arith, mul-pos, mul-le-mul_left, size, Ratio, times, over, Same}
-use Rattle.flow_equations.proofs.Common.{AtMost, Same-trans, Same-of, plus-comm, FlowModel, delr_at, delc_at, hk_at, hani_at, thickness, dec_at, one, half}
-use Rattle.flow_equations.proofs.Common.{in_a_row, row_conductance, column_conductance, IsSameFromBothEnds, AreAlike, AreAlikeInAColumn, IsBetweenHalves}
+use Rattle.flow_equations.proofs.Common.{◌≡◌, ℕ, zero, suc, ◌+◌, ◌*◌, ◌<◌, ◌≤◌, sym, ap, ◌∙◌, arith, mul-pos, mul-le-mul_left, size, Ratio, times, over, Same, AtMost, Same-trans, Same-of, plus-comm}
+use Rattle.flow_equations.proofs.Common.{FlowModel, delr_at, delc_at, hk_at, hani_at, thickness, dec_at, one, half, in_a_row, row_conductance, column_conductance, IsSameFromBothEnds, AreAlike}
+use Rattle.flow_equations.proofs.Common.{AreAlikeInAColumn, IsBetweenHalves}
 use Rattle.decimal_input.specs.Ratios.{den}
 use Rattle.flow_equations.proofs.Downwards.{own_value, value_one, value_two, value_times, value_plus, value_over, same_by, cross_by, at_most_by, size_positive}
 

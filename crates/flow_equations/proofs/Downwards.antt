@@ -1,8 +1,7 @@
 -- Vertical conductances through one material, and the vertical conductivity of a cell.
-use Rattle.flow_equations.proofs.Common.{◌≡◌, ℕ, ◌+◌, ◌*◌, ◌<◌, ◌⊎◌, inl, inr, cond, ap, arith, mul-pos, ◌≤◌, refl, sym, ◌∙◌, size, Ratio, over, ratio}
-use Rattle.flow_equations.proofs.Common.{scaled_ratio, up, plus, times, Same, AtMost, Same-trans, num_over, num_times, den_times, num_plus, den_plus, den_over}
-use Rattle.flow_equations.proofs.Common.{FlowModel, area, thickness, bed_thickness, hk_at, vka_at, vkcb_at, vertical_conductivity, two, vertical_half}
-use Rattle.flow_equations.proofs.Common.{vertical_conductance, IsPositive, one, distance, IsOneMaterial, HasVerticalConductivity, plus-Same, over-Same}
+use Rattle.flow_equations.proofs.Common.{◌≡◌, ℕ, ◌+◌, ◌*◌, ◌<◌, ◌⊎◌, inl, inr, cond, ap, arith, mul-pos, ◌≤◌, refl, sym, ◌∙◌, size, Ratio, over, ratio, scaled_ratio, up, plus, times, Same, AtMost}
+use Rattle.flow_equations.proofs.Common.{Same-trans, num_over, num_times, den_times, num_plus, den_plus, den_over, FlowModel, area, thickness, bed_thickness, hk_at, vka_at, vkcb_at}
+use Rattle.flow_equations.proofs.Common.{vertical_conductivity, two, vertical_half, vertical_conductance, IsPositive, one, distance, IsOneMaterial, HasVerticalConductivity, plus-Same, over-Same}
 use Rattle.flow_equations.proofs.Common.{Same-self, Same-of, Dec, one-le-pow}
 use Rattle.decimal_input.specs.Ratios.{den}
 

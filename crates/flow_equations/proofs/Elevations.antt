@@ -1,7 +1,6 @@
 -- The thicknesses of a cell, of the bed below it and of the next cell add up to the space that they fill.
-use Rattle.flow_equations.proofs.Common.{◌≡◌, ℕ, ◌+◌, ◌*◌, ◌-◌, false, cond, refl, sym, ap, ◌∙◌, subst, arith, ℤ, pos, ◌-ℤ◌, ◌*ℤ◌, ◌≤ℤ◌, nat_lt, unsigned_abs}
-use Rattle.flow_equations.proofs.Common.{ints, Dec, number, plus, Same, Fraction, den, AtMost-trans, FlowModel, layer_size, gap, dec_at, thickness}
-use Rattle.flow_equations.proofs.Common.{bed_thickness, top_at, bottom_at, lowest, LayersFillTheSpace}
+use Rattle.flow_equations.proofs.Common.{◌≡◌, ℕ, ◌+◌, ◌*◌, ◌-◌, false, cond, refl, sym, ap, ◌∙◌, subst, arith, ℤ, pos, ◌-ℤ◌, ◌*ℤ◌, ◌≤ℤ◌, nat_lt, unsigned_abs, ints, Dec, number, plus, Same, Fraction}
+use Rattle.flow_equations.proofs.Common.{den, AtMost-trans, FlowModel, layer_size, gap, dec_at, thickness, bed_thickness, top_at, bottom_at, lowest, LayersFillTheSpace}
 use borrow.Author.Differences.{up, down}
 use Rattle.decimal_input.specs.Fractions.{AtMost}
 use Rattle.flow_equations.proofs.Downwards.{IsValue, value_plus, same_by}

@@ -1,18 +1,14 @@
 -- Given heads at the last step, half-way, and in later periods.
-use Rattle.flow_equations.proofs.Common.{◌≡◌, ℕ, zero, suc, ◌+◌, ◌*◌, ◌-◌, ◌<◌, ◌≤◌, inl, inr, true, false, cond, ◌||◌, Option, Some, None, List, [], ◌∷◌, ◌++◌}
-use Rattle.flow_equations.proofs.Common.{length, take, get_or, refl, sym, ap, ◌∙◌, subst, arith, ℤ, pos, neg_ℤ, ◌+ℤ◌, ◌*ℤ◌, mul-pos, reverse, ◌==◌, find}
-use Rattle.flow_equations.proofs.Common.{flat_map, ne_eqb, cases_lt, ints, reverse-append, take_all, take_more, append-nil, number, size, Ratio, ratio, over}
-use Rattle.flow_equations.proofs.Common.{Fraction, den, as_fraction, opposite, IsOver, IsShare, diffs, as_diff, same_diff, last_factors_swap, mul_assoc}
-use Rattle.flow_equations.proofs.Common.{IsOver-plus, IsOver-times, IsOver-negated, IsOver-signed, same_over, FlowModel, Period, one, period_at, no_period}
-use Rattle.flow_equations.proofs.Common.{part_passed, geometric, multiplier, given_in, last_given, between_heads, head_or_kept, kept_head, constant_head, Lasts}
-use Rattle.flow_equations.proofs.Common.{HasEqualSteps, HasGivenHead, find-append, option_or}
+use Rattle.flow_equations.proofs.Common.{◌≡◌, ℕ, zero, suc, ◌+◌, ◌*◌, ◌-◌, ◌<◌, ◌≤◌, inl, inr, true, false, cond, ◌||◌, Option, Some, None, List, [], ◌∷◌, ◌++◌, length, take, get_or, refl, sym, ap}
+use Rattle.flow_equations.proofs.Common.{◌∙◌, subst, arith, ℤ, pos, neg_ℤ, ◌+ℤ◌, ◌*ℤ◌, mul-pos, reverse, ◌==◌, find, flat_map, ne_eqb, cases_lt, ints, reverse-append, take_all, take_more, append-nil}
+use Rattle.flow_equations.proofs.Common.{number, size, Ratio, ratio, over, Fraction, den, as_fraction, opposite, IsOver, IsShare, diffs, as_diff, same_diff, last_factors_swap, mul_assoc, IsOver-plus}
+use Rattle.flow_equations.proofs.Common.{IsOver-times, IsOver-negated, IsOver-signed, same_over, FlowModel, Period, one, period_at, no_period, part_passed, geometric, multiplier, given_in, last_given}
+use Rattle.flow_equations.proofs.Common.{between_heads, head_or_kept, kept_head, constant_head, Lasts, HasEqualSteps, HasGivenHead, find-append, option_or}
 use Rattle.std.proofs.lemmas.List.Concat.{flat_map-append}
-use Rattle.decimal_input.specs.Ratios.{den as ratio_den, Same as SameRatio}
-use Rattle.decimal_input.specs.Fractions.{plus, times, Same}
+use Rattle.decimal_input.specs.{Ratios.den as ratio_den, Ratios.Same as SameRatio, Fractions.plus, Fractions.times, Fractions.Same}
 use Rattle.model_types.specs.declared.entry.Given.{Given}
-use Rattle.flow_equations.proofs.Downwards.{value_one, own_value, value_over, cross_by}
-use Rattle.flow_equations.proofs.StepSums.{geometric_one, value_ratio}
-use Rattle.flow_equations.proofs.TurnedFlows.{over_first, over_second}
+use Rattle.flow_equations.proofs.{Downwards.value_one, Downwards.own_value, Downwards.value_over, Downwards.cross_by, StepSums.geometric_one, StepSums.value_ratio, TurnedFlows.over_first}
+use Rattle.flow_equations.proofs.{TurnedFlows.over_second}
 
 pub over_multiple : (m k : ℕ) (g : Fraction) (z : ℤ) → IsOver m g z → IsOver (m * k) g (z *ℤ pos k)
 over_multiple m k g z p = record { is = sym (mul_assoc g.num (pos m) (pos k)) ∙ ap (λ (y : ℤ). y *ℤ pos k) p.is ∙ last_factors_swap z (pos (den g)) (pos k) }

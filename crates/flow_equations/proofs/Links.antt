@@ -1,8 +1,7 @@
 -- The links of an exact step: other variable cells, each once, and the same conductance at both ends.
-use Rattle.flow_equations.proofs.Common.{◌≡◌, ℕ, ◌<◌, inr, Bool, true, List, [], ◌∷◌, length, get_or, map, refl, sym, ap, ◌∙◌, subst, arith, Fraction, Same}
-use Rattle.flow_equations.proofs.Common.{ExactLink, ExactCell, cell_at, no_cell, FlowModel, cell_count, is_variable, variable_below, variable_cells, index_of}
-use Rattle.flow_equations.proofs.Common.{variable_faces, HasSize, In, In-map, map-In, Contains-In, All-In, Ordered, Ordered-at, passing, rank, rank_below}
-use Rattle.flow_equations.proofs.Common.{at_rank, is_at, IsAt, exact_step, exact_cell, exact_link, HasLinkBack, AreLinked, no_link, get_or-map, length-map}
+use Rattle.flow_equations.proofs.Common.{◌≡◌, ℕ, ◌<◌, inr, Bool, true, List, [], ◌∷◌, length, get_or, map, refl, sym, ap, ◌∙◌, subst, arith, Fraction, Same, ExactLink, ExactCell, cell_at, no_cell}
+use Rattle.flow_equations.proofs.Common.{FlowModel, cell_count, is_variable, variable_below, variable_cells, index_of, variable_faces, HasSize, In, In-map, map-In, Contains-In, All-In, Ordered}
+use Rattle.flow_equations.proofs.Common.{Ordered-at, passing, rank, rank_below, at_rank, is_at, IsAt, exact_step, exact_cell, exact_link, HasLinkBack, AreLinked, no_link, get_or-map, length-map}
 use Rattle.model_types.specs.declared.face.Face.{Face}
 use Rattle.model_types.proofs.Leads.{IsFaceOf, passing_are, passing_have, end_within, face_back, turned, ends_ascend}
 

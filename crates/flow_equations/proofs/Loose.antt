@@ -1,7 +1,6 @@
 -- Two cells that nothing holds: no flow between equal heads.
-use Rattle.flow_equations.proofs.Common.{◌≡◌, ℕ, zero, suc, ◌<◌, true, ℤ, pos, ◌+ℤ◌, ◌*ℤ◌, [], ◌∷◌, refl, ap, ◌∙◌, arith, false≢true, Ratio, neg_times}
-use Rattle.flow_equations.proofs.Common.{Fraction, den, as_fraction, IsOver, given_in, variable_below, is_constant, constant_head, start_head, row_conductance}
-use Rattle.flow_equations.proofs.Common.{entries_of, minus, share, SolvesStep, exact_step, Solves, variable_heads, two_cells}
+use Rattle.flow_equations.proofs.Common.{◌≡◌, ℕ, zero, suc, ◌<◌, true, ℤ, pos, ◌+ℤ◌, ◌*ℤ◌, [], ◌∷◌, refl, ap, ◌∙◌, arith, false≢true, Ratio, neg_times, Fraction, den, as_fraction, IsOver, given_in}
+use Rattle.flow_equations.proofs.Common.{variable_below, is_constant, constant_head, start_head, row_conductance, entries_of, minus, share, SolvesStep, exact_step, Solves, variable_heads, two_cells}
 use Rattle.std.proofs.Math.IntN.{+ℤ_invr}
 use Rattle.decimal_input.specs.Fractions.{plus, times}
 use Rattle.model_types.specs.{times as all_times}

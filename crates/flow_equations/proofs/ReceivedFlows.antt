@@ -1,19 +1,15 @@
 -- The recharge of a cell, and what evapotranspiration takes at the two ends of its range.
-use Rattle.flow_equations.proofs.Common.{◌≡◌, ℕ, ◌*◌, ◌<◌, inl, Bool, false, cond, Option, Some, None, List, ◌++◌, map, refl, sym, ap, ◌∙◌, subst, arith, ℤ}
-use Rattle.flow_equations.proofs.Common.{pos, neg_ℤ, ◌+ℤ◌, ◌-ℤ◌, ◌*ℤ◌, mul-pos, All, Contains, filter_map, ints, clamps, Dec, number, size, Ratio, times}
-use Rattle.flow_equations.proofs.Common.{Fraction, den, whole, as_fraction, opposite, IsOver, with_sign, ExactFlow, minus, greater, IsOver-plus, IsOver-times}
-use Rattle.flow_equations.proofs.Common.{IsOver-minus, IsOver-negated, IsOver-none, IsOver-signed, IsOver-greater, same_over, FlowModel, Entry, Well}
-use Rattle.flow_equations.proofs.Common.{place_in_layer, dec_at, area, IsPositive, period_at, EvapSource, is_chosen, evap_conductance, FlowSource}
-use Rattle.flow_equations.proofs.Common.{local_entries, as_well, All-In, map-In, filter_map-In, Contains-In, exact_flow, exact_evap, recharge_of}
-use Rattle.flow_equations.proofs.Common.{ReceivesRecharge, Evaporates, Received, Pumped, option_to_list}
+use Rattle.flow_equations.proofs.Common.{◌≡◌, ℕ, ◌*◌, ◌<◌, inl, Bool, false, cond, Option, Some, None, List, ◌++◌, map, refl, sym, ap, ◌∙◌, subst, arith, ℤ, pos, neg_ℤ, ◌+ℤ◌, ◌-ℤ◌, ◌*ℤ◌, mul-pos, All}
+use Rattle.flow_equations.proofs.Common.{Contains, filter_map, ints, clamps, Dec, number, size, Ratio, times, Fraction, den, whole, as_fraction, opposite, IsOver, with_sign, ExactFlow, minus, greater}
+use Rattle.flow_equations.proofs.Common.{IsOver-plus, IsOver-times, IsOver-minus, IsOver-negated, IsOver-none, IsOver-signed, IsOver-greater, same_over, FlowModel, Entry, Well, place_in_layer, dec_at}
+use Rattle.flow_equations.proofs.Common.{area, IsPositive, period_at, EvapSource, is_chosen, evap_conductance, FlowSource, local_entries, as_well, All-In, map-In, filter_map-In, Contains-In}
+use Rattle.flow_equations.proofs.Common.{exact_flow, exact_evap, recharge_of, ReceivesRecharge, Evaporates, Received, Pumped, option_to_list}
 use Rattle.std.specs.Int.{int_max}
-use Rattle.decimal_input.specs.Ratios.{den as ratio_den}
-use Rattle.decimal_input.specs.Fractions.{plus, times as product, Same}
+use Rattle.decimal_input.specs.{Ratios.den as ratio_den, Fractions.plus, Fractions.times as product, Fractions.Same}
 use Rattle.decimal_input.proofs.FloorLaws.{Same-trans}
 use Rattle.step_problem.specs.declared.entry.FlowKind.TheVariants.{Wells, Recharge}
 use Rattle.cell_balance.proofs.EntryFlows.{flows_are_right}
-use Rattle.flow_equations.proofs.Downwards.{IsValue, own_value, value_over, size_positive}
-use Rattle.flow_equations.proofs.TurnedFlows.{over_first, own_share}
+use Rattle.flow_equations.proofs.{Downwards.IsValue, Downwards.own_value, Downwards.value_over, Downwards.size_positive, TurnedFlows.over_first, TurnedFlows.own_share}
 
 module _ (m : FlowModel) (p n : ℕ) (old : ℕ → Fraction) (c : ℕ) where
   abbrev rate : Dec

@@ -1,8 +1,7 @@
 -- The worked models are solved by their histories: everything is computed.
-use Rattle.flow_equations.proofs.Common.{◌≡◌, ℕ, zero, suc, ◌<◌, true, ℤ, pos, negsuc, [], ◌∷◌, refl, arith, false≢true, scaled_ratio, ratio, plus, over}
-use Rattle.flow_equations.proofs.Common.{IsOver, power, geometric, storage, given_in, variable_below, is_constant, constant_head, start_head, half, in_a_row}
-use Rattle.flow_equations.proofs.Common.{row_conductance, entries_of, SolvesStep, exact_step, Solves, heads_of, variable_heads, three_cells, idle_wells}
-use Rattle.flow_equations.proofs.Common.{one_cell}
+use Rattle.flow_equations.proofs.Common.{◌≡◌, ℕ, zero, suc, ◌<◌, true, ℤ, pos, negsuc, [], ◌∷◌, refl, arith, false≢true, scaled_ratio, ratio, plus, over, IsOver, power, geometric, storage, given_in}
+use Rattle.flow_equations.proofs.Common.{variable_below, is_constant, constant_head, start_head, half, in_a_row, row_conductance, entries_of, SolvesStep, exact_step, Solves, heads_of, variable_heads}
+use Rattle.flow_equations.proofs.Common.{three_cells, idle_wells, one_cell}
 use Rattle.step_problem.specs.{head_at}
 use Rattle.decimal_input.specs.Ratios.{times as product}
 use Rattle.model_types.specs.{times}

@@ -1,8 +1,7 @@
 -- Time steps of a transient period: they grow by TSMULT from the manual's first one, and sum to the period.
-use Rattle.flow_equations.proofs.Common.{◌≡◌, ℕ, zero, suc, ◌+◌, ◌*◌, ◌-◌, ◌<◌, ◌≤◌, Bool, true, false, cond, ◌||◌, List, [], ◌∷◌, ◌++◌, refl, sym, ap, arith}
-use Rattle.flow_equations.proofs.Common.{mul-pos, ◌==◌, range_with_len, eqb-true, ne_eqb, size, Ratio, ratio, plus, times, over, Same, Same-trans, Same-self}
-use Rattle.flow_equations.proofs.Common.{Same-of, plus-Same, times-Same, over-Same, FlowModel, Period, one, power, geometric, step_length, multiplier}
-use Rattle.flow_equations.proofs.Common.{part_passed, storage, storage_capacity, range_more, ratio_total, Lasts, HasManualSteps, add-sub_cancel_left}
+use Rattle.flow_equations.proofs.Common.{◌≡◌, ℕ, zero, suc, ◌+◌, ◌*◌, ◌-◌, ◌<◌, ◌≤◌, Bool, true, false, cond, ◌||◌, List, [], ◌∷◌, ◌++◌, refl, sym, ap, arith, mul-pos, ◌==◌, range_with_len, eqb-true}
+use Rattle.flow_equations.proofs.Common.{ne_eqb, size, Ratio, ratio, plus, times, over, Same, Same-trans, Same-self, Same-of, plus-Same, times-Same, over-Same, FlowModel, Period, one, power}
+use Rattle.flow_equations.proofs.Common.{geometric, step_length, multiplier, part_passed, storage, storage_capacity, range_more, ratio_total, Lasts, HasManualSteps, add-sub_cancel_left}
 use Rattle.decimal_input.specs.Ratios.{den}
 use Rattle.model_types.proofs.Growth.{power-positive, geometric_sum_steps}
 use Rattle.flow_equations.proofs.Downwards.{IsValue, own_value, value_one, value_times, value_plus, value_over, same_by, size_positive}

@@ -1,8 +1,7 @@
 -- Storage by the option STORAGECOEFFICIENT.
-use Rattle.flow_equations.proofs.Common.{◌≡◌, ℕ, Bool, true, false, cond, ap, arith, size, Ratio, times, Same, Same-trans, Same-of, FlowModel, Period, dec_at}
-use Rattle.flow_equations.proofs.Common.{delr_at, delc_at, area, thickness, storage, step_length, Lasts, StoresByOption}
-use Rattle.flow_equations.proofs.StepSums.{storage_times_length}
-use Rattle.flow_equations.proofs.Downwards.{own_value, value_times, same_by}
+use Rattle.flow_equations.proofs.Common.{◌≡◌, ℕ, Bool, true, false, cond, ap, arith, size, Ratio, times, Same, Same-trans, Same-of, FlowModel, Period, dec_at, delr_at, delc_at, area, thickness}
+use Rattle.flow_equations.proofs.Common.{storage, step_length, Lasts, StoresByOption}
+use Rattle.flow_equations.proofs.{StepSums.storage_times_length, Downwards.own_value, Downwards.value_times, Downwards.same_by}
 
 -- a storativity times a length and a width
 by_area : (s a b : Ratio) → Same (times (times s a) b) (times s (times a b))

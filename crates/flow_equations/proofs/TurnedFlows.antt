@@ -1,9 +1,7 @@
 -- Flows over branches change their sign with the heads.
-use Rattle.flow_equations.proofs.Common.{◌≡◌, ℕ, ◌*◌, ◌<◌, sym, arith, ℤ, pos, neg_ℤ, ◌-ℤ◌, ◌*ℤ◌, mul-pos, ints, Ratio, Fraction, den, as_fraction, opposite}
-use Rattle.flow_equations.proofs.Common.{IsOver, IsShare, diffs, as_diff, same_diff, mul_assoc, minus, IsOver-times, IsOver-minus, IsOver-negated}
-use Rattle.flow_equations.proofs.Common.{IsOver-signed, same_over, FlowsChangeSign, mul_neg}
-use Rattle.decimal_input.specs.Ratios.{den as ratio_den}
-use Rattle.decimal_input.specs.Fractions.{times, Same}
+use Rattle.flow_equations.proofs.Common.{◌≡◌, ℕ, ◌*◌, ◌<◌, sym, arith, ℤ, pos, neg_ℤ, ◌-ℤ◌, ◌*ℤ◌, mul-pos, ints, Ratio, Fraction, den, as_fraction, opposite, IsOver, IsShare, diffs, as_diff}
+use Rattle.flow_equations.proofs.Common.{same_diff, mul_assoc, minus, IsOver-times, IsOver-minus, IsOver-negated, IsOver-signed, same_over, FlowsChangeSign, mul_neg}
+use Rattle.decimal_input.specs.{Ratios.den as ratio_den, Fractions.times, Fractions.Same}
 
 -- two fractions over the product of their denominators
 pub over_first : (f g : Fraction) → IsOver (den f * den g) f (f.num *ℤ pos (den g))

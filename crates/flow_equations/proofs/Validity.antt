@@ -1,13 +1,10 @@
 -- The worked models meet what readers promise of a model, so that something meets it.
-use Rattle.flow_equations.proofs.Common.{◌≡◌, ℕ, suc, ◌*◌, ◌%◌, ◌^◌, ◌<◌, ◌≤◌, ◌⊎◌, inl, inr, Bool, true, false, ℤ, pos, negsuc, List, [], ◌∷◌, length, refl}
-use Rattle.flow_equations.proofs.Common.{sym, ◌∙◌, subst, arith, ints, replicate, nat_lt, cond-true, le-leb, cases_lt, length-replicate, get_or-replicate, Dec}
-use Rattle.flow_equations.proofs.Common.{IsDec, scaled_ratio, ratio, FlowModel, Period, Entry, Well, no_number, dec_at, top_at, bottom_at, IsPositive}
-use Rattle.flow_equations.proofs.Common.{IsNotNegative, IsHeadNumber, IsThick, IsGrid, no_stresses, decimal, below_zero, cell, row_of_cells, period_with}
-use Rattle.flow_equations.proofs.Common.{row_model, three_cells, idle_wells, one_cell, two_cells, AreStresses, IsModel, IsPeriod, IsTimed, IsCellValid}
-use Rattle.flow_equations.proofs.Common.{IsEntryList, IsEntryValid}
+use Rattle.flow_equations.proofs.Common.{◌≡◌, ℕ, suc, ◌*◌, ◌%◌, ◌^◌, ◌<◌, ◌≤◌, ◌⊎◌, inl, inr, Bool, true, false, ℤ, pos, negsuc, List, [], ◌∷◌, length, refl, sym, ◌∙◌, subst, arith, ints, replicate}
+use Rattle.flow_equations.proofs.Common.{nat_lt, cond-true, le-leb, cases_lt, length-replicate, get_or-replicate, Dec, IsDec, scaled_ratio, ratio, FlowModel, Period, Entry, Well, no_number, dec_at}
+use Rattle.flow_equations.proofs.Common.{top_at, bottom_at, IsPositive, IsNotNegative, IsHeadNumber, IsThick, IsGrid, no_stresses, decimal, below_zero, cell, row_of_cells, period_with, row_model}
+use Rattle.flow_equations.proofs.Common.{three_cells, idle_wells, one_cell, two_cells, AreStresses, IsModel, IsPeriod, IsTimed, IsCellValid, IsEntryList, IsEntryValid}
 use Rattle.std.proofs.Common.{All}
-use Rattle.std.proofs.Math.ListN.{get_or-eq_default}
-use Rattle.std.proofs.lemmas.List.Elements.{All-nil, All-cons, All-replicate}
+use Rattle.std.proofs.{Math.ListN.get_or-eq_default, lemmas.List.Elements.All-nil, lemmas.List.Elements.All-cons, lemmas.List.Elements.All-replicate}
 use Rattle.model_types.proofs.NoStresses.{no_stresses_fit}
 
 is_dec : (neg : Bool) (digits e : ℕ) → digits < 10 ^ 18 → 0 < digits → 0 < digits % 10 → e ≤ 40 → IsDec (record { neg = neg; digits = digits; exp = pos e })

@@ -1,10 +1,8 @@
 -- Conductances by the manual and the textbook (TM 6-A16, chapter 5).
 use Rattle.std.specs.Prelude.{◌≡◌, ℕ, ◌<◌}
-use Rattle.decimal_input.specs.{size, Ratio, over}
-use Rattle.decimal_input.specs.Ratios.{times, AtMost, Same}
-use Rattle.model_types.specs.declared.model.FlowModel.{FlowModel}
-use Rattle.model_types.specs.{row_of, column_of, delr_at, delc_at, hk_at, hani_at, thickness, IsPositive, one, two, in_a_row, row_conductance}
-use Rattle.model_types.specs.{column_conductance}
+use Rattle.decimal_input.specs.{size, Ratio, over, Ratios.times, Ratios.AtMost, Ratios.Same}
+use Rattle.model_types.specs.{declared.model.FlowModel.FlowModel, row_of, column_of, delr_at, delc_at, hk_at, hani_at, thickness, IsPositive, one, two}
+use Rattle.model_types.specs.{in_a_row, row_conductance, column_conductance}
 
 -- A branch is the same from both ends: between two cells of one row, and of one column.
 pub record IsSameFromBothEnds (m : FlowModel) : Type 0 where

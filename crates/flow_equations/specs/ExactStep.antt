@@ -5,11 +5,10 @@ use Rattle.decimal_input.specs.{number, size, Fraction}
 use Rattle.step_problem.specs.declared.entry.FixedKind.TheVariants.{Constant, General, Storage}
 use Rattle.step_problem.specs.declared.entry.FlowKind.TheVariants.{Wells, Recharge}
 use Rattle.cell_balance.specs.{ExactFlow, ExactLink, ExactFixed, ExactRiver, ExactDrain, ExactEvap, ExactCell}
-use Rattle.model_types.specs.declared.model.FlowModel.{FlowModel}
-use Rattle.model_types.specs.declared.face.Face.{Face}
-use Rattle.model_types.specs.{conductance, period_at, storage, variable_cells, index_of, constant_head, EvapSource, recharge_flow, evap_conductance, extinction}
-use Rattle.model_types.specs.{FixedSource, FlowSource, RiverSource, DrainSource, variable_faces, flow_sources, fixed_sources, river_sources, drain_sources}
-use Rattle.model_types.specs.{evap_sources, ToConstant, ToGeneral, FromStorage, Pumped, Received}
+use Rattle.model_types.specs.{declared.model.FlowModel.FlowModel, declared.face.Face.Face, conductance, period_at, storage, variable_cells, index_of}
+use Rattle.model_types.specs.{constant_head, EvapSource, recharge_flow, evap_conductance, extinction, FixedSource, FlowSource, RiverSource, DrainSource}
+use Rattle.model_types.specs.{variable_faces, flow_sources, fixed_sources, river_sources, drain_sources, evap_sources, ToConstant, ToGeneral, FromStorage}
+use Rattle.model_types.specs.{Pumped, Received}
 
 -- a river and a drain, with the numbers of their entries (TM 6-A16, chapter 6, RIV and DRN)
 abbrev pub exact_river : RiverSource → ExactRiver

@@ -1,10 +1,8 @@
 -- What the given heads of CHD owe to the manual (TM 6-A16, chapter 6, CHD; that a given head is kept in later periods is this program's choice).
 use Rattle.std.specs.Prelude.{◌≡◌, ℕ, ◌<◌, ◌≤◌, Some, None, length}
-use Rattle.decimal_input.specs.{number}
-use Rattle.decimal_input.specs.Fractions.{plus, Same}
-use Rattle.model_types.specs.declared.model.FlowModel.{FlowModel}
+use Rattle.decimal_input.specs.{number, Fractions.plus, Fractions.Same}
+use Rattle.model_types.specs.{declared.model.FlowModel.FlowModel, period_at, given_in, constant_head}
 use Rattle.model_types.specs.declared.entry.Given.{Given}
-use Rattle.model_types.specs.{period_at, given_in, constant_head}
 use Rattle.flow_equations.specs.TimeLaws.{Lasts, HasEqualSteps}
 
 -- a cell c that the list of period p names with the entry x

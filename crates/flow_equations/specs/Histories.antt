@@ -2,9 +2,8 @@
 -- of heads has a whole numerator for each cell, by cell number; all vectors of a history have one denominator d.
 use Rattle.std.specs.Prelude.{◌≡◌, ℕ, ◌<◌, true, ℤ, List, [], ◌∷◌}
 use Rattle.decimal_input.specs.{Fraction, IsOver}
-use Rattle.model_types.specs.declared.model.FlowModel.{FlowModel}
-use Rattle.model_types.specs.declared.time_steps.TimeStep.{TimeStep}
-use Rattle.model_types.specs.{cell_count, times, is_constant, start_head, constant_head}
+use Rattle.model_types.specs.{declared.model.FlowModel.FlowModel, declared.time_steps.TimeStep.TimeStep, cell_count, times, is_constant, start_head}
+use Rattle.model_types.specs.{constant_head}
 use Rattle.cell_balance.specs.{ExactCell, cell_at, share, SolvesStep}
 use Rattle.flow_equations.specs.ExactStep.{exact_step}
 

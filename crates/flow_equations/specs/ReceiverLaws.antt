@@ -1,13 +1,10 @@
 -- What recharge and evapotranspiration owe to the manual (TM 6-A16, chapter 6, RCH and EVT).
 use Rattle.std.specs.Prelude.{◌≡◌, ℕ, suc, ℤ, pos, List, All, Contains, true, false, map}
-use Rattle.decimal_input.specs.{number, size, Fraction, as_fraction, opposite}
-use Rattle.decimal_input.specs.Ratios.{times}
-use Rattle.decimal_input.specs.Fractions.{times as product, AtMost, Same}
+use Rattle.decimal_input.specs.{number, size, Fraction, as_fraction, opposite, Ratios.times, Fractions.times as product, Fractions.AtMost, Fractions.Same}
 use Rattle.step_problem.specs.declared.entry.FlowKind.TheVariants.{Wells, Recharge}
 use Rattle.cell_balance.specs.{ExactEvap, AreLinked, minus, evap_flow}
-use Rattle.model_types.specs.declared.model.FlowModel.{FlowModel}
-use Rattle.model_types.specs.{layer_of, place_in_layer, dec_at, int_at, is_active, area, IsPositive, HasSize, period_at, EvapSource, is_chosen, is_highest}
-use Rattle.model_types.specs.{variable_cells}
+use Rattle.model_types.specs.{declared.model.FlowModel.FlowModel, layer_of, place_in_layer, dec_at, int_at, is_active, area, IsPositive, HasSize, period_at}
+use Rattle.model_types.specs.{EvapSource, is_chosen, is_highest, variable_cells}
 use Rattle.flow_equations.specs.ExactStep.{exact_cell, exact_evap, exact_step}
 
 -- An option chooses at most one cell of a column of layers: under 1 its cell of layer 1, under 2 the cell of the layer that the

@@ -1,7 +1,6 @@
 -- Directions of flow: water flows from the higher head to the lower one (TM 6-A16, chapter 2, Darcy's law).
 use Rattle.std.specs.Prelude.{ℕ}
-use Rattle.decimal_input.specs.{Fraction, opposite}
-use Rattle.decimal_input.specs.Fractions.{Same}
+use Rattle.decimal_input.specs.{Fraction, opposite, Fractions.Same}
 use Rattle.cell_balance.specs.{ExactLink, ExactFixed, link_flow, fixed_flow}
 
 -- a branch to a known head, with that head turned round zero

@@ -1,11 +1,9 @@
 -- Time steps by the manual (TM 6-A16, chapters 2 and 4).
 use Rattle.std.specs.Prelude.{◌≡◌, ℕ, ◌+◌, ◌≤◌, true, false, List, [], ◌∷◌}
 use Rattle.std.specs.List.{range_with_len}
-use Rattle.decimal_input.specs.{size, Ratio, ratio, over}
-use Rattle.decimal_input.specs.Ratios.{plus, times, Same}
-use Rattle.model_types.specs.declared.model.FlowModel.{FlowModel}
-use Rattle.model_types.specs.declared.period.Period.{Period}
-use Rattle.model_types.specs.{dec_at, area, thickness, IsPositive, one, power, step_length, part_passed, storage, storage_capacity}
+use Rattle.decimal_input.specs.{size, Ratio, ratio, over, Ratios.plus, Ratios.times, Ratios.Same}
+use Rattle.model_types.specs.{declared.model.FlowModel.FlowModel, declared.period.Period.Period, dec_at, area, thickness, IsPositive, one, power, step_length}
+use Rattle.model_types.specs.{part_passed, storage, storage_capacity}
 
 -- the sum of f over a list
 abbrev pub ratio_total : (ℕ → Ratio) → List ℕ → Ratio

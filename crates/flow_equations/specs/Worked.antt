@@ -1,20 +1,13 @@
 -- Models that are solved by hand. Lengths in metres; cells of length, width and thickness 1 and conductivity 1, so
 -- that each conductance between neighbours is 1.
 use Rattle.std.specs.Prelude.{ℕ, ℤ, pos, negsuc, Bool, true, false, List, [], ◌∷◌, replicate, ◌<◌, ◌≡◌, ◌+◌, ◌⊎◌}
-use Rattle.decimal_input.specs.declared.dec.Dec.{Dec}
-use Rattle.model_types.specs.declared.grid.Grid.{Grid}
-use Rattle.model_types.specs.declared.grid.CellId.{CellId}
-use Rattle.model_types.specs.declared.model.FlowModel.{FlowModel}
-use Rattle.model_types.specs.declared.period.Period.{Period}
-use Rattle.model_types.specs.declared.entry.Entry.{Entry}
-use Rattle.model_types.specs.declared.entry.Entry.TheVariants.{Well}
-use Rattle.model_types.specs.{no_number, no_stresses, IsModel, layer_size, gap, area, thickness, bed_thickness, top_at, bottom_at, lowest, hk_at, vka_at}
-use Rattle.model_types.specs.{vkcb_at, is_ratio, vertical_conductivity, IsPositive, two, vertical_conductance}
+use Rattle.decimal_input.specs.{declared.dec.Dec.Dec, number, size, Ratio, over, Ratios.plus, Ratios.times, Ratios.Same, Fractions.AtMost}
+use Rattle.model_types.specs.{declared.grid.Grid.Grid, declared.grid.CellId.CellId, declared.model.FlowModel.FlowModel, declared.period.Period.Period}
+use Rattle.model_types.specs.{declared.entry.Entry.Entry, declared.entry.Entry.TheVariants.Well, no_number, no_stresses, IsModel, layer_size, gap, area}
+use Rattle.model_types.specs.{thickness, bed_thickness, top_at, bottom_at, lowest, hk_at, vka_at, vkcb_at, is_ratio, vertical_conductivity, IsPositive, two}
+use Rattle.model_types.specs.{vertical_conductance}
 use Rattle.step_problem.specs.{head_at}
 use Rattle.flow_equations.specs.Histories.{Solves}
-use Rattle.decimal_input.specs.{number, size, Ratio, over}
-use Rattle.decimal_input.specs.Ratios.{plus, times, Same}
-use Rattle.decimal_input.specs.Fractions.{AtMost}
 
 -- a whole number, and its negative, in canonical form: digits without a trailing zero
 abbrev pub decimal : ℕ → ℕ → Dec

@@ -1,20 +1,15 @@
 -- The balances of a step at listed heads enclose the exact ones.
-use Rattle.gentle_check.proofs.Common.{◌≡◌, ℕ, ◌+◌, ◌^◌, ◌<◌, true, List, length, subst, sym, arith, All, ℤ, ints, EnclosesSigned, Fraction, CellEncloses}
-use Rattle.gentle_check.proofs.Common.{EnclosesStep, ExactCell, ExactLink, cell_at, no_cell, share, plus_encloses, High, Low, Entries, balance, entries_at}
-use Rattle.gentle_check.proofs.Common.{no_entries, IsModel, is_variable, variable_cells, All-In, In-All, convertible_cell, convertible_step, listed_heads}
-use Rattle.gentle_check.proofs.Common.{variable_cell, BalancesEnclose, one_head, ◌∙◌, ap, get_or, storage_flow}
+use Rattle.gentle_check.proofs.Common.{◌≡◌, ℕ, ◌+◌, ◌^◌, ◌<◌, true, List, length, subst, sym, arith, All, ℤ, ints, EnclosesSigned, Fraction, CellEncloses, EnclosesStep, ExactCell, ExactLink, cell_at}
+use Rattle.gentle_check.proofs.Common.{no_cell, share, plus_encloses, High, Low, Entries, balance, entries_at, no_entries, IsModel, is_variable, variable_cells, All-In, In-All, convertible_cell}
+use Rattle.gentle_check.proofs.Common.{convertible_step, listed_heads, variable_cell, BalancesEnclose, one_head, ◌∙◌, ap, get_or, storage_flow}
 use Rattle.cell_balance.specs.{balance as exact_balance}
 use Rattle.cell_balance.proofs.Zips.{AllZip-at, AllZip-length}
-use Rattle.model_types.specs.declared.model.FlowModel.{FlowModel}
-use Rattle.model_types.specs.declared.time_steps.TimeStep.{TimeStep}
+use Rattle.model_types.specs.{declared.model.FlowModel.FlowModel, declared.time_steps.TimeStep.TimeStep}
 use Rattle.problem_builder.specs.{IsActive, bound_at}
-use Rattle.problem_builder.proofs.Members.{variable_active}
+use Rattle.problem_builder.proofs.{Members.variable_active, CellEnclosed.ids_over, Steps.cells_over}
 use Rattle.water_table.specs.declared.convertible_layers.ConvertibleLayers.{ConvertibleLayers}
-use Rattle.water_enclosure.proofs.Order.{variable_at_head}
-use Rattle.water_enclosure.proofs.Linked.{are_linked, cell_is, step_length, variable_at}
+use Rattle.water_enclosure.proofs.{Order.variable_at_head, Linked.are_linked, Linked.cell_is, Linked.step_length, Linked.variable_at}
 use Rattle.water_storage.proofs.Flows.{stored_flows_enclose}
-use Rattle.problem_builder.proofs.CellEnclosed.{ids_over}
-use Rattle.problem_builder.proofs.Steps.{cells_over}
 use Rattle.std.proofs.lemmas.List.{get_or-map}
 use Rattle.gentle_problem.proofs.Enclosed.{problems_enclose}
 use Rattle.gentle_problem.specs.{branches_at}

@@ -1,7 +1,6 @@
 -- Signs of the whole balances are signs of the exact ones.
-use Rattle.gentle_check.proofs.Common.{◌≡◌, ℕ, ◌+◌, ◌-◌, ◌^◌, ◌<◌, zero, suc, [], ◌∷◌, List, length, get_or, refl, subst, sym, arith, All, ℤ, pos, neg_ℤ, ◌≤ℤ◌}
-use Rattle.gentle_check.proofs.Common.{ints, ◌*ℤ◌, EnclosesSigned, Fraction, as_fraction, opposite, variable_cells, GainsAtLeast, LosesAtLeast, listed_heads}
-use Rattle.gentle_check.proofs.Common.{water_balance, SignsAreShown, AtMost, den}
+use Rattle.gentle_check.proofs.Common.{◌≡◌, ℕ, ◌+◌, ◌-◌, ◌^◌, ◌<◌, zero, suc, [], ◌∷◌, List, length, get_or, refl, subst, sym, arith, All, ℤ, pos, neg_ℤ, ◌≤ℤ◌, ints, ◌*ℤ◌, EnclosesSigned, Fraction}
+use Rattle.gentle_check.proofs.Common.{as_fraction, opposite, variable_cells, GainsAtLeast, LosesAtLeast, listed_heads, water_balance, SignsAreShown, AtMost, den}
 use Rattle.std.proofs.Math.Nat.{one-le-pow}
 use Rattle.decimal_input.proofs.FloorLaws.{mul_mono_right}
 use Rattle.water_enclosure.specs.{flow_unit}

@@ -1,8 +1,7 @@
 -- The balance of a problem's cell at whole heads encloses the exact balance there.
-use Rattle.gentle_check.proofs.Common.{◌≡◌, ℕ, ◌+◌, List, [], ◌∷◌, inl, inr, refl, subst, arith, All, ℤ, ◌+ℤ◌, ints, EnclosesSigned, Fraction, CellEncloses}
-use Rattle.gentle_check.proofs.Common.{DrainEncloses, EvapEncloses, ExactCell, ExactLink, FixedEncloses, FlowEncloses, LinkEncloses, RiverEncloses, drain_flow}
-use Rattle.gentle_check.proofs.Common.{evap_flow, fixed_flow, link_flow, river_flow, plus_encloses, total_encloses, Entries, High, Low, balance, flow_bound, In}
-use Rattle.gentle_check.proofs.Common.{In-All, plus}
+use Rattle.gentle_check.proofs.Common.{◌≡◌, ℕ, ◌+◌, List, [], ◌∷◌, inl, inr, refl, subst, arith, All, ℤ, ◌+ℤ◌, ints, EnclosesSigned, Fraction, CellEncloses, DrainEncloses, EvapEncloses, ExactCell}
+use Rattle.gentle_check.proofs.Common.{ExactLink, FixedEncloses, FlowEncloses, LinkEncloses, RiverEncloses, drain_flow, evap_flow, fixed_flow, link_flow, river_flow, plus_encloses, total_encloses}
+use Rattle.gentle_check.proofs.Common.{Entries, High, Low, balance, flow_bound, In, In-All, plus}
 use Rattle.std.specs.List.{AllZip}
 use Rattle.cell_balance.specs.{balance as exact_balance}
 use Rattle.cell_balance.proofs.EntryBounds.{bounds_hold}

@@ -1,14 +1,9 @@
 -- The balances of a step at listed heads in whole numbers, and the signs that they show. Heads are in units of 10^-9, balances in units of 10^-(s+9).
 use Rattle.std.specs.Prelude.{ℕ, ℤ, pos, neg_ℤ, ◌≡◌, ◌+◌, ◌<◌, ◌+ℤ◌, ◌≤ℤ◌, List, length, Contains}
 use Rattle.decimal_input.specs.{EnclosesSigned, Fraction}
-use Rattle.step_problem.specs.declared.heads.Bound.{Bound}
-use Rattle.step_problem.specs.declared.heads.Side.{Side}
-use Rattle.step_problem.specs.declared.heads.Side.TheVariants.{High, Low}
-use Rattle.step_problem.specs.Entries.{Entries}
-use Rattle.step_problem.specs.{balance, entries_at}
-use Rattle.model_types.specs.declared.model.FlowModel.{FlowModel}
-use Rattle.model_types.specs.declared.time_steps.TimeStep.{TimeStep}
-use Rattle.model_types.specs.{IsModel, times, variable_cells}
+use Rattle.step_problem.specs.{declared.heads.Bound.Bound, declared.heads.Side.Side, declared.heads.Side.TheVariants.High, declared.heads.Side.TheVariants.Low}
+use Rattle.step_problem.specs.{Entries.Entries, balance, entries_at}
+use Rattle.model_types.specs.{declared.model.FlowModel.FlowModel, declared.time_steps.TimeStep.TimeStep, IsModel, times, variable_cells}
 use Rattle.problem_builder.specs.{HeadsEnclose, IsProblemOver, bound_at}
 use Rattle.water_table.specs.declared.convertible_layers.ConvertibleLayers.{ConvertibleLayers}
 use Rattle.water_table.specs.{HasSignsAt, IsGentle, ListedPair, listed_heads, variable_cell, water_balance, with_yield}

@@ -1,16 +1,12 @@
 -- All heads between listed heads that pass the test are gentle.
-use Rattle.gentle_heads.proofs.Common.{◌≡◌, ℕ, ◌+◌, ◌<◌, ◌⊎◌, inl, inr, Bool, true, false, cond, refl, sym, subst, arith, pos, ◌*ℤ◌, ◌-ℤ◌, All, List, Option}
-use Rattle.gentle_heads.proofs.Common.{Some, None, [], ◌∷◌, cases_Bool, by_lt_z, clamps, ints, unsigned_abs, le_over, over_le, IsOver-lesser, lesser, minus}
-use Rattle.gentle_heads.proofs.Common.{AtMost-trans, mul_mono_right, neg_times, Fraction, as_fraction, number, AtMost, den, Face, FlowModel, IsModel, bottom_at}
-use Rattle.gentle_heads.proofs.Common.{cell_count, faces, gap, is_active, is_constant, is_variable, layer_size, thickness, through, top_at, Bound, AtMost-of}
-use Rattle.gentle_heads.proofs.Common.{among, below_then_at_most, common_denominator_exists, minus_rises, ConvertibleLayers, FallsGently, FallsWithin, IsFull}
-use Rattle.gentle_heads.proofs.Common.{IsGentle, is_convertible, AllBetweenAreGentle, AreGentleBetween, FallsAlong, FallsFrom, FallsThrough, lower_head}
-use Rattle.gentle_heads.proofs.Common.{upper_head}
+use Rattle.gentle_heads.proofs.Common.{◌≡◌, ℕ, ◌+◌, ◌<◌, ◌⊎◌, inl, inr, Bool, true, false, cond, refl, sym, subst, arith, pos, ◌*ℤ◌, ◌-ℤ◌, All, List, Option, Some, None, [], ◌∷◌, cases_Bool, by_lt_z}
+use Rattle.gentle_heads.proofs.Common.{clamps, ints, unsigned_abs, le_over, over_le, IsOver-lesser, lesser, minus, AtMost-trans, mul_mono_right, neg_times, Fraction, as_fraction, number, AtMost, den}
+use Rattle.gentle_heads.proofs.Common.{Face, FlowModel, IsModel, bottom_at, cell_count, faces, gap, is_active, is_constant, is_variable, layer_size, thickness, through, top_at, Bound, AtMost-of}
+use Rattle.gentle_heads.proofs.Common.{among, below_then_at_most, common_denominator_exists, minus_rises, ConvertibleLayers, FallsGently, FallsWithin, IsFull, IsGentle, is_convertible}
+use Rattle.gentle_heads.proofs.Common.{AllBetweenAreGentle, AreGentleBetween, FallsAlong, FallsFrom, FallsThrough, lower_head, upper_head}
 use Rattle.std.specs.List.{filter_map}
-use Rattle.model_types.proofs.Members.{All-In, In, In-All, filter_map-In}
-use Rattle.model_types.proofs.Leads.{end_within, passing_are}
-use Rattle.model_types.specs.declared.face.Axis.{Axis}
-use Rattle.model_types.specs.declared.face.Axis.TheVariants.{Column, Row, Vertical}
+use Rattle.model_types.proofs.{Members.All-In, Members.In, Members.In-All, Members.filter_map-In, Leads.end_within, Leads.passing_are}
+use Rattle.model_types.specs.{declared.face.Axis.Axis, declared.face.Axis.TheVariants.Column, declared.face.Axis.TheVariants.Row, declared.face.Axis.TheVariants.Vertical}
 use Rattle.problem_builder.proofs.Members.{constant_active, variable_active}
 use Rattle.problem_builder.specs.{HeadsEnclose}
 unfoldable use Rattle.water_table.specs.{saturated_thickness}

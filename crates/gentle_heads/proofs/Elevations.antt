@@ -1,12 +1,10 @@
 -- An elevation in whole units of 10^-9 beside a head.
-use Rattle.gentle_heads.proofs.Common.{◌≡◌, ℕ, ◌+◌, ◌-◌, ◌*◌, ◌^◌, ◌<◌, ◌≤◌, ◌↔◌, IsTrue, Bool, List, true, false, refl, sym, subst, arith, ℤ, pos, neg_ℤ, ◌+ℤ◌}
-use Rattle.gentle_heads.proofs.Common.{◌-ℤ◌, ◌*ℤ◌, ◌≤ℤ◌, ◌<ℤ◌, mul-pos, false≢true, by_lt_z, ints, ◌||◌, le_over, over_le, IsOver-minus, IsBelow, minus, share}
-use Rattle.gentle_heads.proofs.Common.{own_over, cancel_right, mul_mono_right, Fraction, IsOver, IsCeilingPast, IsFloorPast, IsSignedCeiling, IsSignedFloor}
-use Rattle.gentle_heads.proofs.Common.{number, size, with_sign, AtMost, den, FlowModel, bottom_at, is_active, layer_size, Bound, IsMagnitudeAtMost}
+use Rattle.gentle_heads.proofs.Common.{◌≡◌, ℕ, ◌+◌, ◌-◌, ◌*◌, ◌^◌, ◌<◌, ◌≤◌, ◌↔◌, IsTrue, Bool, List, true, false, refl, sym, subst, arith, ℤ, pos, neg_ℤ, ◌+ℤ◌, ◌-ℤ◌, ◌*ℤ◌, ◌≤ℤ◌, ◌<ℤ◌, mul-pos}
+use Rattle.gentle_heads.proofs.Common.{false≢true, by_lt_z, ints, ◌||◌, le_over, over_le, IsOver-minus, IsBelow, minus, share, own_over, cancel_right, mul_mono_right, Fraction, IsOver, IsCeilingPast}
+use Rattle.gentle_heads.proofs.Common.{IsFloorPast, IsSignedCeiling, IsSignedFloor, number, size, with_sign, AtMost, den, FlowModel, bottom_at, is_active, layer_size, Bound, IsMagnitudeAtMost}
 use Rattle.gentle_heads.proofs.Common.{ConvertibleLayers, is_convertible, IsOverBottom, lower_head}
 use Rattle.std.specs.Int.Signed.{le_z, lt_z}
-use Rattle.cell_balance.proofs.Deep.{sub_mul}
-use Rattle.cell_balance.proofs.Encloses.{share_is}
+use Rattle.cell_balance.proofs.{Deep.sub_mul, Encloses.share_is}
 use Rattle.decimal_input.specs.declared.dec.Dec.{Dec}
 use Rattle.problem_builder.proofs.Fits.{floor_not_negative}
 

@@ -1,19 +1,14 @@
 -- The test of gentle heads at the listed heads of a step: whether all heads between the lower and the upper ones are gentle. Listed heads are whole
 -- numbers of 10^-9 length units, one bound for each cell of the grid; in a constant-head cell they are the floor and the ceiling of its head.
 use Rattle.std.specs.Prelude.{ℕ, ◌+◌, ◌<◌, ◌≡◌, ◌⊎◌, ◌||◌, ◌^◌, true, false, All, IfSome, List, Option}
-use Rattle.decimal_input.specs.{number, Fraction}
-use Rattle.decimal_input.specs.Fractions.{AtMost}
-use Rattle.step_problem.specs.declared.heads.Bound.{Bound}
-use Rattle.step_problem.specs.{lower_at, upper_at}
+use Rattle.decimal_input.specs.{number, Fraction, Fractions.AtMost}
+use Rattle.step_problem.specs.{declared.heads.Bound.Bound, lower_at, upper_at}
 use Rattle.cell_balance.specs.{minus, share, IsBelow}
-use Rattle.model_types.specs.declared.model.FlowModel.{FlowModel}
-use Rattle.model_types.specs.declared.face.Axis.{Axis}
-use Rattle.model_types.specs.declared.face.Axis.TheVariants.{Row, Column, Vertical}
-use Rattle.model_types.specs.declared.face.Face.{Face}
-use Rattle.model_types.specs.{IsModel, top_at, bottom_at, is_active, is_variable, layer_size, faces}
+use Rattle.model_types.specs.{declared.model.FlowModel.FlowModel, declared.face.Axis.Axis, declared.face.Axis.TheVariants.Row}
+use Rattle.model_types.specs.{declared.face.Axis.TheVariants.Column, declared.face.Axis.TheVariants.Vertical, declared.face.Face.Face, IsModel, top_at}
+use Rattle.model_types.specs.{bottom_at, is_active, is_variable, layer_size, faces}
 use Rattle.problem_builder.specs.{HeadsEnclose, IsActive}
-use Rattle.water_table.specs.declared.convertible_layers.ConvertibleLayers.{ConvertibleLayers}
-use Rattle.water_table.specs.{IsGentle, is_convertible}
+use Rattle.water_table.specs.{declared.convertible_layers.ConvertibleLayers.ConvertibleLayers, IsGentle, is_convertible}
 
 -- the listed heads of a cell in length units
 abbrev pub lower_head : List Bound → ℕ → Fraction

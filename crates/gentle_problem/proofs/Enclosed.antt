@@ -1,15 +1,14 @@
 -- The problem at heads encloses the step at these heads.
-use Rattle.gentle_problem.proofs.Common.{◌≡◌, ℕ, ◌++◌, List, [], ◌∷◌, None, map, refl, ap, ◌∙◌, subst, Fraction, CellEncloses, ExactCell, ExactFixed, FlowModel}
-use Rattle.gentle_problem.proofs.Common.{TimeStep, FixedSource, ToConstant, ToGeneral, as_general, constant_faces, local_entries, start_head, variable_cells}
-use Rattle.gentle_problem.proofs.Common.{cells_over, time_of, ConvertibleLayers, pairs_enclose, ProblemsEnclose, branches_at}
+use Rattle.gentle_problem.proofs.Common.{◌≡◌, ℕ, ◌++◌, List, [], ◌∷◌, None, map, refl, ap, ◌∙◌, subst, Fraction, CellEncloses, ExactCell, ExactFixed, FlowModel, TimeStep, FixedSource, ToConstant}
+use Rattle.gentle_problem.proofs.Common.{ToGeneral, as_general, constant_faces, local_entries, start_head, variable_cells, cells_over, time_of, ConvertibleLayers, pairs_enclose, ProblemsEnclose}
+use Rattle.gentle_problem.proofs.Common.{branches_at}
 use Rattle.std.proofs.lemmas.List.{map-append}
 use Rattle.std.specs.List.{AllZip, filter_map}
 use mathlib.Core.List.{map-map}
 use Rattle.model_types.specs.declared.entry.Entry.{Entry}
 use Rattle.model_types.specs.declared.entry.Entry.TheVariants.{Drain, General, River, Well}
 use Rattle.flow_equations.specs.{exact_fixed}
-use Rattle.problem_builder.proofs.CellEnclosed.{cells_over_enclose, exact_cell_over, exact_fixed_over}
-use Rattle.problem_builder.proofs.Zipped.{map_within}
+use Rattle.problem_builder.proofs.{CellEnclosed.cells_over_enclose, CellEnclosed.exact_cell_over, CellEnclosed.exact_fixed_over, Zipped.map_within}
 use Rattle.water_table.specs.{conductance_at, constant_branch, convertible_cell, general_branches}
 use Rattle.water_enclosure.proofs.Linked.{are_linked}
 use Rattle.gentle_problem.proofs.Made.{heads_have_branches}

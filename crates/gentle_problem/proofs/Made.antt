@@ -1,17 +1,12 @@
 -- The problem over the pairs of the tables is the one over the pairs at the heads.
-use Rattle.gentle_problem.proofs.Common.{◌≡◌, ℕ, ◌<◌, ◌≤◌, ◌∙◌, List, sym, subst, refl, arith, Bound, FlowModel, TimeStep, Axis, IsModel, cell_count, Pair}
-use Rattle.gentle_problem.proofs.Common.{AreBranches, HasPairs, IsFaultOver, IsProblemOver, branches_over, pair_at, problem_over, cells_over, time_of}
-use Rattle.gentle_problem.proofs.Common.{ConvertibleLayers, AreOrdered, ArePairsAt, HasPairAt, ProblemsFit, branches_at}
+use Rattle.gentle_problem.proofs.Common.{◌≡◌, ℕ, ◌<◌, ◌≤◌, ◌∙◌, List, sym, subst, refl, arith, Bound, FlowModel, TimeStep, Axis, IsModel, cell_count, Pair, AreBranches, HasPairs, IsFaultOver}
+use Rattle.gentle_problem.proofs.Common.{IsProblemOver, branches_over, pair_at, problem_over, cells_over, time_of, ConvertibleLayers, AreOrdered, ArePairsAt, HasPairAt, ProblemsFit, branches_at}
 use Rattle.std.proofs.lemmas.Option.{none-some}
-use Rattle.step_problem.specs.declared.refusal.BoundFault.{BoundFault}
-use Rattle.step_problem.specs.declared.refusal.BoundFault.TheVariants.{NoBound as Refused, Memory}
-use Rattle.step_problem.specs.Entries.{Entries}
+use Rattle.step_problem.specs.{declared.refusal.BoundFault.BoundFault, declared.refusal.BoundFault.TheVariants.NoBound as Refused, declared.refusal.BoundFault.TheVariants.Memory, Entries.Entries}
 use Rattle.model_types.specs.declared.face.Axis.TheVariants.{Row, Column, Vertical}
 use Rattle.model_types.proofs.Leads.{first_within}
 use Rattle.problem_builder.specs.declared.tables.FacePairs.{FacePairs}
-use Rattle.problem_builder.proofs.CellFaces.{face_active, first_after}
-use Rattle.problem_builder.proofs.Problems.{is_problem_over}
-use Rattle.problem_builder.proofs.SameBranches.{HasSamePairs, same_problem_over}
+use Rattle.problem_builder.proofs.{CellFaces.face_active, CellFaces.first_after, Problems.is_problem_over, SameBranches.HasSamePairs, SameBranches.same_problem_over}
 use Rattle.gentle_problem.proofs.Ordered.{pair_in_order}
 
 module _ (m : FlowModel) (w : ConvertibleLayers) (heads : List Bound) (s : ℕ) (at : TimeStep) (valid : IsModel m) (ordered : AreOrdered m heads) where

@@ -1,9 +1,8 @@
 -- The pair of a face has its bounds in order.
-use Rattle.gentle_problem.proofs.Common.{◌≡◌, ℕ, ◌+◌, ◌^◌, ◌≤◌, inl, inr, Bool, true, false, cond, Option, List, sym, subst, refl, arith}
-use Rattle.gentle_problem.proofs.Common.{le_of_mul-le-mul_right, Encloses, Fraction, Ratio, share, Bound, FlowModel, Axis, IsModel, stride, Pair, HeadsEnclose}
-use Rattle.gentle_problem.proofs.Common.{IsBranch, no_pair, ConvertibleLayers, AreOrdered, face_formula, has_depth, pair_at_heads, face_in_bounds}
-use Rattle.std.proofs.lemmas.Bool.{and_parts}
-use Rattle.std.proofs.lemmas.Int.{ints}
+use Rattle.gentle_problem.proofs.Common.{◌≡◌, ℕ, ◌+◌, ◌^◌, ◌≤◌, inl, inr, Bool, true, false, cond, Option, List, sym, subst, refl, arith, le_of_mul-le-mul_right, Encloses, Fraction, Ratio, share}
+use Rattle.gentle_problem.proofs.Common.{Bound, FlowModel, Axis, IsModel, stride, Pair, HeadsEnclose, IsBranch, no_pair, ConvertibleLayers, AreOrdered, face_formula, has_depth, pair_at_heads}
+use Rattle.gentle_problem.proofs.Common.{face_in_bounds}
+use Rattle.std.proofs.{lemmas.Bool.and_parts, lemmas.Int.ints}
 use Rattle.std.specs.Option.{unwrap_or}
 use Rattle.std.specs.Prelude.{◌&&◌}
 use Rattle.decimal_input.specs.Ratios.{den}

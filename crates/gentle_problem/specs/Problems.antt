@@ -2,20 +2,14 @@
 -- without storage.
 use Rattle.std.specs.Prelude.{◌≡◌, ℕ, ◌+◌, true, List, None, Contains}
 use Rattle.decimal_input.specs.{Fraction}
-use Rattle.step_problem.specs.declared.heads.Bound.{Bound}
-use Rattle.step_problem.specs.Entries.{Entries}
-use Rattle.step_problem.specs.{IsProblem}
-use Rattle.model_types.specs.declared.model.FlowModel.{FlowModel}
-use Rattle.model_types.specs.declared.time_steps.TimeStep.{TimeStep}
-use Rattle.model_types.specs.declared.face.Axis.{Axis}
-use Rattle.model_types.specs.declared.face.Axis.TheVariants.{Row, Column, Vertical}
-use Rattle.model_types.specs.{IsModel, cell_count, has_after, is_active, stride, times}
+use Rattle.step_problem.specs.{declared.heads.Bound.Bound, Entries.Entries, IsProblem}
+use Rattle.model_types.specs.{declared.model.FlowModel.FlowModel, declared.time_steps.TimeStep.TimeStep, declared.face.Axis.Axis}
+use Rattle.model_types.specs.{declared.face.Axis.TheVariants.Row, declared.face.Axis.TheVariants.Column, declared.face.Axis.TheVariants.Vertical, IsModel}
+use Rattle.model_types.specs.{cell_count, has_after, is_active, stride, times}
 use Rattle.cell_balance.specs.{EnclosesStep}
 use Rattle.conductance_bounds.specs.declared.pair.Pair.{Pair}
-use Rattle.problem_builder.specs.declared.tables.FacePairs.{FacePairs}
-use Rattle.problem_builder.specs.{AreGridHeads, Branches, Filled, HeadsEnclose, IsProblemOver, no_pair}
-use Rattle.water_table.specs.declared.convertible_layers.ConvertibleLayers.{ConvertibleLayers}
-use Rattle.water_table.specs.{convertible_step}
+use Rattle.problem_builder.specs.{declared.tables.FacePairs.FacePairs, AreGridHeads, Branches, Filled, HeadsEnclose, IsProblemOver, no_pair}
+use Rattle.water_table.specs.{declared.convertible_layers.ConvertibleLayers.ConvertibleLayers, convertible_step}
 use Rattle.water_conductances.specs.{AreOrdered, pair_at_heads}
 
 module _ (m : FlowModel) (w : ConvertibleLayers) (heads : List Bound) (s : ℕ) where

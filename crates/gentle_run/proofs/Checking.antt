@@ -1,8 +1,7 @@
 -- A check of listed heads, step by step.
-use Rattle.gentle_run.proofs.Common.{All, List, [], ◌∷◌, inl, inr, ℕ, ◌≡◌, ◌+◌, ◌<◌, ◌≤◌, subst, sym, ap, refl, arith, drop, length, get_or}
-use Rattle.gentle_run.proofs.Common.{All-contains_itself, All-head, All-tail, Contains, Bound, FlowModel, TimeStep, IsModel, times, AreGridHeads, AreStartHeads}
-use Rattle.gentle_run.proofs.Common.{starts_fit, ListedStep, ConvertibleLayers, Hold, AreHeadsListed, Checks, Holds, IsVerdict, IsVerdictAt, StopsAt, step_in}
-use Rattle.gentle_run.proofs.Common.{FailsBy}
+use Rattle.gentle_run.proofs.Common.{All, List, [], ◌∷◌, inl, inr, ℕ, ◌≡◌, ◌+◌, ◌<◌, ◌≤◌, subst, sym, ap, refl, arith, drop, length, get_or, All-contains_itself, All-head, All-tail, Contains, Bound}
+use Rattle.gentle_run.proofs.Common.{FlowModel, TimeStep, IsModel, times, AreGridHeads, AreStartHeads, starts_fit, ListedStep, ConvertibleLayers, Hold, AreHeadsListed, Checks, Holds, IsVerdict}
+use Rattle.gentle_run.proofs.Common.{IsVerdictAt, StopsAt, step_in, FailsBy}
 use Rattle.std.proofs.lemmas.List.{drop_all, drop_more}
 use Rattle.gentle_steps.specs.declared.fault.HeadsFault.{HeadsFault}
 use Rattle.gentle_run.specs.declared.verdict.HeadsVerdict.{HeadsVerdict}

@@ -1,7 +1,6 @@
 -- Where the heads of all steps hold, the listing has the signs.
-use Rattle.gentle_run.proofs.Common.{All, List, [], ◌∷◌, inl, inr, map, ℕ, All-contains_itself, All-head, All-tail, Contains, Bound, FlowModel, TimeStep}
-use Rattle.gentle_run.proofs.Common.{IsModel, start_head, times, AreGridHeads, HeadsEnclose, ListedStep, ConvertibleLayers, starts_enclose, Hold}
-use Rattle.gentle_run.proofs.Common.{CertifiedIsEnclosed, Checks, listed_heads_of}
+use Rattle.gentle_run.proofs.Common.{All, List, [], ◌∷◌, inl, inr, map, ℕ, All-contains_itself, All-head, All-tail, Contains, Bound, FlowModel, TimeStep, IsModel, start_head, times, AreGridHeads}
+use Rattle.gentle_run.proofs.Common.{HeadsEnclose, ListedStep, ConvertibleLayers, starts_enclose, Hold, CertifiedIsEnclosed, Checks, listed_heads_of}
 use Rattle.water_table.specs.{listed_heads, HasSignsFrom, with_yield}
 use Rattle.step_problem.specs.{lower_at, upper_at}
 use Rattle.decimal_input.specs.{Fraction}

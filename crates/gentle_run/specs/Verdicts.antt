@@ -1,20 +1,14 @@
 -- The verdict on the heads of a listing of a model with convertible layers, and what it encloses where they hold.
 use Rattle.std.specs.Prelude.{◌≡◌, ℕ, ℤ, zero, suc, List, [], ◌∷◌, All, ◌⊎◌, length, map, slice_index_or}
-use Rattle.step_problem.specs.declared.heads.Bound.{Bound}
-use Rattle.step_problem.specs.Entries.{Entries}
-use Rattle.model_types.specs.declared.model.FlowModel.{FlowModel}
-use Rattle.model_types.specs.declared.time_steps.TimeStep.{TimeStep}
-use Rattle.model_types.specs.{IsModel, start_head, times}
-use Rattle.problem_builder.specs.declared.index.PeriodTables.{PeriodTables}
-use Rattle.problem_builder.specs.{AreEvenStorages, AreGridHeads, ArePeriodTables, AreStartHeads}
+use Rattle.step_problem.specs.{declared.heads.Bound.Bound, Entries.Entries}
+use Rattle.model_types.specs.{declared.model.FlowModel.FlowModel, declared.time_steps.TimeStep.TimeStep, IsModel, start_head, times}
+use Rattle.problem_builder.specs.{declared.index.PeriodTables.PeriodTables, AreEvenStorages, AreGridHeads, ArePeriodTables, AreStartHeads}
 use Rattle.listing_io.specs.declared.listing.ListedStep.{ListedStep}
-use Rattle.water_table.specs.declared.convertible_layers.ConvertibleLayers.{ConvertibleLayers}
+use Rattle.water_table.specs.{declared.convertible_layers.ConvertibleLayers.ConvertibleLayers, LieInPairs, NearlySolves, with_yield}
 use Rattle.water_enclosure.specs.{FlowsLieFrom, flow_unit, pair_of}
-use Rattle.water_table.specs.{LieInPairs, NearlySolves, with_yield}
 use Rattle.gentle_terms.specs.{TermsLieFrom}
-use Rattle.gentle_steps.specs.declared.fault.HeadsFault.{HeadsFault}
+use Rattle.gentle_steps.specs.{declared.fault.HeadsFault.HeadsFault, FailsBy, HeadsHold}
 use Rattle.gentle_steps.specs.declared.fault.HeadsFault.TheVariants as fault
-use Rattle.gentle_steps.specs.{FailsBy, HeadsHold}
 use Rattle.gentle_run.specs.declared.verdict.HeadsVerdict.{HeadsVerdict}
 use Rattle.gentle_run.specs.declared.verdict.HeadsVerdict.TheVariants.{Fails, Hold, Refused, Steep}
 

@@ -1,12 +1,10 @@
 -- The cells of the problems of a step are its variable cells.
-use Rattle.gentle_steps.proofs.Common.{◌≡◌, ℕ, ◌<◌, List, length, get_or, map, sym, ap, ◌∙◌, arith, subst, AreWords, heads_on, variable_bounds, IsModel}
-use Rattle.gentle_steps.proofs.Common.{cell_count, is_variable, variable_cells, FlowModel, TimeStep, AreGridHeads, bound_at, IsHead, entries_at, no_bound}
-use Rattle.gentle_steps.proofs.Common.{no_entries, Entries, Bound, Side, ConvertibleLayers, variable_cell, IsAt, variable_at, head_of, branches_at}
-use Rattle.gentle_steps.proofs.Common.{IsSideProblem, side_bounds}
+use Rattle.gentle_steps.proofs.Common.{◌≡◌, ℕ, ◌<◌, List, length, get_or, map, sym, ap, ◌∙◌, arith, subst, AreWords, heads_on, variable_bounds, IsModel, cell_count, is_variable, variable_cells}
+use Rattle.gentle_steps.proofs.Common.{FlowModel, TimeStep, AreGridHeads, bound_at, IsHead, entries_at, no_bound, no_entries, Entries, Bound, Side, ConvertibleLayers, variable_cell, IsAt, variable_at}
+use Rattle.gentle_steps.proofs.Common.{head_of, branches_at, IsSideProblem, side_bounds}
 use Rattle.std.proofs.lemmas.List.{get_or-map, length-map}
 use mathlib.Core.List.{map-map}
-use Rattle.problem_builder.proofs.CellEnclosed.{ids_over}
-use Rattle.problem_builder.proofs.Steps.{cells_over}
+use Rattle.problem_builder.proofs.{CellEnclosed.ids_over, Steps.cells_over}
 
 -- the problem of a side has the variable cells
 pub side_cells : (m : FlowModel) (w : ConvertibleLayers) (s : ℕ) (at : TimeStep) (listed : List Bound) (side : Side) (p : List Entries) →

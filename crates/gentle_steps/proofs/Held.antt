@@ -1,15 +1,12 @@
 -- Listed heads that hold have the signs.
-use Rattle.gentle_steps.proofs.Common.{◌≡◌, ℕ, ◌<◌, ◌^◌, Bool, true, false, List, length, refl, sym, subst, arith, ints, ℤ, ◌≤ℤ◌, heads_on, EnclosesSigned}
-use Rattle.gentle_steps.proofs.Common.{HeldStepsHaveSigns, side_bounds, variable_bounds, IsModel, is_variable, variable_cells, FlowModel, TimeStep}
-use Rattle.gentle_steps.proofs.Common.{AreGridHeads, HeadsEnclose, IsActive, IsTimeOf, lower_at, upper_at, Entries, Bound, High, Low, Side, AreOrdered}
-use Rattle.gentle_steps.proofs.Common.{listed_heads, Fraction, ConvertibleLayers, variable_cell, den, le-trans, mul_mono_right, constant_head}
-use Rattle.gentle_steps.proofs.Common.{constant_head_is_enclosed, time_of, variable_at, known_at, variable_at_head, ArePairs, HaveSide, ConstantsReach}
-use Rattle.gentle_steps.proofs.Common.{HeadsHold, own_bounds}
+use Rattle.gentle_steps.proofs.Common.{◌≡◌, ℕ, ◌<◌, ◌^◌, Bool, true, false, List, length, refl, sym, subst, arith, ints, ℤ, ◌≤ℤ◌, heads_on, EnclosesSigned, HeldStepsHaveSigns, side_bounds}
+use Rattle.gentle_steps.proofs.Common.{variable_bounds, IsModel, is_variable, variable_cells, FlowModel, TimeStep, AreGridHeads, HeadsEnclose, IsActive, IsTimeOf, lower_at, upper_at, Entries, Bound}
+use Rattle.gentle_steps.proofs.Common.{High, Low, Side, AreOrdered, listed_heads, Fraction, ConvertibleLayers, variable_cell, den, le-trans, mul_mono_right, constant_head, constant_head_is_enclosed}
+use Rattle.gentle_steps.proofs.Common.{time_of, variable_at, known_at, variable_at_head, ArePairs, HaveSide, ConstantsReach, HeadsHold, own_bounds}
 use Rattle.cell_balance.specs.{share}
 use Rattle.gentle_heads.proofs.Between.{all_between_are_gentle}
 use Rattle.gentle_check.proofs.Signs.{signs_are_shown}
-use Rattle.gentle_steps.proofs.Cells.{problem_length, heads_are, side_cells}
-use Rattle.gentle_steps.proofs.SideHeads.{active_constant, side_encloses, side_ordered}
+use Rattle.gentle_steps.proofs.{Cells.problem_length, Cells.heads_are, Cells.side_cells, SideHeads.active_constant, SideHeads.side_encloses, SideHeads.side_ordered}
 
 -- wider bounds enclose what narrower ones do
 wider : (a b lo hi : ℤ) (k : ℕ) (f : Fraction) → a ≤ℤ lo → hi ≤ℤ b → EnclosesSigned lo hi k f → EnclosesSigned a b k f

@@ -1,6 +1,6 @@
 -- Refusals of the problems of both sides.
-use Rattle.gentle_steps.proofs.Common.{ℕ, List, FlowModel, TimeStep, ConvertibleLayers, Bound, Side, High, Low, Entries, IsFaultOver, branches_at, FailsBy}
-use Rattle.gentle_steps.proofs.Common.{HasNoSideProblem, IsGentlyListed, IsSideProblem, IsUnposed, no_high_problem, no_low_problem, of_bound, side_bounds}
+use Rattle.gentle_steps.proofs.Common.{ℕ, List, FlowModel, TimeStep, ConvertibleLayers, Bound, Side, High, Low, Entries, IsFaultOver, branches_at, FailsBy, HasNoSideProblem, IsGentlyListed}
+use Rattle.gentle_steps.proofs.Common.{IsSideProblem, IsUnposed, no_high_problem, no_low_problem, of_bound, side_bounds}
 use Rattle.step_problem.specs.declared.refusal.BoundFault.{BoundFault}
 use Rattle.gentle_steps.specs.declared.fault.HeadsFault.{HeadsFault}
 use Rattle.step_problem.specs.declared.refusal.BoundFault.TheVariants as bound

@@ -1,9 +1,8 @@
 -- The heads of a side are in range and in order, and enclose the exact ones.
-use Rattle.gentle_steps.proofs.Common.{◌≡◌, ℕ, ◌<◌, ◌^◌, Bool, true, false, cond, List, length, get_or, refl, sym, ap, ◌∙◌, subst, arith, ints, ℤ, ◌≤ℤ◌}
-use Rattle.gentle_steps.proofs.Common.{EnclosesSigned, Fraction, heads_on, side_bound, side_bounds, IsModel, cell_count, is_active, is_constant, is_variable}
-use Rattle.gentle_steps.proofs.Common.{FlowModel, TimeStep, AreGridHeads, HeadsEnclose, IsTimeOf, constant_bound, known_bound, IsHead, no_bound, Bound, Side}
-use Rattle.gentle_steps.proofs.Common.{High, Low, AreOrdered, listed_heads, get_or-map-range_with_len, length-map-range_with_len, not, ◌&&◌, den, cancel_right}
-use Rattle.gentle_steps.proofs.Common.{le-trans, constant_head_is_enclosed, head_range, known_at, variable_at_head, one_head, own_bounds}
+use Rattle.gentle_steps.proofs.Common.{◌≡◌, ℕ, ◌<◌, ◌^◌, Bool, true, false, cond, List, length, get_or, refl, sym, ap, ◌∙◌, subst, arith, ints, ℤ, ◌≤ℤ◌, EnclosesSigned, Fraction, heads_on, side_bound}
+use Rattle.gentle_steps.proofs.Common.{side_bounds, IsModel, cell_count, is_active, is_constant, is_variable, FlowModel, TimeStep, AreGridHeads, HeadsEnclose, IsTimeOf, constant_bound, known_bound}
+use Rattle.gentle_steps.proofs.Common.{IsHead, no_bound, Bound, Side, High, Low, AreOrdered, listed_heads, get_or-map-range_with_len, length-map-range_with_len, not, ◌&&◌, den, cancel_right, le-trans}
+use Rattle.gentle_steps.proofs.Common.{constant_head_is_enclosed, head_range, known_at, variable_at_head, one_head, own_bounds}
 
 -- both heads of a bound are in range
 abbrev InRange : Bound → Type 0

@@ -1,6 +1,6 @@
 -- The heads of a step's table, cell by cell.
-use Rattle.gentle_steps.proofs.Common.{◌≡◌, ℕ, ◌<◌, true, Bool, cond, List, length, get_or, ap, ◌∙◌, arith, cell_count, is_constant, FlowModel, TimeStep}
-use Rattle.gentle_steps.proofs.Common.{constant_bound, known_bound, no_bound, Bound, get_or-map-range_with_len, length-map-range_with_len, AreConstantHeads}
+use Rattle.gentle_steps.proofs.Common.{◌≡◌, ℕ, ◌<◌, true, Bool, cond, List, length, get_or, ap, ◌∙◌, arith, cell_count, is_constant, FlowModel, TimeStep, constant_bound, known_bound, no_bound, Bound}
+use Rattle.gentle_steps.proofs.Common.{get_or-map-range_with_len, length-map-range_with_len, AreConstantHeads}
 
 module _ (m : FlowModel) (at : TimeStep) (heads xs : List Bound) (is : AreConstantHeads m at heads) (lent : xs ≡ heads) where
   pub heads_count : length xs ≡ cell_count m.grid

@@ -1,15 +1,10 @@
 -- What listed heads that hold say of a step.
 use Rattle.std.specs.Prelude.{ℕ, List, Contains}
 use Rattle.decimal_input.specs.{Fraction}
-use Rattle.step_problem.specs.declared.heads.Bound.{Bound}
-use Rattle.step_problem.specs.Entries.{Entries}
-use Rattle.step_problem.specs.{lower_at, upper_at}
-use Rattle.model_types.specs.declared.model.FlowModel.{FlowModel}
-use Rattle.model_types.specs.declared.time_steps.TimeStep.{TimeStep}
-use Rattle.model_types.specs.{IsModel, times}
+use Rattle.step_problem.specs.{declared.heads.Bound.Bound, Entries.Entries, lower_at, upper_at}
+use Rattle.model_types.specs.{declared.model.FlowModel.FlowModel, declared.time_steps.TimeStep.TimeStep, IsModel, times}
 use Rattle.problem_builder.specs.{AreGridHeads, HeadsEnclose}
-use Rattle.water_table.specs.declared.convertible_layers.ConvertibleLayers.{ConvertibleLayers}
-use Rattle.water_table.specs.{HasSignsAt, listed_heads, with_yield}
+use Rattle.water_table.specs.{declared.convertible_layers.ConvertibleLayers.ConvertibleLayers, HasSignsAt, listed_heads, with_yield}
 use Rattle.water_enclosure.specs.{flow_unit, pair_of}
 use Rattle.gentle_steps.specs.Steps.{HeadsHold}
 

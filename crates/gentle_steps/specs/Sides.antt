@@ -1,11 +1,8 @@
 -- The heads of one side of a listed step, as bounds of all cells of the grid, in units of 10^-9.
 use Rattle.std.specs.Prelude.{◌≡◌, ℕ, List, cond}
-use Rattle.step_problem.specs.declared.heads.Bound.{Bound}
-use Rattle.step_problem.specs.declared.heads.Side.{Side}
+use Rattle.step_problem.specs.{declared.heads.Bound.Bound, declared.heads.Side.Side}
 use Rattle.cell_relax.specs.{heads_on}
-use Rattle.model_types.specs.declared.model.FlowModel.{FlowModel}
-use Rattle.model_types.specs.declared.time_steps.TimeStep.{TimeStep}
-use Rattle.model_types.specs.{is_variable}
+use Rattle.model_types.specs.{declared.model.FlowModel.FlowModel, declared.time_steps.TimeStep.TimeStep, is_variable}
 use Rattle.problem_builder.specs.{each_cell, known_bound}
 use Rattle.gentle_check.specs.{one_head}
 

@@ -1,21 +1,13 @@
 -- Whether the listed heads of a step of a model with convertible layers hold, and the first place where they don't. Heads are in units of 10^-9, balances in
 -- units of 10^-(s+9).
 use Rattle.std.specs.Prelude.{◌≡◌, ℕ, ℤ, pos, neg_ℤ, ◌<◌, ◌≤ℤ◌, ◌⊎◌, List, length, map, true, Result, Ok, Err}
-use Rattle.step_problem.specs.declared.heads.Bound.{Bound}
-use Rattle.step_problem.specs.declared.heads.Side.{Side}
-use Rattle.step_problem.specs.declared.heads.Side.TheVariants.{High, Low}
-use Rattle.step_problem.specs.declared.place.NoBound.{NoBound}
-use Rattle.step_problem.specs.declared.place.Place.{Place}
-use Rattle.step_problem.specs.declared.place.Place.TheVariants.{Cell}
-use Rattle.step_problem.specs.declared.refusal.BoundFault.{BoundFault}
-use Rattle.step_problem.specs.declared.refusal.BoundFault.TheVariants as bound
-use Rattle.step_problem.specs.declared.refusal.StepRefusal.TheVariants.{ConductanceTooLarge}
-use Rattle.step_problem.specs.Entries.{Entries}
+use Rattle.step_problem.specs.{declared.heads.Bound.Bound, declared.heads.Side.Side, declared.heads.Side.TheVariants.High, declared.heads.Side.TheVariants.Low}
+use Rattle.step_problem.specs.{declared.place.NoBound.NoBound, declared.place.Place.Place, declared.place.Place.TheVariants.Cell}
+use Rattle.step_problem.specs.{declared.refusal.BoundFault.BoundFault, declared.refusal.StepRefusal.TheVariants.ConductanceTooLarge, Entries.Entries}
 use Rattle.step_problem.specs.{entries_at, lower_at, number_of, upper_at}
+use Rattle.step_problem.specs.declared.refusal.BoundFault.TheVariants as bound
 use Rattle.cell_relax.specs.{heads_on}
-use Rattle.model_types.specs.declared.model.FlowModel.{FlowModel}
-use Rattle.model_types.specs.declared.time_steps.TimeStep.{TimeStep}
-use Rattle.model_types.specs.{cell_count, is_constant, is_variable, variable_cells}
+use Rattle.model_types.specs.{declared.model.FlowModel.FlowModel, declared.time_steps.TimeStep.TimeStep, cell_count, is_constant, is_variable, variable_cells}
 use Rattle.problem_builder.specs.{bound_at, constant_bound, problem_over}
 use Rattle.water_table.specs.declared.convertible_layers.ConvertibleLayers.{ConvertibleLayers}
 use Rattle.water_conductances.specs.{AreOrdered}
@@ -23,10 +15,8 @@ use Rattle.water_storage.specs.{ArePairs}
 use Rattle.gentle_heads.specs.{AreGentleBetween, IsFirstSteep}
 use Rattle.gentle_problem.specs.{branches_at}
 use Rattle.gentle_check.specs.{whole_balance}
-use Rattle.gentle_steps.specs.declared.fault.HeadsFault.{HeadsFault}
+use Rattle.gentle_steps.specs.{declared.fault.HeadsFault.HeadsFault, declared.posed.Posed.Posed, Sides.side_bounds}
 use Rattle.gentle_steps.specs.declared.fault.HeadsFault.TheVariants as fault
-use Rattle.gentle_steps.specs.declared.posed.Posed.{Posed}
-use Rattle.gentle_steps.specs.Sides.{side_bounds}
 
 -- c is the first of the numbers below n for which P doesn't hold
 pub record IsFirst (P : ℕ → Type 0) (n c : ℕ) : Type 0 where

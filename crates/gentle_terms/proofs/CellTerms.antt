@@ -1,14 +1,11 @@
 -- The single flows of a term into a cell, at two vectors of heads.
-use Rattle.gentle_terms.proofs.Common.{◌≡◌, ℕ, List, [], ◌∷◌, ◌++◌, ◌∙◌, map, refl, ap, subst, sym, Fraction, fraction_total, exact_part, ExactFixed}
-use Rattle.gentle_terms.proofs.Common.{drain_flow, evap_flow, fixed_flow, river_flow, InOrder, FlowModel, TimeStep, Dir, Term, OwnFlowsAreAtMost}
-use Rattle.gentle_terms.proofs.Common.{constant_branch, convertible_cell, general_branches, ConvertibleLayers, ConstantHead, Drains, Et, HeadDepBounds}
-use Rattle.gentle_terms.proofs.Common.{Recharge, RiverLeakage, Storage, Wells, FixedSource, ToGeneral, as_general, constant_faces, local_entries, start_head}
-use Rattle.gentle_terms.proofs.Common.{exact_fixed_of}
-use Rattle.model_types.specs.declared.face.Face.{Face}
+use Rattle.gentle_terms.proofs.Common.{◌≡◌, ℕ, List, [], ◌∷◌, ◌++◌, ◌∙◌, map, refl, ap, subst, sym, Fraction, fraction_total, exact_part, ExactFixed, drain_flow, evap_flow, fixed_flow, river_flow}
+use Rattle.gentle_terms.proofs.Common.{InOrder, FlowModel, TimeStep, Dir, Term, OwnFlowsAreAtMost, constant_branch, convertible_cell, general_branches, ConvertibleLayers, ConstantHead, Drains, Et}
+use Rattle.gentle_terms.proofs.Common.{HeadDepBounds, Recharge, RiverLeakage, Storage, Wells, FixedSource, ToGeneral, as_general, constant_faces, local_entries, start_head, exact_fixed_of}
+use Rattle.model_types.specs.{declared.face.Face.Face, declared.entry.Entry.Entry, declared.entry.Entry.TheVariants.Drain, declared.entry.Entry.TheVariants.General}
+use Rattle.model_types.specs.{declared.entry.Entry.TheVariants.River, declared.entry.Entry.TheVariants.Well}
 use Rattle.std.proofs.lemmas.List.{append-nil}
 use Rattle.std.specs.List.{filter_map}
-use Rattle.model_types.specs.declared.entry.Entry.{Entry}
-use Rattle.model_types.specs.declared.entry.Entry.TheVariants.{Drain, General, River, Well}
 use Rattle.flow_equations.specs.{exact_fixed}
 use Rattle.gentle_terms.proofs.Parts.{list_order, same_order, source_order}
 unfoldable use Rattle.budget_bounds.specs.{exact_singles}

@@ -1,8 +1,6 @@
 -- Parts of flows, and their sums, in order.
-use Rattle.gentle_terms.proofs.Common.{◌≡◌, ℕ, zero, suc, ◌<◌, List, [], ◌∷◌, All, map, refl, sym, arith, pos, Fraction, fraction_total, opposite, whole}
-use Rattle.gentle_terms.proofs.Common.{exact_part, InOrder, Dir, total_below}
-use Rattle.std.proofs.lemmas.List.Elements.{All-head, All-tail}
-use Rattle.std.proofs.lemmas.Int.{ints}
+use Rattle.gentle_terms.proofs.Common.{◌≡◌, ℕ, zero, suc, ◌<◌, List, [], ◌∷◌, All, map, refl, sym, arith, pos, Fraction, fraction_total, opposite, whole, exact_part, InOrder, Dir, total_below}
+use Rattle.std.proofs.{lemmas.List.Elements.All-head, lemmas.List.Elements.All-tail, lemmas.Int.ints}
 use Rattle.decimal_input.specs.Fractions.{AtMost, den, plus}
 use Rattle.step_problem.specs.declared.place.Dir.TheVariants.{In, Out}
 use Rattle.decimal_input.proofs.FloorLaws.{neg_times}

@@ -1,13 +1,10 @@
 -- The terms of a step, and those of a history.
-use Rattle.gentle_terms.proofs.Common.{◌≡◌, ℕ, ◌<◌, List, [], ◌∷◌, All, length, sym, subst, arith, Fraction, fraction_total, exact_part, InOrder, FlowModel}
-use Rattle.gentle_terms.proofs.Common.{TimeStep, Dir, Term, OwnFlowsAreAtMost, convertible_cell, convertible_step, ConvertibleLayers, Bool, true, false, cond}
-use Rattle.gentle_terms.proofs.Common.{ℤ, ExactCell, cell_at, total_below, Storage, IsModel, start_head, times, variable_cells, is_term, ListedPair, heads_at}
-use Rattle.gentle_terms.proofs.Common.{listed_heads, storage_flow, variable_cell, FlowsLieFrom, HistoryTermsLieBetween, TermsAreInOrder, TermsLieFrom}
+use Rattle.gentle_terms.proofs.Common.{◌≡◌, ℕ, ◌<◌, List, [], ◌∷◌, All, length, sym, subst, arith, Fraction, fraction_total, exact_part, InOrder, FlowModel, TimeStep, Dir, Term, OwnFlowsAreAtMost}
+use Rattle.gentle_terms.proofs.Common.{convertible_cell, convertible_step, ConvertibleLayers, Bool, true, false, cond, ℤ, ExactCell, cell_at, total_below, Storage, IsModel, start_head, times}
+use Rattle.gentle_terms.proofs.Common.{variable_cells, is_term, ListedPair, heads_at, listed_heads, storage_flow, variable_cell, FlowsLieFrom, HistoryTermsLieBetween, TermsAreInOrder, TermsLieFrom}
 use Rattle.gentle_terms.proofs.Common.{stored_term}
-use Rattle.water_enclosure.proofs.Histories.{signs_enclose_flows}
-use Rattle.water_enclosure.proofs.Linked.{cell_is, step_length}
-use Rattle.gentle_terms.proofs.CellTerms.{parts_order}
-use Rattle.gentle_terms.proofs.Parts.{below_order, total_order}
+use Rattle.water_enclosure.proofs.{Histories.signs_enclose_flows, Linked.cell_is, Linked.step_length}
+use Rattle.gentle_terms.proofs.{CellTerms.parts_order, Parts.below_order, Parts.total_order}
 unfoldable use Rattle.budget_bounds.specs.{exact_singles, exact_term}
 unfoldable use Rattle.gentle_terms.specs.{water_term}
 

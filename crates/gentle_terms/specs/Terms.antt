@@ -1,14 +1,9 @@
 -- The volumetric budget of a step of a model with convertible layers at heads that are fractions (TM 6-A16, chapter 3): In and Out of each term.
 use Rattle.std.specs.Prelude.{ℕ, ℤ, List, [], ◌∷◌, All, cond}
-use Rattle.decimal_input.specs.{Fraction, Ratio, fraction_total}
-use Rattle.decimal_input.specs.Fractions.{AtMost}
-use Rattle.step_problem.specs.declared.place.Dir.{Dir}
-use Rattle.step_problem.specs.declared.place.Dir.TheVariants.{In, Out}
-use Rattle.step_problem.specs.declared.place.Term.{Term}
-use Rattle.step_problem.specs.declared.place.Term.TheVariants.{Storage}
-use Rattle.model_types.specs.declared.model.FlowModel.{FlowModel}
-use Rattle.model_types.specs.declared.time_steps.TimeStep.{TimeStep}
-use Rattle.model_types.specs.{IsModel, start_head, times, variable_cells}
+use Rattle.decimal_input.specs.{Fraction, Ratio, fraction_total, Fractions.AtMost}
+use Rattle.step_problem.specs.{declared.place.Dir.Dir, declared.place.Dir.TheVariants.In, declared.place.Dir.TheVariants.Out, declared.place.Term.Term}
+use Rattle.step_problem.specs.{declared.place.Term.TheVariants.Storage}
+use Rattle.model_types.specs.{declared.model.FlowModel.FlowModel, declared.time_steps.TimeStep.TimeStep, IsModel, start_head, times, variable_cells}
 use Rattle.budget_bounds.specs.{exact_part, is_term}
 unfoldable use Rattle.budget_bounds.specs.{exact_term}
 use Rattle.water_table.specs.declared.convertible_layers.ConvertibleLayers.{ConvertibleLayers}

@@ -1,12 +1,9 @@
 -- A claim, a split and a join keep the rule.
-use Rattle.head_table.proofs.Common.{◌≡◌, ℕ, List, get_or, set, ℤ, sym, refl, ◌∙◌, subst, ⊎_elim, length-set, none, some, get_elem?, step, keeps, Allows}
-use Rattle.head_table.proofs.Common.{Splits, at_snoc, set_again, Entries, Side, Edges, heads_on, Known, words_on, edge_on, OnTheWay, WereSeen, IsTableKept}
-use Rattle.head_table.proofs.Common.{claim_play, zero, suc, ◌<◌, [], ◌∷◌, length, ap, arith, ints, clamps, Bound, Low, High, IsHead, IsAsTight, tightest}
-use Rattle.head_table.proofs.Common.{tighter_of, true, Joins, set_else, IsSound, IsKnown, join_views, spent_view, tighter_head, ◌+◌, ◌*◌, some-injective}
-use Rattle.head_table.proofs.Common.{some-ne-none, opening, IsProblem, AreOnTheWay, same_on_the_way, same_seen, seen_itself, is_side, starting, Result, Ok, Err}
-use Rattle.head_table.proofs.Common.{IfOk, Final, Seen, AreNoLooser, way_on}
-use Rattle.head_table.proofs.WordReads.{counted_words}
-use Rattle.head_table.proofs.Seeing.{views_stay, KnownMe, Rule}
+use Rattle.head_table.proofs.Common.{◌≡◌, ℕ, List, get_or, set, ℤ, sym, refl, ◌∙◌, subst, ⊎_elim, length-set, none, some, get_elem?, step, keeps, Allows, Splits, at_snoc, set_again, Entries, Side}
+use Rattle.head_table.proofs.Common.{Edges, heads_on, Known, words_on, edge_on, OnTheWay, WereSeen, IsTableKept, claim_play, zero, suc, ◌<◌, [], ◌∷◌, length, ap, arith, ints, clamps, Bound, Low, High}
+use Rattle.head_table.proofs.Common.{IsHead, IsAsTight, tightest, tighter_of, true, Joins, set_else, IsSound, IsKnown, join_views, spent_view, tighter_head, ◌+◌, ◌*◌, some-injective, some-ne-none}
+use Rattle.head_table.proofs.Common.{opening, IsProblem, AreOnTheWay, same_on_the_way, same_seen, seen_itself, is_side, starting, Result, Ok, Err, IfOk, Final, Seen, AreNoLooser, way_on}
+use Rattle.head_table.proofs.{WordReads.counted_words, Seeing.views_stay, Seeing.KnownMe, Seeing.Rule}
 
 module _ (cells : List Entries) (edges : Edges) where
   -- a step on the counter

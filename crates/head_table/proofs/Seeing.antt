@@ -1,10 +1,9 @@
 -- A look at a word, and an exchange of a word for the tighter of itself and a relaxed head, keep the rule.
 -- What a seat has seen after either is sound, and it is a seat of the same table.
-use Rattle.head_table.proofs.Common.{◌≡◌, ℕ, ◌≢◌, List, get_or, set, true, sym, ap, ◌∙◌, subst, ⊎_elim, some, get_elem?, State, Me, keeps, stepped, at_set}
-use Rattle.head_table.proofs.Common.{Entries, Edges, Known, IsKnown, IsTableKept, ◌<◌, length, refl, arith, none, step, Allows, Side, IsHead, IsProblem}
-use Rattle.head_table.proofs.Common.{own_turn_keeps_seen, IsAsTight, other, heads_on, is_side, each_side, head_of_word, word_of, words_on, edge_on, WereSeen}
-use Rattle.head_table.proofs.Common.{IsNoTighterThanSettled, SeesHead, load_play, ℤ, length-set, turn_keeps, exchange_is_as_tight, still_seen, IsRelaxedOn}
-use Rattle.head_table.proofs.Common.{tighter_word, OnTheWay, exchange_play, IsSound, seen_length, seen_here, seen_else, other_seen, with_head, IsExchange}
+use Rattle.head_table.proofs.Common.{◌≡◌, ℕ, ◌≢◌, List, get_or, set, true, sym, ap, ◌∙◌, subst, ⊎_elim, some, get_elem?, State, Me, keeps, stepped, at_set, Entries, Edges, Known, IsKnown, IsTableKept}
+use Rattle.head_table.proofs.Common.{◌<◌, length, refl, arith, none, step, Allows, Side, IsHead, IsProblem, own_turn_keeps_seen, IsAsTight, other, heads_on, is_side, each_side, head_of_word, word_of}
+use Rattle.head_table.proofs.Common.{words_on, edge_on, WereSeen, IsNoTighterThanSettled, SeesHead, load_play, ℤ, length-set, turn_keeps, exchange_is_as_tight, still_seen, IsRelaxedOn, tighter_word}
+use Rattle.head_table.proofs.Common.{OnTheWay, exchange_play, IsSound, seen_length, seen_here, seen_else, other_seen, with_head, IsExchange}
 use lib.Seq.{set-get_or}
 use Rattle.head_table.proofs.WordReads.{at_word, word_within, word_here, word_else, other_words, tighter_old, tighter_new, tighter_one}
 

@@ -1,12 +1,11 @@
 -- What the words of a table, and bounds, read on each side after one of them is set.
-use Rattle.head_table.proofs.Common.{◌≡◌, ℕ, ◌+◌, ◌*◌, ◌<◌, ◌⊎◌, List, length, set, ap, arith, get_or-set_other, get_or-set_same, ints, clamps, Side, Low, High}
-use Rattle.head_table.proofs.Common.{IsAsTight, other, tighter_of, head_of_word, word_of, words_on, tighter_word, tighter_first, tighter_second, tighter_is_one}
-use Rattle.head_table.proofs.Common.{zero, suc, [], ◌∷◌, ◌++◌, get_or, sym, refl, ◌∙◌, subst, length-append, some, some-injective, some-ne-none, get_elem?}
-use Rattle.head_table.proofs.Common.{Bound, no_bound, head_of, heads_on, ℤ, Entries, AreNoLooser, each_side, seen_on, seen_of, SameOn, SameOnBut}
+use Rattle.head_table.proofs.Common.{◌≡◌, ℕ, ◌+◌, ◌*◌, ◌<◌, ◌⊎◌, List, length, set, ap, arith, get_or-set_other, get_or-set_same, ints, clamps, Side, Low, High, IsAsTight, other, tighter_of}
+use Rattle.head_table.proofs.Common.{head_of_word, word_of, words_on, tighter_word, tighter_first, tighter_second, tighter_is_one, zero, suc, [], ◌∷◌, ◌++◌, get_or, sym, refl, ◌∙◌, subst}
+use Rattle.head_table.proofs.Common.{length-append, some, some-injective, some-ne-none, get_elem?, Bound, no_bound, head_of, heads_on, ℤ, Entries, AreNoLooser, each_side, seen_on, seen_of, SameOn}
+use Rattle.head_table.proofs.Common.{SameOnBut}
 use mathlib.Core.Logic.{dite}
 use native.Mathlib.Decide.{ℕ_discrete}
-use Rattle.std.proofs.lemmas.List.{get_or_at}
-use Rattle.std.proofs.Math.ListN.{get_or-append}
+use Rattle.std.proofs.{lemmas.List.get_or_at, Math.ListN.get_or-append}
 use Rattle.head_table.specs.declared.table.HeadSeat.{HeadSeat}
 
 -- each word is of one cell and one side

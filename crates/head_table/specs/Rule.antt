@@ -4,14 +4,11 @@ use Rattle.std.specs.Int.{int_max, int_min}
 use mathlib.Core.Option.{some}
 use lib.ListN.{get_elem?}
 use Rattle.atomic_table.specs.Table.{State, Me, Step}
-use Rattle.step_problem.specs.declared.heads.Bound.{Bound}
-use Rattle.step_problem.specs.declared.heads.Side.{Side}
-use Rattle.step_problem.specs.Entries.{Entries}
-use Rattle.step_problem.specs.{IsHead, head_limit, Edges, AsTight, AreHeads, IsPast, IsSettled}
+use Rattle.step_problem.specs.{declared.heads.Bound.Bound, declared.heads.Side.Side, Entries.Entries, IsHead, head_limit, Edges, AsTight, AreHeads, IsPast}
+use Rattle.step_problem.specs.{IsSettled, declared.heads.Side.TheVariants.Low, declared.heads.Side.TheVariants.High}
 use Rattle.cell_relax.specs.{heads_on, IsAsTight, Moves, other}
 use Rattle.head_table.specs.declared.known.Known.{Known}
 use Rattle.relax_core.specs.{edge_on, OnTheWay, WereSeen}
-use Rattle.step_problem.specs.declared.heads.Side.TheVariants.{Low, High}
 
 -- How heads are kept in the words of a table: word 0 is the counter of claims, word 2 c + 1 has the lower head of
 -- cell c, and word 2 c + 2 its upper head. A head h is kept as h + head_limit.

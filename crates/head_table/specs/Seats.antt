@@ -1,12 +1,8 @@
 -- The words of contracts on a table and its seats.
 use Rattle.std.specs.Prelude.{◌≡◌, ℕ, ◌<◌, List, length, ℤ}
-use Rattle.step_problem.specs.declared.heads.Bound.{Bound}
-use Rattle.step_problem.specs.declared.heads.Side.{Side}
-use Rattle.step_problem.specs.Entries.{Entries}
-use Rattle.step_problem.specs.{Edges}
+use Rattle.step_problem.specs.{declared.heads.Bound.Bound, declared.heads.Side.Side, Entries.Entries, Edges}
 use Rattle.cell_relax.specs.{tighter_of, heads_on}
-use Rattle.head_table.specs.declared.table.HeadTable.{HeadTable}
-use Rattle.head_table.specs.declared.table.HeadSeat.{HeadSeat}
+use Rattle.head_table.specs.{declared.table.HeadTable.HeadTable, declared.table.HeadSeat.HeadSeat}
 
 -- the barrier with which the table was made
 abbrev pub barrier_of : HeadTable → Edges

@@ -1,19 +1,16 @@
 -- Entries whose numbers passed the tests of their columns are in limits.
-use Rattle.list_package.proofs.Common.{◌≡◌, ℕ, ◌<◌, Bool, true, false, List, [], ◌∷◌, length, All, Option, Some, None, refl, sym, subst, arith, All-weaker}
-use Rattle.list_package.proofs.Common.{if◌then◌else◌, All-head, All-tail, IsDec, HeadTooLarge, column_fault, first_fault, or_later, IsHeadNumber, IsNotNegative}
-use Rattle.list_package.proofs.Common.{IsEntryList, IsEntryValid, IsGivenList, IsGivenValid, IsEntry, IsListOf, given_heads, kind_of, AllZip, Dec, Code}
-use Rattle.list_package.proofs.Common.{columns_of, entry_with, CellId, Limits, Period, gives_only_less, ListsKeepLimits, entries_in, with_entries, cell_count}
+use Rattle.list_package.proofs.Common.{◌≡◌, ℕ, ◌<◌, Bool, true, false, List, [], ◌∷◌, length, All, Option, Some, None, refl, sym, subst, arith, All-weaker, if◌then◌else◌, All-head, All-tail, IsDec}
+use Rattle.list_package.proofs.Common.{HeadTooLarge, column_fault, first_fault, or_later, IsHeadNumber, IsNotNegative, IsEntryList, IsEntryValid, IsGivenList, IsGivenValid, IsEntry, IsListOf}
+use Rattle.list_package.proofs.Common.{given_heads, kind_of, AllZip, Dec, Code, columns_of, entry_with, CellId, Limits, Period, gives_only_less, ListsKeepLimits, entries_in, with_entries, cell_count}
 use Rattle.number_limits.specs.{is_head}
 use Rattle.number_limits.proofs.HeadLemmas.{head_of}
-use Rattle.list_package.specs.declared.columns.Column.{Column}
-use Rattle.list_package.specs.declared.columns.Column.TheVariants.{Rate, Head, Conductance}
-use Rattle.list_package.specs.declared.entries.ListKind.{ListKind}
-use Rattle.list_package.specs.declared.entries.ListKind.TheVariants.{Wells, Rivers, Drains, Generals}
+use Rattle.list_package.specs.{declared.columns.Column.Column, declared.columns.Column.TheVariants.Rate, declared.columns.Column.TheVariants.Head, declared.columns.Column.TheVariants.Conductance}
+use Rattle.list_package.specs.{declared.entries.ListKind.ListKind, declared.entries.ListKind.TheVariants.Wells, declared.entries.ListKind.TheVariants.Rivers}
+use Rattle.list_package.specs.{declared.entries.ListKind.TheVariants.Drains, declared.entries.ListKind.TheVariants.Generals}
 use Rattle.model_types.proofs.WideLimits.{entries_few}
-use Rattle.model_types.specs.declared.entry.Entry.{Entry}
+use Rattle.model_types.specs.{declared.entry.Entry.Entry, declared.period.Stresses.Stresses}
 use Rattle.model_types.specs.declared.entry.Given.{Given}
 use Rattle.list_package.proofs.ListForms.{lists_are}
-use Rattle.model_types.specs.declared.period.Stresses.{Stresses}
 
 -- a number in canonical form that passed the test of its column
 abbrev IsColumn : Column → Dec → Type 0

@@ -1,12 +1,9 @@
 -- What is read of the entries of a list.
-use Rattle.list_package.proofs.Common.{integer, number, number_at, ok_gives_only, goes_on, if_clear, err_gives_only, repeated_are, repeated_gives, then_}
-use Rattle.list_package.proofs.Common.{gives_only_less, GivesOnly, IsDec, Dec, Differ, IsEntry, Kind, cell_at, entry_at, entry_of, first_fault, is_left_out}
-use Rattle.list_package.proofs.Common.{new_list, no_marks, test_result, HasSize, cell_count, most_entries, CellId, Grid, Limits, refusal, words, Code}
-use Rattle.list_package.proofs.Common.{CellOutside, Left, line_at, All, Bool, List, None, Option, Some, [], ap, arith, cond, false, get_or, length, refl, set}
-use Rattle.list_package.proofs.Common.{suc, sym, true, ℕ, ℤ, ◌-◌, ◌<◌, ◌∙◌, ◌∷◌, ◌≡◌, ◌≤◌, All-cons, All-nil, AllPairs, get_or-set_other, get_or-set_same}
-use Rattle.list_package.proofs.Common.{length-replicate, length-set}
-use Rattle.array_text.proofs.ArrayForms.{item_is}
-use Rattle.array_text.proofs.NumberForms.{number_is}
+use Rattle.list_package.proofs.Common.{integer, number, number_at, ok_gives_only, goes_on, if_clear, err_gives_only, repeated_are, repeated_gives, then_, gives_only_less, GivesOnly, IsDec, Dec}
+use Rattle.list_package.proofs.Common.{Differ, IsEntry, Kind, cell_at, entry_at, entry_of, first_fault, is_left_out, new_list, no_marks, test_result, HasSize, cell_count, most_entries, CellId, Grid}
+use Rattle.list_package.proofs.Common.{Limits, refusal, words, Code, CellOutside, Left, line_at, All, Bool, List, None, Option, Some, [], ap, arith, cond, false, get_or, length, refl, set, suc, sym}
+use Rattle.list_package.proofs.Common.{true, ℕ, ℤ, ◌-◌, ◌<◌, ◌∙◌, ◌∷◌, ◌≡◌, ◌≤◌, All-cons, All-nil, AllPairs, get_or-set_other, get_or-set_same, length-replicate, length-set}
+use Rattle.array_text.proofs.{ArrayForms.item_is, NumberForms.number_is}
 use Rattle.std.proofs.lemmas.List.Kept.{AllPairs-cons}
 use Rattle.model_types.proofs.Numbering.{cell_within}
 use Rattle.dis_package.proofs.FrameForms.{within_is}

@@ -1,9 +1,7 @@
 -- A value is read for each element of a list, and takes its place.
-use Rattle.list_package.proofs.Common.{◌≡◌, ℕ, ◌+◌, ◌<◌, ◌≤◌, List, ◌∷◌, Ok, Result, length, refl, get_or, take, drop, add-one, arith, set, each_done}
-use Rattle.list_package.proofs.Common.{each_goes_on, ends_all, for_each, with_front, stops_all, Stops, StopsText, Refusal, drop-set-lt, drop_all, take_all}
-use Rattle.list_package.proofs.Common.{take_more_set}
-use Rattle.outside.specs.declared.inputs.InputFault.{InputFault}
-use Rattle.outside.specs.declared.inputs.TextFault.{TextFault}
+use Rattle.list_package.proofs.Common.{◌≡◌, ℕ, ◌+◌, ◌<◌, ◌≤◌, List, ◌∷◌, Ok, Result, length, refl, get_or, take, drop, add-one, arith, set, each_done, each_goes_on, ends_all, for_each, with_front}
+use Rattle.list_package.proofs.Common.{stops_all, Stops, StopsText, Refusal, drop-set-lt, drop_all, take_all, take_more_set}
+use Rattle.outside.specs.{declared.inputs.InputFault.InputFault, declared.inputs.TextFault.TextFault}
 use Rattle.std.proofs.Math.Seq.{drop-cons}
 
 module _ {X S : Type 0} (read : X → S → Result (X × S) Refusal) (xs : List X) (i : ℕ) (s : S) (total : Result (List X × S) Refusal)

@@ -1,11 +1,9 @@
 -- What a file of a list package gives.
-use Rattle.list_package.proofs.Common.{integer, number_at, ok_gives_only, goes_on, if_clear, if_passed, then_, GivesOnly, Dec, IsListOf, Kind, count_of}
-use Rattle.list_package.proofs.Common.{has_parameters, header_of, is_reused, item_line, list_at, list_of, lists_of, period_at, periods_of, with_list, HasSize}
-use Rattle.list_package.proofs.Common.{cell_count, most_entries, CellId, Grid, Limits, Period, refusal, words, TooManyEntries, Left, for_each, left_from}
-use Rattle.list_package.proofs.Common.{line_at, without_comments, All, Bool, IfSome, List, None, Option, Some, is_some, map, nat_le, negsuc, not, pos, refl, ℕ}
-use Rattle.list_package.proofs.Common.{ℤ, ◌&&◌, ◌≡◌, ◌≤◌, [], ◌∷◌, Result, All-cons, All-head, All-nil, All-tail, Refusal}
-use Rattle.list_package.specs.declared.header.Count.{Count}
-use Rattle.list_package.specs.declared.header.Count.TheVariants.{Entries, Again}
+use Rattle.list_package.proofs.Common.{integer, number_at, ok_gives_only, goes_on, if_clear, if_passed, then_, GivesOnly, Dec, IsListOf, Kind, count_of, has_parameters, header_of, is_reused}
+use Rattle.list_package.proofs.Common.{item_line, list_at, list_of, lists_of, period_at, periods_of, with_list, HasSize, cell_count, most_entries, CellId, Grid, Limits, Period, refusal, words}
+use Rattle.list_package.proofs.Common.{TooManyEntries, Left, for_each, left_from, line_at, without_comments, All, Bool, IfSome, List, None, Option, Some, is_some, map, nat_le, negsuc, not, pos, refl}
+use Rattle.list_package.proofs.Common.{ℕ, ℤ, ◌&&◌, ◌≡◌, ◌≤◌, [], ◌∷◌, Result, All-cons, All-head, All-nil, All-tail, Refusal}
+use Rattle.list_package.specs.{declared.header.Count.Count, declared.header.Count.TheVariants.Entries, declared.header.Count.TheVariants.Again}
 use Rattle.std.proofs.lemmas.Bool.{leb-true}
 use Rattle.list_package.proofs.EntryForms.{IsNewList, no_list, new_list_is}
 

@@ -1,27 +1,18 @@
 -- An entry of a list: Layer Row Column, and the numbers of its package (TM 6-A16, WEL, RIV, DRN, GHB, CHD).
 use Rattle.std.specs.Prelude.{ℕ, ◌-◌, ℤ, Bool, true, false, ◌||◌, List, length, Option, Some, None, Result, Ok, Err, if◌then◌else◌, cond, codes, replicate}
 use Rattle.std.specs.Prelude.{slice_index_or, slice_set, not, ◌&&◌, nat_lt, [], ◌∷◌, is_some}
-use Rattle.outside.specs.{refusal, words}
-use Rattle.outside.specs.declared.codes.Code.{Code}
-use Rattle.outside.specs.declared.codes.Code.TheVariants.{OutOfProfile, CellOutside, BadProperty}
-use Rattle.outside.specs.declared.inputs.Refusal.{Refusal}
+use Rattle.outside.specs.{refusal, words, declared.codes.Code.Code, declared.codes.Code.TheVariants.OutOfProfile, declared.codes.Code.TheVariants.CellOutside}
+use Rattle.outside.specs.{declared.codes.Code.TheVariants.BadProperty, declared.inputs.Refusal.Refusal}
 use Rattle.record_lines.specs.{begins_with, line_at, Left, ◌>>=◌, repeated_reading, left_from, without_comments, for_each}
 use Rattle.array_reader.specs.{number_at, integer, number}
-use Rattle.model_types.specs.declared.grid.Grid.{Grid}
-use Rattle.model_types.specs.declared.grid.CellId.{CellId}
-use Rattle.model_types.specs.{cell_count, cell_number, dec_at}
+use Rattle.model_types.specs.{declared.grid.Grid.Grid, declared.grid.CellId.CellId, cell_count, cell_number, dec_at, declared.period.Period.Period}
+use Rattle.model_types.specs.{declared.limits.Limits.Limits, declared.model.FlowModel.FlowModel}
 use Rattle.number_limits.specs.{within, is_one, is_same_number}
 use Rattle.dis_package.specs.{inside}
-use Rattle.list_package.specs.Kinds.{Kind, first_fault, with_list}
+use Rattle.list_package.specs.{Kinds.Kind, Kinds.first_fault, Kinds.with_list, declared.columns.Column.TheVariants.Head, Headers.header_of, Headers.item_line}
+use Rattle.list_package.specs.{declared.header.Count.Count, declared.header.Count.TheVariants.Entries, declared.header.Count.TheVariants.Again}
 use Rattle.std.specs.List.{list_all}
 use Rattle.model_types.specs.declared.entry.Given.{Given}
-use Rattle.model_types.specs.declared.period.Period.{Period}
-use Rattle.list_package.specs.declared.columns.Column.TheVariants.{Head}
-use Rattle.model_types.specs.declared.limits.Limits.{Limits}
-use Rattle.model_types.specs.declared.model.FlowModel.{FlowModel}
-use Rattle.list_package.specs.Headers.{header_of, item_line}
-use Rattle.list_package.specs.declared.header.Count.{Count}
-use Rattle.list_package.specs.declared.header.Count.TheVariants.{Entries, Again}
 
 -- the cell in a layer, a row and a column, counted from 1, which must be in the grid
 unfoldable pub cell_at : List ℕ → ℕ → Grid → ℤ → ℤ → ℤ → Result CellId Refusal

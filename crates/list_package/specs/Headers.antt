@@ -2,15 +2,12 @@
 use Rattle.std.specs.Prelude.{ℕ, ℤ, pos, negsuc, Bool, true, false, not, ◌&&◌, List, [], ◌∷◌, nat_le, nat_lt, Option, Some, None, Result, Ok, Err}
 use Rattle.std.specs.Prelude.{if◌then◌else◌, codes}
 use Rattle.decimal_input.specs.{integer_of}
-use Rattle.outside.specs.{refusal, words}
-use Rattle.outside.specs.declared.codes.Code.TheVariants.{OutOfProfile, TooManyEntries, NothingToReuse}
-use Rattle.outside.specs.declared.inputs.Refusal.{Refusal}
+use Rattle.outside.specs.{refusal, words, declared.codes.Code.TheVariants.OutOfProfile, declared.codes.Code.TheVariants.TooManyEntries}
+use Rattle.outside.specs.{declared.codes.Code.TheVariants.NothingToReuse, declared.inputs.Refusal.Refusal}
 use Rattle.record_lines.specs.{begins_with, line_at, Numbered, Left, ◌>>=◌}
 use Rattle.array_reader.specs.{number_at, integer}
-use Rattle.model_types.specs.declared.limits.Limits.{Limits}
-use Rattle.model_types.specs.{most_entries}
-use Rattle.list_package.specs.declared.header.Count.{Count}
-use Rattle.list_package.specs.declared.header.Count.TheVariants.{Entries, Again}
+use Rattle.model_types.specs.{declared.limits.Limits.Limits, most_entries}
+use Rattle.list_package.specs.{declared.header.Count.Count, declared.header.Count.TheVariants.Entries, declared.header.Count.TheVariants.Again}
 
 -- the first line of a file of stresses after its comments, which must not define parameters
 unfoldable pub item_line : List ℕ → Left → Result (Numbered × Left) Refusal

@@ -1,17 +1,11 @@
 -- The trait of a list package: the numbers of its entries, and where its lists go.
 use Rattle.std.specs.Prelude.{ℕ, Bool, List, [], ◌∷◌, Option, Some, None, if◌then◌else◌, true, false, ◌≡◌, ◌<◌, ◌≤◌, All, length}
 use Rattle.std.specs.List.{AllPairs}
-use Rattle.decimal_input.specs.{IsDec}
-use Rattle.decimal_input.specs.declared.dec.Dec.{Dec}
-use Rattle.outside.specs.declared.codes.Code.{Code}
-use Rattle.outside.specs.declared.codes.Code.TheVariants.{HeadTooLarge, BadProperty}
-use Rattle.model_types.specs.declared.entry.Entry.{Entry}
-use Rattle.model_types.specs.declared.entry.Entry.TheVariants.{Well, River, Drain, General}
-use Rattle.model_types.specs.declared.grid.CellId.{CellId}
-use Rattle.model_types.specs.declared.limits.Limits.{Limits}
-use Rattle.model_types.specs.declared.period.Period.{Period}
-use Rattle.model_types.specs.declared.period.Stresses.{Stresses}
-use Rattle.model_types.specs.{dec_at, cell_of, most_entries}
+use Rattle.decimal_input.specs.{IsDec, declared.dec.Dec.Dec}
+use Rattle.outside.specs.{declared.codes.Code.Code, declared.codes.Code.TheVariants.HeadTooLarge, declared.codes.Code.TheVariants.BadProperty}
+use Rattle.model_types.specs.{declared.entry.Entry.Entry, declared.entry.Entry.TheVariants.Well, declared.entry.Entry.TheVariants.River}
+use Rattle.model_types.specs.{declared.entry.Entry.TheVariants.Drain, declared.entry.Entry.TheVariants.General, declared.grid.CellId.CellId}
+use Rattle.model_types.specs.{declared.limits.Limits.Limits, declared.period.Period.Period, declared.period.Stresses.Stresses, dec_at, cell_of, most_entries}
 use Rattle.number_limits.specs.{is_head}
 use Rattle.list_package.specs.declared.columns.Column.{Column}
 use Rattle.list_package.specs.declared.columns.Column.TheVariants.{Rate, Head, Conductance}

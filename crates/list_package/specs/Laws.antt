@@ -1,13 +1,9 @@
 -- Statements of laws: what a file of lists gives is in limits.
 use Rattle.std.specs.Prelude.{ℕ, List, All}
 use Rattle.record_lines.specs.{GivesOnly}
-use Rattle.model_types.specs.{HasSize, IsEntryList, IsGivenList, cell_count}
-use Rattle.model_types.specs.declared.grid.Grid.{Grid}
-use Rattle.model_types.specs.declared.limits.Limits.{Limits}
-use Rattle.model_types.specs.declared.period.Period.{Period}
-use Rattle.list_package.specs.declared.entries.ListKind.{ListKind}
-use Rattle.list_package.specs.Entries.{given_heads, lists_of}
-use Rattle.list_package.specs.Kinds.{entries_in, kind_of}
+use Rattle.model_types.specs.{HasSize, IsEntryList, IsGivenList, cell_count, declared.grid.Grid.Grid, declared.limits.Limits.Limits}
+use Rattle.model_types.specs.{declared.period.Period.Period}
+use Rattle.list_package.specs.{declared.entries.ListKind.ListKind, Entries.given_heads, Entries.lists_of, Kinds.entries_in, Kinds.kind_of}
 
 -- WEL, RIV, DRN, GHB and CHD: the list of each stress period
 pub record ListsKeepLimits : Type 0 where

@@ -1,14 +1,11 @@
 -- Reading a line gives the numbers of which just this line is written.
-use Rattle.listing_io.proofs.Common.{◌≡◌, ℕ, ◌<◌, ◌≤◌, ◌^◌, Bool, true, false, ◌&&◌, List, [], ◌++◌, length, drop, codes, nat_abs, nat_le, refl, sym, ap, ◌∙◌}
-use Rattle.listing_io.proofs.Common.{arith, Some, zero, suc, ◌+◌, ◌-◌, ◌/◌, ◌%◌, ◌==◌, ◌∷◌, take, replicate, decimal, add-one, ℤ, pos, negsuc, not, drop_at}
-use Rattle.listing_io.proofs.Common.{append-nil, take_at, bytes_eq, bytes_eq-Decides, fixed_text, padded_digits, sign, TermPair, digits_behind, value_of, Form}
-use Rattle.listing_io.proofs.Common.{pair_line, is_within, first_word, after_word, candidate, pair_in, IsPairLine, IsForm, LinesReadExactly, nat_tests, ◌⊎◌}
-use Rattle.listing_io.proofs.Common.{inl, inr, IsWritable, FlowModel, digits_line, numbers_text, AllByRecursion, decimal_is_IsNumeral_wide, position_or_len}
-use Rattle.listing_io.proofs.Common.{list_all, AllDigits, ten_pos}
+use Rattle.listing_io.proofs.Common.{◌≡◌, ℕ, ◌<◌, ◌≤◌, ◌^◌, Bool, true, false, ◌&&◌, List, [], ◌++◌, length, drop, codes, nat_abs, nat_le, refl, sym, ap, ◌∙◌, arith, Some, zero, suc, ◌+◌, ◌-◌, ◌/◌}
+use Rattle.listing_io.proofs.Common.{◌%◌, ◌==◌, ◌∷◌, take, replicate, decimal, add-one, ℤ, pos, negsuc, not, drop_at, append-nil, take_at, bytes_eq, bytes_eq-Decides, fixed_text, padded_digits, sign}
+use Rattle.listing_io.proofs.Common.{TermPair, digits_behind, value_of, Form, pair_line, is_within, first_word, after_word, candidate, pair_in, IsPairLine, IsForm, LinesReadExactly, nat_tests, ◌⊎◌}
+use Rattle.listing_io.proofs.Common.{inl, inr, IsWritable, FlowModel, digits_line, numbers_text, AllByRecursion, decimal_is_IsNumeral_wide, position_or_len, list_all, AllDigits, ten_pos}
 use Rattle.std.specs.Fmt.{signed_decimal}
-use Rattle.std.proofs.lemmas.Bool.{and_parts, leb-true, le-leb, and_from}
+use Rattle.std.proofs.{lemmas.Bool.and_parts, lemmas.Bool.leb-true, lemmas.Bool.le-leb, lemmas.Bool.and_from, lemmas.Option.cond_some}
 use Rattle.listing_io.proofs.NumberLemmas.{is_digit, value_is, part_less, quotient_less}
-use Rattle.std.proofs.lemmas.Option.{cond_some}
 
 -- A number has no blank, so the first blank after one ends it.
 -- no byte is b

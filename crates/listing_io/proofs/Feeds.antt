@@ -1,18 +1,15 @@
 -- No line of a listing has a line feed, so the lines of its text are the listing's.
-use Rattle.listing_io.proofs.Common.{◌≡◌, ℕ, zero, suc, ◌+◌, ◌/◌, ◌%◌, ◌<◌, ◌≤◌, ◌^◌, Bool, true, false, cond, List, [], ◌∷◌, ◌++◌, codes, map, nat_abs, All}
-use Rattle.listing_io.proofs.Common.{refl, sym, ap, ◌∙◌, subst, arith, AllByRecursion, AllZip, recursion_from_All, flat_map-cons, lines, Bound, Dir, In, Out}
-use Rattle.listing_io.proofs.Common.{Term, Storage, ZoneFlow, term_name, TermPair, fixed_text, FlowModel, TimeStep, place, is_active, times, ZonePair}
-use Rattle.listing_io.proofs.Common.{zones_of_flow, ListedStep, Form, pair_line, Line, ended_line, text_of, numbers_text, step_line, head_form, CellWord, Head}
-use Rattle.listing_io.proofs.Common.{cell_front, cell_line, cell_word, head_lines, head_pair, dir_front, term_form, term_lines, has_evt, flow_form, zone_front}
-use Rattle.listing_io.proofs.Common.{zone_line, zone_pair, step_lines, all_step_lines, end_line, listing, range_with_len, cell_count, IsForm, IsCellBound}
-use Rattle.listing_io.proofs.Common.{AreFlows, AreTerms, IsListedStep, AreListed, AreZonePairs, IsTime, IsWritable, ListingsAreReadAgain, inl, IsListedAt}
-use Rattle.listing_io.proofs.Common.{IsPairIf, digits_line, titled_line, all_terms, is_printed, each_lines, most_cells}
-use Rattle.model_types.specs.declared.grid.Grid.{Grid}
+use Rattle.listing_io.proofs.Common.{◌≡◌, ℕ, zero, suc, ◌+◌, ◌/◌, ◌%◌, ◌<◌, ◌≤◌, ◌^◌, Bool, true, false, cond, List, [], ◌∷◌, ◌++◌, codes, map, nat_abs, All, refl, sym, ap, ◌∙◌, subst, arith}
+use Rattle.listing_io.proofs.Common.{AllByRecursion, AllZip, recursion_from_All, flat_map-cons, lines, Bound, Dir, In, Out, Term, Storage, ZoneFlow, term_name, TermPair, fixed_text, FlowModel}
+use Rattle.listing_io.proofs.Common.{TimeStep, place, is_active, times, ZonePair, zones_of_flow, ListedStep, Form, pair_line, Line, ended_line, text_of, numbers_text, step_line, head_form, CellWord}
+use Rattle.listing_io.proofs.Common.{Head, cell_front, cell_line, cell_word, head_lines, head_pair, dir_front, term_form, term_lines, has_evt, flow_form, zone_front, zone_line, zone_pair, step_lines}
+use Rattle.listing_io.proofs.Common.{all_step_lines, end_line, listing, range_with_len, cell_count, IsForm, IsCellBound, AreFlows, AreTerms, IsListedStep, AreListed, AreZonePairs, IsTime, IsWritable}
+use Rattle.listing_io.proofs.Common.{ListingsAreReadAgain, inl, IsListedAt, IsPairIf, digits_line, titled_line, all_terms, is_printed, each_lines, most_cells}
+use Rattle.model_types.specs.{declared.grid.Grid.Grid, declared.limits.Limits.TheVariants.Wide}
 use Rattle.listing_io.proofs.Exactly.{IsApart, Without, Without-append, by_test, title_without, fixed_without, fits_wide, numbers_without}
 use Rattle.listing_io.proofs.Terms.{left_of, term_rows, IsTermPair, lines_in, lines_out, cell_lines}
 use Rattle.listing_io.proofs.Readers.{IsFlowOf, IsInLimit, flow_is_form, flow_rows, head_is_form, head_small, in_limit, term_is_form}
 use Rattle.listing_io.proofs.Steps.{IsSmall, bounds_of, flow_lines, flows_of, rows_again}
-use Rattle.model_types.specs.declared.limits.Limits.TheVariants.{Wide}
 
 abbrev pub NoFeed : List ℕ → Type 0
 NoFeed = Without 10

@@ -1,8 +1,7 @@
 -- The digits of a text with a point write its number.
-use Rattle.listing_io.proofs.Common.{◌≡◌, ℕ, zero, suc, ◌+◌, ◌-◌, ◌*◌, ◌/◌, ◌%◌, ◌^◌, ◌<◌, ◌≤◌, true, false, List, [], ◌∷◌, ◌++◌, length, replicate, get_or}
-use Rattle.listing_io.proofs.Common.{drop, drop-cons, codes, decimal, nat_abs, nat_le, refl, sym, ap, ◌∙◌, arith, ℤ, pos, negsuc, add-one, pow-suc, nat_tests}
-use Rattle.listing_io.proofs.Common.{decimal_is_IsNumeral_wide, length-decimal-le_wide, append_assoc, drop_all, AllDigits, digits_value_after, fixed_text}
-use Rattle.listing_io.proofs.Common.{padded_digits, with_byte, digits_behind, is_negative, value_of, ten_pos}
+use Rattle.listing_io.proofs.Common.{◌≡◌, ℕ, zero, suc, ◌+◌, ◌-◌, ◌*◌, ◌/◌, ◌%◌, ◌^◌, ◌<◌, ◌≤◌, true, false, List, [], ◌∷◌, ◌++◌, length, replicate, get_or, drop, drop-cons, codes, decimal, nat_abs}
+use Rattle.listing_io.proofs.Common.{nat_le, refl, sym, ap, ◌∙◌, arith, ℤ, pos, negsuc, add-one, pow-suc, nat_tests, decimal_is_IsNumeral_wide, length-decimal-le_wide, append_assoc, drop_all}
+use Rattle.listing_io.proofs.Common.{AllDigits, digits_value_after, fixed_text, padded_digits, with_byte, digits_behind, is_negative, value_of, ten_pos}
 use Rattle.std.specs.Char.{digit_value}
 use Rattle.std.proofs.lemmas.Nat.{pow-add, mod_below}
 

@@ -1,6 +1,6 @@
 -- The times of a model are steps of its stress periods.
-use Rattle.listing_io.proofs.Common.{ℕ, zero, suc, ◌+◌, ◌≤◌, All, List, [], ◌∷◌, ◌++◌, length, map, arith, AllByRecursion, flat_map, range_with_len}
-use Rattle.listing_io.proofs.Common.{All-from_recursion, FlowModel, TimeStep, period_at, steps_of, times}
+use Rattle.listing_io.proofs.Common.{ℕ, zero, suc, ◌+◌, ◌≤◌, All, List, [], ◌∷◌, ◌++◌, length, map, arith, AllByRecursion, flat_map, range_with_len, All-from_recursion, FlowModel, TimeStep, period_at}
+use Rattle.listing_io.proofs.Common.{steps_of, times}
 
 module _ (m : FlowModel) where
   abbrev IsWithin : TimeStep → Type 0

@@ -1,11 +1,10 @@
 -- The parts of a step are read as they are written: the line of two numbers, the heads of the cells, the terms, and the flows between zones.
-use Rattle.listing_io.proofs.Common.{◌≡◌, ℕ, ◌≤◌, Bool, true, false, cond, List, [], ◌∷◌, ◌++◌, codes, nat_abs, refl, sym, ap, ◌∙◌, subst, arith, ℤ, pos}
-use Rattle.listing_io.proofs.Common.{negsuc, Option, Some, None, Ok, Err, AllZip, bytes_eq, bytes_eq-Decides, next_number, for_each, Bound, Dir, Term, Storage}
-use Rattle.listing_io.proofs.Common.{ZoneFlow, no_bound, term_name, TermPair, no_pair, FlowModel, cell_count, is_active, ZonePair, zones_of_flow, digits_behind}
-use Rattle.listing_io.proofs.Common.{Form, IsForm, pair_if, pair_in, pair_line, Line, cell_front, cell_line, head_form, head_front, head_lines, head_pair}
-use Rattle.listing_io.proofs.Common.{dir_front, term_form, flow_form, zone_front, zone_line, zone_pair, Left, line_at, first_of, or_refused, pair_at, text_at}
-use Rattle.listing_io.proofs.Common.{bound_of, head_if, heads_at, term_if, terms_at, flow_of, flow_at, IsCellBound, IsFlowPair, all_terms, is_printed}
-use Rattle.listing_io.proofs.Common.{each_lines, range_with_len, IsHead, head_limit, HasDigits, form_of, IsPairIf, CellWord, Head}
+use Rattle.listing_io.proofs.Common.{◌≡◌, ℕ, ◌≤◌, Bool, true, false, cond, List, [], ◌∷◌, ◌++◌, codes, nat_abs, refl, sym, ap, ◌∙◌, subst, arith, ℤ, pos, negsuc, Option, Some, None, Ok, Err, AllZip}
+use Rattle.listing_io.proofs.Common.{bytes_eq, bytes_eq-Decides, next_number, for_each, Bound, Dir, Term, Storage, ZoneFlow, no_bound, term_name, TermPair, no_pair, FlowModel, cell_count, is_active}
+use Rattle.listing_io.proofs.Common.{ZonePair, zones_of_flow, digits_behind, Form, IsForm, pair_if, pair_in, pair_line, Line, cell_front, cell_line, head_form, head_front, head_lines, head_pair}
+use Rattle.listing_io.proofs.Common.{dir_front, term_form, flow_form, zone_front, zone_line, zone_pair, Left, line_at, first_of, or_refused, pair_at, text_at, bound_of, head_if, heads_at, term_if}
+use Rattle.listing_io.proofs.Common.{terms_at, flow_of, flow_at, IsCellBound, IsFlowPair, all_terms, is_printed, each_lines, range_with_len, IsHead, head_limit, HasDigits, form_of, IsPairIf, CellWord}
+use Rattle.listing_io.proofs.Common.{Head}
 use Rattle.std.proofs.lemmas.Int.{ints}
 use Rattle.listing_io.specs.declared.pair_lines.Row.{Row}
 use Rattle.listing_io.proofs.Exactly.{line_sound, line_whole}

@@ -1,8 +1,7 @@
 -- The parts of a listing, read in turn.
-use Rattle.listing_io.proofs.Common.{◌≡◌, ℕ, [], ◌∷◌, List, Result, Ok, Err, refl, ap, ◌∙◌, subst, FlowModel, TimeStep, times, Fault, BadLine, Memory, Line}
-use Rattle.listing_io.proofs.Common.{end_line, Left, Stops, none_of, over_at, text_at, ◌>>=◌}
-use Rattle.listing_io.proofs.Terms.{ok_is_not_err, bind_goes_through, same_ok}
-use Rattle.listing_io.proofs.Readers.{text_row}
+use Rattle.listing_io.proofs.Common.{◌≡◌, ℕ, [], ◌∷◌, List, Result, Ok, Err, refl, ap, ◌∙◌, subst, FlowModel, TimeStep, times, Fault, BadLine, Memory, Line, end_line, Left, Stops, none_of, over_at}
+use Rattle.listing_io.proofs.Common.{text_at, ◌>>=◌}
+use Rattle.listing_io.proofs.{Terms.ok_is_not_err, Terms.bind_goes_through, Terms.same_ok, Readers.text_row}
 
 -- a whole listing: its first line, its steps, the line END and no others
 abbrev pub whole_at : {X : Type 0} → Result Left ℕ → (Left → Result (List X × Left) ℕ) → Result (List X) ℕ

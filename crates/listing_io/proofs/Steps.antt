@@ -1,15 +1,12 @@
 -- The steps of a listing, and a whole listing, are read as they are written.
-use Rattle.listing_io.proofs.Common.{◌≡◌, ◌⊎◌, inl, inr, ℕ, ◌+◌, ◌≤◌, Bool, true, false, ◌||◌, List, [], ◌∷◌, ◌++◌, length, map, refl, sym, ap, ◌∙◌, subst, Ok}
-use Rattle.listing_io.proofs.Common.{bytes_eq, AllZip, AllByRecursion, append_assoc, recursion_from_All, bytes_eq-Decides, lines, next_number, for_each, In}
-use Rattle.listing_io.proofs.Common.{Out, ZoneFlow, FlowModel, TimeStep, cell_count, times, ZonePair, zones_of_flow, ListedStep, Line, first_line, step_line}
-use Rattle.listing_io.proofs.Common.{head_lines, term_lines, has_evt, zone_line, zone_pair, step_lines, all_step_lines, end_line, listing, Left, all_lines}
-use Rattle.listing_io.proofs.Common.{line_at, text_at, heads_at, terms_at, flow_at, step_with, step_at, first_line_before, first_at, none_of, over_at}
-use Rattle.listing_io.proofs.Common.{listing_at, IsListing, ListingsWereWritten, is_first, Budget, each_lines, IsCellBound, IsFlowPair, AreFlows, IsListedAt}
-use Rattle.listing_io.proofs.Common.{IsListedStep, AreListed, range_with_len, AllZip-length, AllZip-right}
+use Rattle.listing_io.proofs.Common.{◌≡◌, ◌⊎◌, inl, inr, ℕ, ◌+◌, ◌≤◌, Bool, true, false, ◌||◌, List, [], ◌∷◌, ◌++◌, length, map, refl, sym, ap, ◌∙◌, subst, Ok, bytes_eq, AllZip, AllByRecursion}
+use Rattle.listing_io.proofs.Common.{append_assoc, recursion_from_All, bytes_eq-Decides, lines, next_number, for_each, In, Out, ZoneFlow, FlowModel, TimeStep, cell_count, times, ZonePair}
+use Rattle.listing_io.proofs.Common.{zones_of_flow, ListedStep, Line, first_line, step_line, head_lines, term_lines, has_evt, zone_line, zone_pair, step_lines, all_step_lines, end_line, listing, Left}
+use Rattle.listing_io.proofs.Common.{all_lines, line_at, text_at, heads_at, terms_at, flow_at, step_with, step_at, first_line_before, first_at, listing_at, IsListing, ListingsWereWritten, is_first}
+use Rattle.listing_io.proofs.Common.{Budget, each_lines, IsCellBound, IsFlowPair, AreFlows, IsListedAt, IsListedStep, AreListed, range_with_len, AllZip-length, AllZip-right}
 use Rattle.std.proofs.lemmas.List.FromFn.{length-range_with_len}
-use Rattle.listing_io.proofs.Terms.{IsReader, all_read, ok_is_not_err, bind_goes_through, same_ok, left_of, lines_in, lines_out}
-use Rattle.listing_io.proofs.Rows.{whole_was}
-use Rattle.listing_io.proofs.Readers.{IsFlowOf, choice_is_ok, flow_rows, flows_read, heads_read, line_row, terms_read, text_again, text_row}
+use Rattle.listing_io.proofs.{Terms.IsReader, Terms.all_read, Terms.bind_goes_through, Terms.same_ok, Terms.left_of, Terms.lines_in, Terms.lines_out, Rows.whole_was, Readers.IsFlowOf}
+use Rattle.listing_io.proofs.{Readers.choice_is_ok, Readers.flow_rows, Readers.flows_read, Readers.heads_read, Readers.line_row, Readers.terms_read, Readers.text_again, Readers.text_row}
 
 -- flows between pairs of zones
 abbrev pub IsSmall : ZoneFlow → Type 0

@@ -1,8 +1,7 @@
 -- The terms of a budget in one direction: the pairs of all eight, and the lines of those that are printed.
-use Rattle.listing_io.proofs.Common.{◌≡◌, ℕ, ◌≤◌, Bool, true, false, cond, List, [], ◌∷◌, length, map, refl, arith, slice_index_or, AllZip, Dir, In, Out, Term}
-use Rattle.listing_io.proofs.Common.{TermPair, no_pair, FlowModel, Line, term_line, term_lines, printed_terms, has_evt, each_lines, is_printed, AreTerms}
-use Rattle.listing_io.proofs.Common.{IsPairIf, place_of, all_terms, Budget, ◌++◌, sym, ap, ◌∙◌, subst, Result, Ok, Err, append_assoc, ◌>>=◌, for_each, Left}
-use Rattle.listing_io.proofs.Common.{AllZip-length, Bound, head_line, is_active}
+use Rattle.listing_io.proofs.Common.{◌≡◌, ℕ, ◌≤◌, Bool, true, false, cond, List, [], ◌∷◌, length, map, refl, arith, slice_index_or, AllZip, Dir, In, Out, Term, TermPair, no_pair, FlowModel, Line}
+use Rattle.listing_io.proofs.Common.{term_line, term_lines, printed_terms, has_evt, each_lines, is_printed, AreTerms, IsPairIf, place_of, all_terms, Budget, ◌++◌, sym, ap, ◌∙◌, subst, Result, Ok, Err}
+use Rattle.listing_io.proofs.Common.{append_assoc, ◌>>=◌, for_each, Left, AllZip-length, Bound, head_line, is_active}
 
 -- What is read for each of a list, and the lines of what is read.
 -- a reading that goes on was not refused

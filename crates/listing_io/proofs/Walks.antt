@@ -1,11 +1,9 @@
 -- Loops that read or write one thing after another.
-use Rattle.listing_io.proofs.Common.{Bool, cond, true, false, ◌≡◌, ℕ, suc, ◌+◌, ◌-◌, ◌<◌, ◌≤◌, List, [], ◌∷◌, ◌++◌, length, drop, get_or, drop-cons, add-one}
-use Rattle.listing_io.proofs.Common.{map, refl, sym, ap, ◌∙◌, arith, Result, Err, codes, inl, inr, append-nil, flat_map-cons, flat_map-append, for_each}
-use Rattle.listing_io.proofs.Common.{with_front, Fault, BadLine, Memory, Line, ended_line, text_of, Stops, first_line_before, listing, digits_line, titled_line}
-use Rattle.listing_io.proofs.Common.{IsListing, IsWritable, ListingsAreApart, range_with_len, FlowModel, ListedStep}
+use Rattle.listing_io.proofs.Common.{Bool, cond, true, false, ◌≡◌, ℕ, suc, ◌+◌, ◌-◌, ◌<◌, ◌≤◌, List, [], ◌∷◌, ◌++◌, length, drop, get_or, drop-cons, add-one, map, refl, sym, ap, ◌∙◌, arith, Result}
+use Rattle.listing_io.proofs.Common.{Err, codes, inl, inr, append-nil, flat_map-cons, flat_map-append, for_each, with_front, Fault, BadLine, Memory, Line, ended_line, text_of, Stops}
+use Rattle.listing_io.proofs.Common.{first_line_before, listing, digits_line, titled_line, IsListing, IsWritable, ListingsAreApart, range_with_len, FlowModel, ListedStep}
 use Rattle.std.proofs.Common.{append_assoc}
-use Rattle.listing_io.proofs.Exactly.{Without, by_test, title_without}
-use Rattle.listing_io.proofs.Steps.{listings_were_written}
+use Rattle.listing_io.proofs.{Exactly.Without, Exactly.by_test, Exactly.title_without, Steps.listings_were_written}
 
 -- the cells that are left, of n
 pub cells_next : (n i : ℕ) → i < n → range_with_len i (n - i) ≡ i ∷ range_with_len (i + 1) (n - (i + 1))

@@ -1,8 +1,7 @@
 -- The lines of a listing that have two numbers: how such a line is written, and which numbers are read from it.
 use Rattle.std.specs.Prelude.{◌≡◌, ℕ, ◌<◌, ◌≤◌, ◌^◌, ◌==◌, Bool, ◌&&◌, if◌then◌else◌, List, ◌++◌, codes, drop, length, nat_le, nat_abs, Option, Some, None, ◌+◌}
 use Rattle.std.specs.Prelude.{◌-◌, ◌*◌, cond, [], ◌∷◌, ℤ, pos, neg_ℤ, slice_index}
-use Rattle.std.specs.List.{before_first, after_first}
-use Rattle.std.specs.Str.{bytes_eq}
+use Rattle.std.specs.{List.before_first, List.after_first, Str.bytes_eq}
 use Rattle.fixed_text.specs.{fixed_text}
 use Rattle.budget_bounds.specs.declared.pair.TermPair.{TermPair}
 

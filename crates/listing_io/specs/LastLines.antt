@@ -1,15 +1,10 @@
 -- The last lines of a run that name a refusal, a time step, or a place in it.
 use Rattle.std.specs.Prelude.{ℕ, Option, Some, None, List, [], ◌∷◌, ◌++◌, codes}
-use Rattle.outside.specs.{CodeRow, code_row}
-use Rattle.outside.specs.declared.inputs.Refusal.{Refusal}
-use Rattle.step_problem.specs.declared.place.NoBound.{NoBound}
-use Rattle.step_problem.specs.declared.place.Place.{Place}
+use Rattle.outside.specs.{CodeRow, code_row, declared.inputs.Refusal.Refusal}
+use Rattle.step_problem.specs.{declared.place.NoBound.NoBound, declared.place.Place.Place, declared.refusal.StepRefusal.StepRefusal, refusal_of, word_of}
+use Rattle.step_problem.specs.{side_name, dir_name, term_name}
 use Rattle.step_problem.specs.declared.place.Place.TheVariants as places
-use Rattle.step_problem.specs.declared.refusal.StepRefusal.{StepRefusal}
-use Rattle.step_problem.specs.{refusal_of, word_of, side_name, dir_name, term_name}
-use Rattle.model_types.specs.declared.grid.Grid.{Grid}
-use Rattle.model_types.specs.declared.time_steps.TimeStep.{TimeStep}
-use Rattle.model_types.specs.{place}
+use Rattle.model_types.specs.{declared.grid.Grid.Grid, declared.time_steps.TimeStep.TimeStep, place}
 use Rattle.listing_io.specs.Listing.{ended_line, numbers_text}
 
 -- the number and the word of a refusal

@@ -1,21 +1,13 @@
 -- Laws of the listing's text: the text written for a model's steps is read as these steps, and a text that is read is the one written for them.
 use Rattle.std.specs.Prelude.{◌≡◌, ◌⊎◌, ◌<◌, ◌≤◌, ◌^◌, ℕ, Bool, true, false, List, [], ◌∷◌, ◌++◌, All, nat_abs, Ok, ◌+◌, length, map, slice_index_or}
 use Rattle.outside.specs.{lines}
-use Rattle.model_types.specs.declared.model.FlowModel.{FlowModel}
-use Rattle.model_types.specs.declared.time_steps.TimeStep.{TimeStep}
-use Rattle.model_types.specs.{HasSize, times, cell_count, is_active}
-use Rattle.zone_pairs.specs.declared.pair.ZonePair.{ZonePair}
-use Rattle.listing_io.specs.declared.listing.ListedStep.{ListedStep}
-use Rattle.listing_io.specs.Listing.{Line, all_step_lines, end_line, listing, text_of, has_evt, zone_pair}
-use Rattle.listing_io.specs.Reading.{first_line_before, all_lines, is_printed, listing_at}
+use Rattle.model_types.specs.{declared.model.FlowModel.FlowModel, declared.time_steps.TimeStep.TimeStep, HasSize, times, cell_count, is_active}
+use Rattle.zone_pairs.specs.{declared.pair.ZonePair.ZonePair, zones_of_flow}
+use Rattle.listing_io.specs.{declared.listing.ListedStep.ListedStep, Listing.Line, Listing.all_step_lines, Listing.end_line, Listing.listing, Listing.text_of}
+use Rattle.listing_io.specs.{Listing.has_evt, Listing.zone_pair, Reading.first_line_before, Reading.all_lines, Reading.is_printed, Reading.listing_at}
 use Rattle.std.specs.List.{AllZip, range_with_len}
-use Rattle.step_problem.specs.declared.heads.Bound.{Bound}
-use Rattle.step_problem.specs.declared.place.ZoneFlow.{ZoneFlow}
-use Rattle.step_problem.specs.{IsHead, no_bound}
-use Rattle.budget_bounds.specs.declared.pair.TermPair.{TermPair}
-use Rattle.budget_bounds.specs.declared.pair.Budget.{Budget}
-use Rattle.budget_bounds.specs.{all_terms, no_pair}
-use Rattle.zone_pairs.specs.{zones_of_flow}
+use Rattle.step_problem.specs.{declared.heads.Bound.Bound, declared.place.ZoneFlow.ZoneFlow, IsHead, no_bound}
+use Rattle.budget_bounds.specs.{declared.pair.TermPair.TermPair, declared.pair.Budget.Budget, all_terms, no_pair}
 
 -- What holds of the steps that are read from a listing, and of the steps that can be written.
 abbrev pub no_budget : Budget

@@ -2,27 +2,18 @@
 -- of the active cells, the lines IN and OUT of the budget's terms and the lines ZONE of the zone flows, and the line
 -- END.
 use Rattle.std.specs.Prelude.{ℕ, ◌+◌, ◌-◌, ◌^◌, Bool, cond, List, [], ◌∷◌, ◌++◌, codes, decimal, map, true, false}
-use Rattle.std.specs.Fmt.{signed_decimal}
-use Rattle.std.specs.List.{flat_map, range_with_len, zip}
-use Rattle.step_problem.specs.declared.heads.Bound.{Bound}
-use Rattle.step_problem.specs.declared.place.Dir.{Dir}
-use Rattle.step_problem.specs.declared.place.Dir.TheVariants.{In, Out}
-use Rattle.step_problem.specs.declared.place.Term.{Term}
-use Rattle.step_problem.specs.declared.place.Term.TheVariants.{Storage, ConstantHead, Wells, Drains, RiverLeakage, HeadDepBounds, Recharge, Et}
-use Rattle.step_problem.specs.declared.place.ZoneFlow.{ZoneFlow}
-use Rattle.step_problem.specs.{head_limit, dir_name, term_name}
-use Rattle.budget_bounds.specs.declared.pair.TermPair.{TermPair}
-use Rattle.budget_bounds.specs.declared.pair.Budget.{Budget}
-use Rattle.budget_bounds.specs.{bounds_in}
-use Rattle.model_types.specs.declared.grid.Grid.{Grid}
-use Rattle.model_types.specs.declared.model.FlowModel.{FlowModel}
-use Rattle.model_types.specs.declared.time_steps.TimeStep.{TimeStep}
-use Rattle.model_types.specs.{cell_count, place, is_active, is_nonzero, times}
-use Rattle.listing_io.specs.declared.listing.ListedStep.{ListedStep}
-use Rattle.listing_io.specs.declared.pair_lines.CellWord.{CellWord}
-use Rattle.listing_io.specs.declared.pair_lines.CellWord.TheVariants.{Head, Base, Plan, Drawdown}
-use Rattle.listing_io.specs.Forms.{Form, pair_line}
-use Rattle.step_problem.specs.Entries.{Entries}
+use Rattle.std.specs.{Fmt.signed_decimal, List.flat_map, List.range_with_len, List.zip}
+use Rattle.step_problem.specs.{declared.heads.Bound.Bound, declared.place.Dir.Dir, declared.place.Dir.TheVariants.In, declared.place.Dir.TheVariants.Out}
+use Rattle.step_problem.specs.{declared.place.Term.Term, declared.place.Term.TheVariants.Storage, declared.place.Term.TheVariants.ConstantHead}
+use Rattle.step_problem.specs.{declared.place.Term.TheVariants.Wells, declared.place.Term.TheVariants.Drains, declared.place.Term.TheVariants.RiverLeakage}
+use Rattle.step_problem.specs.{declared.place.Term.TheVariants.HeadDepBounds, declared.place.Term.TheVariants.Recharge, declared.place.Term.TheVariants.Et}
+use Rattle.step_problem.specs.{declared.place.ZoneFlow.ZoneFlow, head_limit, dir_name, term_name, Entries.Entries}
+use Rattle.budget_bounds.specs.{declared.pair.TermPair.TermPair, declared.pair.Budget.Budget, bounds_in}
+use Rattle.model_types.specs.{declared.grid.Grid.Grid, declared.model.FlowModel.FlowModel, declared.time_steps.TimeStep.TimeStep, cell_count, place, is_active}
+use Rattle.model_types.specs.{is_nonzero, times}
+use Rattle.listing_io.specs.{declared.listing.ListedStep.ListedStep, declared.pair_lines.CellWord.CellWord, declared.pair_lines.CellWord.TheVariants.Head}
+use Rattle.listing_io.specs.{declared.pair_lines.CellWord.TheVariants.Base, declared.pair_lines.CellWord.TheVariants.Plan}
+use Rattle.listing_io.specs.{declared.pair_lines.CellWord.TheVariants.Drawdown, Forms.Form, Forms.pair_line}
 
 -- a line, without its line feed
 abbrev pub Line : Type 0

@@ -1,28 +1,17 @@
 -- Reading a listing: the lines that are due, one after another. A refusal is the number of the first line of another form than the one due.
 use Rattle.std.specs.Prelude.{◌≡◌, ℕ, Bool, true, false, ◌||◌, codes, if◌then◌else◌, List, [], ◌∷◌, Option, Some, None, Result, Ok, Err}
-use Rattle.std.specs.List.{range_with_len}
-use Rattle.std.specs.Str.{bytes_eq}
-use Rattle.outside.specs.declared.codes.Code.TheVariants.{BadListing}
-use Rattle.outside.specs.declared.inputs.Refusal.{Refusal}
-use Rattle.outside.specs.{refusal, lines}
+use Rattle.std.specs.{List.range_with_len, Str.bytes_eq}
+use Rattle.outside.specs.{declared.codes.Code.TheVariants.BadListing, declared.inputs.Refusal.Refusal, refusal, lines}
 use Rattle.record_lines.specs.{next_number, ◌>>=◌, for_each}
-use Rattle.step_problem.specs.declared.heads.Bound.{Bound}
-use Rattle.step_problem.specs.declared.place.Dir.{Dir}
-use Rattle.step_problem.specs.declared.place.Dir.TheVariants.{In, Out}
-use Rattle.step_problem.specs.declared.place.Term.{Term}
-use Rattle.step_problem.specs.declared.place.ZoneFlow.{ZoneFlow}
-use Rattle.step_problem.specs.declared.place.Term.TheVariants.{Et}
-use Rattle.budget_bounds.specs.declared.pair.TermPair.{TermPair}
-use Rattle.budget_bounds.specs.{all_terms, no_pair}
-use Rattle.model_types.specs.declared.model.FlowModel.{FlowModel}
-use Rattle.model_types.specs.declared.time_steps.TimeStep.{TimeStep}
-use Rattle.model_types.specs.{cell_count, is_active, times}
+use Rattle.step_problem.specs.{declared.heads.Bound.Bound, declared.place.Dir.Dir, declared.place.Dir.TheVariants.In, declared.place.Dir.TheVariants.Out}
+use Rattle.step_problem.specs.{declared.place.Term.Term, declared.place.ZoneFlow.ZoneFlow, declared.place.Term.TheVariants.Et}
+use Rattle.budget_bounds.specs.{declared.pair.TermPair.TermPair, all_terms, no_pair}
+use Rattle.model_types.specs.{declared.model.FlowModel.FlowModel, declared.time_steps.TimeStep.TimeStep, cell_count, is_active, times}
 use Rattle.zone_pairs.specs.declared.pair.ZonePair.{ZonePair}
-use Rattle.listing_io.specs.declared.listing.ListedStep.{ListedStep}
-use Rattle.listing_io.specs.declared.fault.Fault.{Fault}
-use Rattle.listing_io.specs.declared.fault.Fault.TheVariants.{BadLine, Memory}
-use Rattle.listing_io.specs.Forms.{Form, pair_in}
-use Rattle.listing_io.specs.Listing.{Line, first_line, step_line, head_form, head_front, dir_front, term_form, flow_form, zone_front, has_evt, end_line}
+use Rattle.listing_io.specs.{declared.listing.ListedStep.ListedStep, declared.fault.Fault.Fault, declared.fault.Fault.TheVariants.BadLine}
+use Rattle.listing_io.specs.{declared.fault.Fault.TheVariants.Memory, Forms.Form, Forms.pair_in, Listing.Line, Listing.first_line, Listing.step_line}
+use Rattle.listing_io.specs.{Listing.head_form, Listing.head_front, Listing.dir_front, Listing.term_form, Listing.flow_form, Listing.zone_front}
+use Rattle.listing_io.specs.{Listing.has_evt, Listing.end_line}
 
 -- the lines left, and the number of the first of them
 pub record Left : Type 0 where

@@ -2,10 +2,9 @@
 use Rattle.std.specs.Prelude.{ℕ, List, ◌≤◌, []}
 use Rattle.budget_bounds.specs.declared.pair.TermPair.{TermPair}
 use Rattle.model_types.specs.declared.grid.Grid.{Grid}
-use Rattle.listing_io.specs.declared.pair_lines.Row.{Row}
+use Rattle.listing_io.specs.{declared.pair_lines.Row.Row, Forms.Form, Forms.pair_line, Listing.Line, Listing.cell_front, Listing.dir_front, Listing.flow_form}
+use Rattle.listing_io.specs.{Listing.head_form, Listing.source_front, Listing.term_form, Listing.zone_front}
 use Rattle.listing_io.specs.declared.pair_lines.Row.TheVariants as row
-use Rattle.listing_io.specs.Forms.{Form, pair_line}
-use Rattle.listing_io.specs.Listing.{Line, cell_front, dir_front, flow_form, head_form, source_front, term_form, zone_front}
 
 -- how the line begins
 abbrev pub front_of : Grid → Row → List ℕ

@@ -1,8 +1,7 @@
 -- Steps that bound every move of their decks bound every history.
-use Rattle.listing_run.proofs.Common.{◌≡◌, ℕ, List, [], ◌∷◌, ◌<◌, length, arith, subst, ℤ, Option, Some, None, Fraction, Bound, FlowModel, TimeStep, start_head}
-use Rattle.listing_run.proofs.Common.{times, SolvesFrom, heads_of, HeadsEnclose, Task, Step, Bounds, ExactCell, exact_step, sym, BoundAll, BoundChoices}
-use Rattle.listing_run.proofs.Common.{BoundsMovesOf, HistoriesBound, lies_encloses, Choice, IsChoiceOf, IsStartOf, SolvesAt, own_choice, refl, AllZip}
-use Rattle.listing_run.proofs.Common.{IsChoiceBetween, SolvesChoicesFrom}
+use Rattle.listing_run.proofs.Common.{◌≡◌, ℕ, List, [], ◌∷◌, ◌<◌, length, arith, subst, ℤ, Option, Some, None, Fraction, Bound, FlowModel, TimeStep, start_head, times, SolvesFrom, heads_of}
+use Rattle.listing_run.proofs.Common.{HeadsEnclose, Task, Step, Bounds, ExactCell, exact_step, sym, BoundAll, BoundChoices, BoundsMovesOf, HistoriesBound, lies_encloses, Choice, IsChoiceOf, IsStartOf}
+use Rattle.listing_run.proofs.Common.{SolvesAt, own_choice, refl, AllZip, IsChoiceBetween, SolvesChoicesFrom}
 use Rattle.deck_problems.proofs.OneProblem.{own_choice_is, own_solves}
 
 -- each step is that of its time, and bounds every move from the heads of the step before, as far as there are steps

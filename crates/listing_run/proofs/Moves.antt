@@ -1,14 +1,12 @@
 -- A step of a listing, by the clauses of the calls that gave its parts.
-use Rattle.listing_run.proofs.Common.{◌≡◌, ℕ, length, List, ◌∷◌, ℤ, Ok, Err, Result, subst, refl, ◌-◌, ◌<◌, inl, inr, All, arith, Option, Some, None, []}
-use Rattle.listing_run.proofs.Common.{Fraction, EnclosesSigned, Bound, NoBound, ZoneFlow, RoundsSettleBoth, lower_at, upper_at, PairKind, entries_at, Budget}
-use Rattle.listing_run.proofs.Common.{TimeStep, heads_of, variable_heads, step_from, Solved, EachChoice, EnclosesMoves, IsStepBy, edges_by, WideKeepsSteps}
-use Rattle.listing_run.proofs.Common.{Task, Step, IsActive, HeadsEnclose, AreFlowsAt, IsStep, HasNoBound, no_heads, no_budget, no_zones, budget_at, BoundsMoves}
-use Rattle.listing_run.proofs.Common.{HasLargeFlow, StopsAt, stop_of, pairs_of, IsSolved, FlowsEnclose, WideKeepsListings, deck_task, IfSome, Entries}
-use Rattle.listing_run.proofs.Common.{FlowModel, cell_count, times, EnclosesStep, ExactCell, Limits, Plain, Wide, lies_encloses, IsCellNamed}
+use Rattle.listing_run.proofs.Common.{◌≡◌, ℕ, length, List, ◌∷◌, ℤ, Ok, Err, Result, subst, refl, ◌-◌, ◌<◌, inl, inr, All, arith, Option, Some, None, [], Fraction, EnclosesSigned, Bound, NoBound}
+use Rattle.listing_run.proofs.Common.{ZoneFlow, RoundsSettleBoth, lower_at, upper_at, PairKind, entries_at, Budget, TimeStep, heads_of, variable_heads, step_from, Solved, EachChoice, EnclosesMoves}
+use Rattle.listing_run.proofs.Common.{IsStepBy, edges_by, WideKeepsSteps, Task, Step, IsActive, HeadsEnclose, AreFlowsAt, IsStep, HasNoBound, no_heads, no_budget, no_zones, budget_at, BoundsMoves}
+use Rattle.listing_run.proofs.Common.{HasLargeFlow, StopsAt, stop_of, pairs_of, IsSolved, FlowsEnclose, WideKeepsListings, deck_task, IfSome, Entries, FlowModel, cell_count, times, EnclosesStep}
+use Rattle.listing_run.proofs.Common.{ExactCell, Limits, Plain, Wide, lies_encloses, IsCellNamed}
 use Rattle.zone_flows.specs.{EncloseExact, HeadsLieWithin}
-use Rattle.step_chain.specs.{FailsBy as StepFailsBy}
+use Rattle.step_chain.specs.{FailsBy as StepFailsBy, declared.solved.StepFault.StepFault}
 use Rattle.budget_bounds.specs.{EnclosesBudgets, HeadsAreWithin, budget_of}
-use Rattle.step_chain.specs.declared.solved.StepFault.{StepFault}
 use Rattle.std.specs.Prelude.{Contains, Bool}
 use Rattle.std.proofs.lemmas.List.Elements.{All-contains_itself, All-weaker}
 use Rattle.step_problem.specs.declared.entry.Fixed.{Fixed}

@@ -1,10 +1,8 @@
 -- The pieces of a listing so far, put or added to a text, and how it ends.
-use Rattle.listing_run.proofs.Common.{◌≡◌, ◌∙◌, List, [], ◌∷◌, ◌++◌, Bool, Result, Ok, Err, Some, ap, refl, subst, sym, map-append, append_assoc, append-nil}
-use Rattle.listing_run.proofs.Common.{Put, whole_put, Entries, Edges, Text, IsRun, IsEnd, IsPut, EndsOutOfMemory, Status, IsAt, at_more, ends_or_lacks}
-use Rattle.listing_run.proofs.Common.{lacks_after, stops_at, ListingEnd, Step, Steps, Task, IsCutListing, IsListing, IsPushed, first_pieces, last_line, listing}
-use Rattle.listing_run.proofs.Common.{status_of, text_of, EndsAt, IsAtFirst, IsNextText, IsWalk, times_left, is_between, first_text, map, inl, inr, SinkError}
-use Rattle.listing_run.proofs.Common.{TimeStep, whole, IsLate, late_not_ok, tail_late, run_of_less, IsStopEnd, IsListingBeside, left, listed, memory_put}
-use Rattle.listing_run.proofs.Common.{status_after, wanting, concat}
+use Rattle.listing_run.proofs.Common.{◌≡◌, ◌∙◌, List, [], ◌∷◌, ◌++◌, Bool, Result, Ok, Err, Some, ap, refl, subst, sym, map-append, append_assoc, append-nil, Put, whole_put, Entries, Edges, Text}
+use Rattle.listing_run.proofs.Common.{IsRun, IsEnd, IsPut, EndsOutOfMemory, Status, IsAt, at_more, ends_or_lacks, lacks_after, stops_at, ListingEnd, Step, Steps, Task, IsCutListing, IsListing}
+use Rattle.listing_run.proofs.Common.{IsPushed, first_pieces, last_line, listing, status_of, text_of, EndsAt, IsAtFirst, IsNextText, IsWalk, times_left, is_between, first_text, map, inl, inr}
+use Rattle.listing_run.proofs.Common.{SinkError, TimeStep, whole, IsLate, late_not_ok, tail_late, run_of_less, IsStopEnd, IsListingBeside, left, listed, memory_put, status_after, wanting, concat}
 use Rattle.std.proofs.Common.{IfOk}
 use Rattle.listing_run.proofs.UnderWay.{IsSolved, cut_listing, encloses_if_whole, solved_steps_are_all, is_listing, none_solved, one_more_solved}
 use Rattle.outside.specs.declared.traits.SinkError.TheVariants as error

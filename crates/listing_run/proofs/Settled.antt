@@ -1,10 +1,9 @@
 -- What a step does to its settler, by the clause of the call that solved it.
-use Rattle.listing_run.proofs.Common.{IfErr, IfOk, ◌≡◌, ◌∙◌, ℕ, List, length, Bool, true, false, inl, inr, sym, subst, refl, ℤ, Option, None, [], ◌∷◌, Result}
-use Rattle.listing_run.proofs.Common.{Ok, Err, SinkError, Bound, Entries, Edges, IsSettledPair, lower_at, upper_at, TimeStep, times, EachChoice}
-use Rattle.listing_run.proofs.Common.{AreStartHeadsFor, IsProblemFor, Text, end_line, LieBetween, IsPosed, edges_by, LiesBetweenBy, LeadsBy, LeadsOrRests}
-use Rattle.listing_run.proofs.Common.{Steps, Task, IsSettledBy, PairEncloses, Reaches, ReachesFirst, RestsOrSettles, RestsOrSettlesFirst, rests, settled}
-use Rattle.listing_run.proofs.Common.{IsAtFirst, IsNextText, IsWalk, times_left, EnclosesHistories, IsListing, last_line, listing, status_of, AllSteps, Limits}
-use Rattle.listing_run.proofs.Common.{Plain, Wide, step_from, variable_heads, LiesBetween, ListingEnd, Step, ◌⊎◌, begun}
+use Rattle.listing_run.proofs.Common.{IfErr, IfOk, ◌≡◌, ◌∙◌, ℕ, List, length, Bool, true, false, inl, inr, sym, subst, refl, ℤ, Option, None, [], ◌∷◌, Result, Ok, Err, SinkError, Bound, Entries}
+use Rattle.listing_run.proofs.Common.{Edges, IsSettledPair, lower_at, upper_at, TimeStep, times, EachChoice, AreStartHeadsFor, IsProblemFor, Text, end_line, LieBetween, IsPosed, edges_by}
+use Rattle.listing_run.proofs.Common.{LiesBetweenBy, LeadsBy, LeadsOrRests, Steps, Task, IsSettledBy, PairEncloses, Reaches, ReachesFirst, RestsOrSettles, RestsOrSettlesFirst, rests, settled}
+use Rattle.listing_run.proofs.Common.{IsAtFirst, IsNextText, IsWalk, times_left, EnclosesHistories, IsListing, last_line, listing, status_of, AllSteps, Limits, Plain, Wide, step_from, variable_heads}
+use Rattle.listing_run.proofs.Common.{LiesBetween, ListingEnd, Step, ◌⊎◌, begun}
 use Rattle.settle_driver.specs.{HoldsPair}
 use Rattle.cell_balance.proofs.Deep.{le_trans_z}
 use Rattle.listing_run.proofs.UnderWay.{all_left, first_same}

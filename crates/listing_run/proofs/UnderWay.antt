@@ -1,8 +1,7 @@
 -- The steps so far, from one to the next, and the end of a listing after them.
-use Rattle.listing_run.proofs.Common.{◌≡◌, ◌∙◌, ◌<◌, ℕ, List, [], ◌∷◌, ◌++◌, Bool, ap, arith, drop, get_or, length, refl, subst, sym, Bound, Entries, Edges}
-use Rattle.listing_run.proofs.Common.{TimeStep, times, AreStartHeadsFor, Text, ListingEnd, Task, Step, AllSteps, EndsAt, FirstSteps, IsStep, StepsThen}
-use Rattle.listing_run.proofs.Common.{EnclosesStarts, BoundsMoves, EnclosesHistories, first_pieces, listing, IsListing, IsCutListing, last_line, status_of}
-use Rattle.listing_run.proofs.Common.{Steps, IsAtFirst, IsNext, IsNextText, IsWalk, times_left}
+use Rattle.listing_run.proofs.Common.{◌≡◌, ◌∙◌, ◌<◌, ℕ, List, [], ◌∷◌, ◌++◌, Bool, ap, arith, drop, get_or, length, refl, subst, sym, Bound, Entries, Edges, TimeStep, times, AreStartHeadsFor, Text}
+use Rattle.listing_run.proofs.Common.{ListingEnd, Task, Step, AllSteps, EndsAt, FirstSteps, IsStep, StepsThen, EnclosesStarts, BoundsMoves, EnclosesHistories, first_pieces, listing, IsListing}
+use Rattle.listing_run.proofs.Common.{IsCutListing, last_line, status_of, Steps, IsAtFirst, IsNext, IsNextText, IsWalk, times_left}
 use Rattle.listing_run.proofs.HistoriesBound.{AllBoundMoves, histories_bound}
 use Rattle.listing_run.specs.declared.text.ListingEnd.TheVariants as ends
 

@@ -1,10 +1,8 @@
 -- A model has one listing, and one that is whole has no other end.
-use Rattle.listing_run.proofs.Common.{◌≡◌, ℕ, suc, List, [], ◌∷◌, sym, ap, ◌∙◌, refl, inr, arith, Ok, Err, Result, Contains, subst, Option, Bound, NoBound}
-use Rattle.listing_run.proofs.Common.{Budget, TimeStep, times, AreDecks, AreGridHeads, Solved, ZoneFlow, Task, Step, AreFlowsAt, HasLargeFlow, IsStep}
-use Rattle.listing_run.proofs.Common.{budget_at, HasNoBound, no_heads, no_budget, no_zones, AllSettle, IsSettledStep, IsStepBy, pairs_of, IsSolved}
-use Rattle.listing_run.proofs.Common.{if◌then◌else◌, PairKind, false, StepIsOne, StepExcludesRefusal, HeadsFit, ListingIsOne, ListingExcludesRefusal}
-use Rattle.listing_run.proofs.Common.{SettledListingIsClosed, RefusalIsOne, IsBefore, StartHeadsAreOne, StartHeadsFit, Entries, AreFlowsOf, HasLargeFlowOf}
-use Rattle.listing_run.proofs.Common.{first_in}
+use Rattle.listing_run.proofs.Common.{◌≡◌, ℕ, suc, List, [], ◌∷◌, sym, ap, ◌∙◌, refl, inr, arith, Ok, Err, Result, Contains, subst, Option, Bound, NoBound, Budget, TimeStep, times, AreDecks}
+use Rattle.listing_run.proofs.Common.{AreGridHeads, Solved, ZoneFlow, Task, Step, AreFlowsAt, HasLargeFlow, IsStep, budget_at, HasNoBound, no_heads, no_budget, no_zones, AllSettle, IsSettledStep}
+use Rattle.listing_run.proofs.Common.{IsStepBy, pairs_of, IsSolved, if◌then◌else◌, PairKind, false, StepIsOne, StepExcludesRefusal, HeadsFit, ListingIsOne, ListingExcludesRefusal}
+use Rattle.listing_run.proofs.Common.{SettledListingIsClosed, RefusalIsOne, IsBefore, StartHeadsAreOne, StartHeadsFit, Entries, AreFlowsOf, HasLargeFlowOf, first_in}
 use Rattle.listing_run.specs.{Steps}
 use Rattle.step_problem.specs.{settled as settled_kind, certified as certified_kind}
 use Rattle.step_chain.specs.{RefusalIsOne as StepRefusalIsOne}

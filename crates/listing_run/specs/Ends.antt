@@ -1,30 +1,16 @@
 -- Facts that the calls of a walk over the steps pass to each other.
 use Rattle.std.specs.Prelude.{Bool, List, Option, [], drop, length, ℕ, ◌+◌, ◌<◌, ◌∷◌, ◌≡◌, ◌≤◌, true, false}
-use Rattle.outside.specs.{Put}
-use Rattle.outside.specs.declared.traits.SinkError.{SinkError}
-use Rattle.step_problem.specs.Entries.{Entries}
-use Rattle.step_problem.specs.{Edges}
-use Rattle.step_problem.specs.declared.heads.Bound.{Bound}
-use Rattle.model_types.specs.{times}
-use Rattle.deck_problems.specs.{AreDecks, EnclosesStarts, AreStartHeadsFor, AreDeckTables}
-use Rattle.model_types.specs.declared.time_steps.TimeStep.{TimeStep}
+use Rattle.outside.specs.{Put, declared.traits.SinkError.SinkError}
+use Rattle.step_problem.specs.{Entries.Entries, Edges, declared.heads.Bound.Bound, declared.place.NoBound.NoBound}
+use Rattle.model_types.specs.{times, declared.time_steps.TimeStep.TimeStep, declared.limits.Limits.TheVariants.Plain, declared.limits.Limits.TheVariants.Wide}
+use Rattle.deck_problems.specs.{AreDecks, EnclosesStarts, AreStartHeadsFor, AreDeckTables, declared.problem.DeckTables.DeckTables, declared.decks.Decks.Decks}
 use Rattle.problem_builder.specs.{AreGridHeads}
-use Rattle.deck_problems.specs.declared.problem.DeckTables.{DeckTables}
 use Rattle.step_chain.specs.declared.solved.StepFault.{StepFault}
-use Rattle.run_puts.specs.{EndsOutOfMemory, Text}
-use Rattle.run_puts.specs.declared.puts.Status.{Status}
-use Rattle.listing_run.specs.Listing.{BoundsMoves, text_of}
-use Rattle.listing_run.specs.Settlers.{IsSettledBy, EndsAt, IsStep, AllSteps, AllSettle}
+use Rattle.run_puts.specs.{EndsOutOfMemory, Text, declared.puts.Status.Status}
+use Rattle.listing_run.specs.{Listing.BoundsMoves, Listing.text_of, Settlers.IsSettledBy, Settlers.EndsAt, Settlers.IsStep, Settlers.AllSteps}
+use Rattle.listing_run.specs.{Settlers.AllSettle, Tasks.deck_task, declared.solving.Step.Step, declared.solving.StepFlows.StepFlows, declared.steps.Steps.Steps}
+use Rattle.listing_run.specs.{declared.solving.Stop.Stop, declared.steps.Task.Task}
 use Rattle.zone_pairs.specs.{AreZones}
-use Rattle.listing_run.specs.Tasks.{deck_task}
-use Rattle.listing_run.specs.declared.solving.Step.{Step}
-use Rattle.listing_run.specs.declared.solving.StepFlows.{StepFlows}
-use Rattle.listing_run.specs.declared.steps.Steps.{Steps}
-use Rattle.listing_run.specs.declared.solving.Stop.{Stop}
-use Rattle.listing_run.specs.declared.steps.Task.{Task}
-use Rattle.step_problem.specs.declared.place.NoBound.{NoBound}
-use Rattle.model_types.specs.declared.limits.Limits.TheVariants.{Plain, Wide}
-use Rattle.deck_problems.specs.declared.decks.Decks.{Decks}
 use Rattle.outside.specs.declared.traits.SinkError.TheVariants as error
 use Rattle.step_chain.specs.declared.solved.StepFault.TheVariants as chain
 use Rattle.run_puts.specs.declared.puts.Status.TheVariants as status

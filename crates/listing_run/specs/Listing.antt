@@ -1,20 +1,13 @@
 -- The pieces of a listing.
 use Rattle.std.specs.Prelude.{◌≡◌, ℕ, Bool, is_some, List, [], ◌∷◌, ◌++◌, map, ℤ, IfSome, Option, Some, None}
 use Rattle.std.specs.List.{concat}
-use Rattle.model_types.specs.declared.grid.Grid.{Grid}
-use Rattle.model_types.specs.declared.time_steps.TimeStep.{TimeStep}
+use Rattle.model_types.specs.{declared.grid.Grid.Grid, declared.time_steps.TimeStep.TimeStep, declared.model.FlowModel.FlowModel, start_head}
 use Rattle.listing_io.specs.{first_text, step_text, no_bound_line, unfinished_line}
-use Rattle.run_puts.specs.{Text, end_line}
-use Rattle.run_puts.specs.declared.puts.Status.{Status}
-use Rattle.listing_run.specs.declared.text.ListingEnd.{ListingEnd}
-use Rattle.listing_run.specs.declared.steps.Task.{Task}
-use Rattle.listing_run.specs.declared.solving.Step.{Step}
-use Rattle.listing_run.specs.Settlers.{AllSteps, FirstSteps}
+use Rattle.run_puts.specs.{Text, end_line, declared.puts.Status.Status}
+use Rattle.listing_run.specs.{declared.text.ListingEnd.ListingEnd, declared.steps.Task.Task, declared.solving.Step.Step, Settlers.AllSteps, Settlers.FirstSteps}
 use Rattle.decimal_input.specs.{Fraction}
 use Rattle.step_problem.specs.declared.heads.Bound.{Bound}
 use Rattle.budget_bounds.specs.{BudgetEncloses}
-use Rattle.model_types.specs.declared.model.FlowModel.{FlowModel}
-use Rattle.model_types.specs.{start_head}
 use Rattle.cell_balance.specs.{ExactCell}
 use Rattle.flow_equations.specs.{exact_step, heads_of, variable_heads, Solves}
 use Rattle.deck_span.specs.{AreChoices, Choice, SolvesChoices, step_from}

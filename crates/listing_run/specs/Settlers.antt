@@ -2,24 +2,14 @@
 -- `begins old period step new`. Then it settles the step's problem: `leads old p b ended new`. It asks why it has to stop: `stop`.
 use Rattle.std.specs.Prelude.{◌≡◌, ◌⊎◌, ℕ, List, [], ◌∷◌, Bool, true, false, Option, None, Result, Ok, Err}
 use Rattle.outside.specs.declared.traits.SinkError.{SinkError}
-use Rattle.step_problem.specs.declared.heads.Bound.{Bound}
-use Rattle.step_problem.specs.Entries.{Entries}
-use Rattle.step_problem.specs.{Edges, lower_at, upper_at, RoundsSettleBoth}
-use Rattle.deck_problems.specs.declared.decks.Decks.{Decks}
-use Rattle.deck_problems.specs.{EachChoice, AreStartHeadsFor}
-use Rattle.model_types.specs.declared.limits.Limits.{Limits}
-use Rattle.model_types.specs.declared.time_steps.TimeStep.{TimeStep}
-use Rattle.model_types.specs.{times}
+use Rattle.step_problem.specs.{declared.heads.Bound.Bound, Entries.Entries, Edges, lower_at, upper_at, RoundsSettleBoth, declared.place.NoBound.NoBound}
+use Rattle.deck_problems.specs.{declared.decks.Decks.Decks, EachChoice, AreStartHeadsFor}
+use Rattle.model_types.specs.{declared.limits.Limits.Limits, declared.time_steps.TimeStep.TimeStep, times}
 use Rattle.settle_driver.specs.{HoldsPair}
-use Rattle.step_chain.specs.{edges_by, IsPosed, LieBetween, IsStepBy, HasNoHeads, SettlesIn}
-use Rattle.listing_run.specs.declared.steps.Task.{Task}
-use Rattle.listing_run.specs.declared.solving.Step.{Step}
-use Rattle.step_problem.specs.declared.place.NoBound.{NoBound}
-use Rattle.budget_bounds.specs.declared.pair.Budget.{Budget}
-use Rattle.budget_bounds.specs.{budget_of}
-use Rattle.step_chain.specs.declared.solved.Solved.{Solved}
-use Rattle.listing_run.specs.declared.text.ListingEnd.{ListingEnd}
-use Rattle.listing_run.specs.Tasks.{pairs_of, AreFlowsAt, HasLargeFlow}
+use Rattle.step_chain.specs.{edges_by, IsPosed, LieBetween, IsStepBy, HasNoHeads, SettlesIn, declared.solved.Solved.Solved}
+use Rattle.listing_run.specs.{declared.steps.Task.Task, declared.solving.Step.Step, declared.text.ListingEnd.ListingEnd, Tasks.pairs_of, Tasks.AreFlowsAt}
+use Rattle.listing_run.specs.{Tasks.HasLargeFlow}
+use Rattle.budget_bounds.specs.{declared.pair.Budget.Budget, budget_of}
 use Rattle.listing_run.specs.declared.text.ListingEnd.TheVariants as ends
 
 -- The steps of a listing: each from the heads of the one before it, the first from STRT.

@@ -1,17 +1,11 @@
 -- The kind of a task's pairs, the task of decks, and that of one deck.
 use Rattle.std.specs.Prelude.{ℕ, Bool, List, Option, if◌then◌else◌, ◌≡◌, [], Some, None, IfSome, Result, Ok, Err}
-use Rattle.step_problem.specs.{PairKind, settled, certified, lower_at, upper_at}
-use Rattle.model_types.specs.declared.limits.Limits.{Limits}
-use Rattle.model_types.specs.declared.model.FlowModel.{FlowModel}
-use Rattle.deck_problems.specs.declared.decks.Decks.{Decks}
-use Rattle.deck_problems.specs.{one_deck}
+use Rattle.step_problem.specs.{PairKind, settled, certified, lower_at, upper_at, declared.heads.Bound.Bound, declared.place.NoBound.NoBound}
+use Rattle.step_problem.specs.{declared.place.ZoneFlow.ZoneFlow, Entries.Entries, declared.refusal.BoundFault.BoundFault}
+use Rattle.model_types.specs.{declared.limits.Limits.Limits, declared.model.FlowModel.FlowModel}
+use Rattle.deck_problems.specs.{declared.decks.Decks.Decks, one_deck}
 use Rattle.listing_run.specs.declared.steps.Task.{Task}
-use Rattle.step_problem.specs.declared.heads.Bound.{Bound}
-use Rattle.step_problem.specs.declared.place.NoBound.{NoBound}
-use Rattle.step_problem.specs.declared.place.ZoneFlow.{ZoneFlow}
-use Rattle.step_problem.specs.Entries.{Entries}
 use Rattle.step_chain.specs.declared.solved.Solved.{Solved}
-use Rattle.step_problem.specs.declared.refusal.BoundFault.{BoundFault}
 use Rattle.zone_flows.specs.{Face, faces, zone_flows, EncloseEveryStep}
 use Rattle.step_problem.specs.declared.refusal.BoundFault.TheVariants as fault
 

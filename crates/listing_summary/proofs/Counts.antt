@@ -1,17 +1,12 @@
 -- What is counted, one line HEAD after another.
-use Rattle.listing_summary.proofs.Common.{◌≡◌, ℕ, ◌+◌, ◌<◌, ◌≤◌, ◌^◌, List, [], ◌∷◌, ◌++◌, length, drop, get_or, cond, refl, sym, ap, ◌∙◌, arith, ℤ, ◌+ℤ◌, fold}
-use Rattle.listing_summary.proofs.Common.{Bound, IsHead, IsMagnitudeAtMost, Summary, with_head_line, with_step, nothing, Fits, printed_bounds, printed_heads}
-use Rattle.listing_summary.proofs.Common.{summary_of, width, Bool, Edges, EndsAt, IsAtFirst, IsNext, IsWalk, times_left, IsSummarized, is_active, most_heads}
-use Rattle.listing_run.specs.declared.solving.Step.{Step}
-use Rattle.std.proofs.lemmas.Int.{ints, clamps}
-use Rattle.std.proofs.lemmas.List.{drop_more, drop_all, length-append}
-use Rattle.std.proofs.lemmas.List.Sums.{fold-append, fold_push}
+use Rattle.listing_summary.proofs.Common.{◌≡◌, ℕ, ◌+◌, ◌<◌, ◌≤◌, ◌^◌, List, [], ◌∷◌, ◌++◌, length, drop, get_or, cond, refl, sym, ap, ◌∙◌, arith, ℤ, ◌+ℤ◌, fold, Bound, IsHead, IsMagnitudeAtMost}
+use Rattle.listing_summary.proofs.Common.{Summary, with_head_line, with_step, nothing, Fits, printed_bounds, printed_heads, summary_of, width, Bool, Edges, EndsAt, IsAtFirst, IsNext, IsWalk}
+use Rattle.listing_summary.proofs.Common.{times_left, IsSummarized, is_active, most_heads}
+use Rattle.listing_run.specs.{declared.solving.Step.Step, declared.text.ListingEnd.ListingEnd, declared.steps.Steps.Steps, declared.steps.Task.Task}
+use Rattle.std.proofs.{lemmas.Int.ints, lemmas.Int.clamps, lemmas.List.drop_more, lemmas.List.drop_all, lemmas.List.length-append, lemmas.List.Sums.fold-append, lemmas.List.Sums.fold_push}
 use Rattle.std.specs.Int.{int_max}
 use Rattle.model_types.specs.declared.model.FlowModel.{FlowModel}
 use Rattle.step_problem.specs.Entries.{Entries}
-use Rattle.listing_run.specs.declared.text.ListingEnd.{ListingEnd}
-use Rattle.listing_run.specs.declared.steps.Steps.{Steps}
-use Rattle.listing_run.specs.declared.steps.Task.{Task}
 use Rattle.listing_run.proofs.UnderWay.{IsSolved, encloses_if_whole, solved_steps_are_all, none_solved, one_more_solved}
 
 -- the cells that are left

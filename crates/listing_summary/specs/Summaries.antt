@@ -1,17 +1,11 @@
 -- A listing summed up in a few numbers.
 use Rattle.std.specs.Prelude.{ℕ, ◌+◌, ℤ, pos, ◌+ℤ◌, ◌-ℤ◌, cond, List, [], ◌∷◌, ◌++◌, length, ◌*◌, ◌≡◌, codes}
-use Rattle.std.specs.Int.{int_max}
-use Rattle.std.specs.List.{flat_map, fold}
-use Rattle.step_problem.specs.declared.heads.Bound.{Bound}
-use Rattle.model_types.specs.declared.model.FlowModel.{FlowModel}
-use Rattle.model_types.specs.{is_active}
-use Rattle.listing_run.specs.declared.solving.Step.{Step}
+use Rattle.std.specs.{Int.int_max, List.flat_map, List.fold}
+use Rattle.step_problem.specs.{declared.heads.Bound.Bound, IsMagnitudeAtMost, cell_limit, head_limit}
+use Rattle.model_types.specs.{declared.model.FlowModel.FlowModel, is_active}
+use Rattle.listing_run.specs.{declared.solving.Step.Step, declared.text.ListingEnd.ListingEnd, declared.text.ListingEnd.TheVariants.Whole}
+use Rattle.listing_run.specs.{declared.steps.Task.Task, EnclosesHistories, AllSteps}
 use Rattle.listing_summary.specs.declared.summary.Summary.{Summary}
-use Rattle.step_problem.specs.{IsMagnitudeAtMost, cell_limit, head_limit}
-use Rattle.listing_run.specs.declared.text.ListingEnd.{ListingEnd}
-use Rattle.listing_run.specs.declared.text.ListingEnd.TheVariants.{Whole}
-use Rattle.listing_run.specs.declared.steps.Task.{Task}
-use Rattle.listing_run.specs.{EnclosesHistories, AllSteps}
 use Rattle.fixed_text.specs.{fixed_text}
 use Rattle.listing_io.specs.{ended_line, numbers_text}
 

@@ -1,6 +1,6 @@
 -- The items before the layers' arrays leave lines that they were given.
-use Rattle.lpf_package.proofs.Common.{◌≡◌, ℕ, Bool, List, All, pos, Ok, int_lt, LineMay, LinesMay, line_held, rest_has_its_lines, GivesOnly, ok_gives_only}
-use Rattle.lpf_package.proofs.Common.{goes_on, then_, option_line, settings_of, Left, Numbered, words, number_at, number, integer, if_clear}
+use Rattle.lpf_package.proofs.Common.{◌≡◌, ℕ, Bool, List, All, pos, Ok, int_lt, LineMay, LinesMay, line_held, rest_has_its_lines, GivesOnly, ok_gives_only, goes_on, then_, option_line, settings_of}
+use Rattle.lpf_package.proofs.Common.{Left, Numbered, words, number_at, number, integer, if_clear}
 use Rattle.lpf_package.specs.declared.settings.Settings.{Settings}
 use Rattle.array_reader.proofs.Forward.{list_held, zeros_held}
 

@@ -1,23 +1,16 @@
 -- What a file of the layer-property flow package gives.
-use Rattle.lpf_package.proofs.Common.{◌≡◌, ℕ, ◌*◌, Bool, true, false, cond, List, length, All, Ok, refl, arith, ◌+◌, not, [], replicate, FileSet, Left}
-use Rattle.lpf_package.proofs.Common.{left_from, without_comments, zero_list, real_layer, is_transient, contents_of, with_contents, lpf_of, SameBut, layers_of}
-use Rattle.lpf_package.proofs.Common.{storage_layer, properties_of, joined_properties, nth_layer, layer_at, settings_of, HasFlow, option_line, if◌then◌else◌}
-use Rattle.lpf_package.proofs.Common.{ok_gives_only, goes_on, then_, gives_only_less, GivesOnly, counted_gives}
-use Rattle.decimal_input.specs.{IsDec}
-use Rattle.model_types.specs.declared.grid.Grid.{Grid}
-use Rattle.model_types.specs.declared.model.FlowModel.{FlowModel}
-use Rattle.model_types.specs.{cell_count, layer_size, no_number}
-use Rattle.array_text.proofs.ArrayForms.{list_files_have_form}
+use Rattle.lpf_package.proofs.Common.{◌≡◌, ℕ, ◌*◌, Bool, true, false, cond, List, length, All, Ok, refl, arith, ◌+◌, not, [], replicate, FileSet, Left, left_from, without_comments, zero_list}
+use Rattle.lpf_package.proofs.Common.{real_layer, is_transient, contents_of, with_contents, lpf_of, SameBut, layers_of, storage_layer, properties_of, joined_properties, nth_layer, layer_at}
+use Rattle.lpf_package.proofs.Common.{settings_of, HasFlow, option_line, if◌then◌else◌, ok_gives_only, goes_on, then_, gives_only_less, GivesOnly, counted_gives}
+use Rattle.decimal_input.specs.{IsDec, declared.dec.Dec.Dec}
+use Rattle.model_types.specs.{declared.grid.Grid.Grid, declared.model.FlowModel.FlowModel, cell_count, layer_size, no_number}
+use Rattle.array_text.proofs.{ArrayForms.list_files_have_form, LayerForms.layer_is, LayerForms.layer_or_is, LayerForms.one_more, LayerForms.AreLayers, LayerForms.no_layers, LayerForms.one_more_layer}
 use Rattle.array_text.specs.{IsShort}
 use Rattle.std.proofs.lemmas.List.Elements.{All-nil, All-append}
-use Rattle.decimal_input.specs.declared.dec.Dec.{Dec}
 use Rattle.number_limits.specs.{is_positive}
 use Rattle.number_limits.proofs.Canonical.{no_number_is, dec_at_is}
-use Rattle.lpf_package.specs.declared.layer.Properties.{Properties}
-use Rattle.array_text.proofs.LayerForms.{layer_is, layer_or_is, one_more, AreLayers, no_layers, one_more_layer}
-use Rattle.lpf_package.specs.declared.model.Contents.{Contents}
+use Rattle.lpf_package.specs.{declared.layer.Properties.Properties, declared.model.Contents.Contents, declared.layer.Layer.Layer}
 use Rattle.dis_package.proofs.GridForms.{IsBedLayer}
-use Rattle.lpf_package.specs.declared.layer.Layer.{Layer}
 
 -- What is read of the properties of layers.
 -- the properties of one layer of this many cells

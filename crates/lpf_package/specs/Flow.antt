@@ -1,22 +1,15 @@
 -- A file of the layer-property flow package, item by item (TM 6-A16, LPF).
 use Rattle.std.specs.Prelude.{◌≡◌, ℕ, ℤ, List, Bool, not, Result, Ok, pos, int_lt, Err, if◌then◌else◌, codes, [], ◌++◌, cond, All, length}
 use Rattle.std.specs.List.{list_any}
-use Rattle.outside.specs.{FileSet, refusal, words}
-use Rattle.outside.specs.declared.inputs.Refusal.{Refusal}
+use Rattle.outside.specs.{FileSet, refusal, words, declared.inputs.Refusal.Refusal, declared.codes.Code.TheVariants.OutOfProfile}
 use Rattle.record_lines.specs.{left_from, without_comments, Left, ◌>>=◌, each_number, is_word, line_at}
-use Rattle.model_types.specs.declared.grid.Grid.{Grid}
-use Rattle.model_types.specs.declared.model.FlowModel.{FlowModel}
-use Rattle.model_types.specs.declared.period.Period.{Period}
-use Rattle.lpf_package.specs.declared.layer.Properties.{Properties}
-use Rattle.lpf_package.specs.declared.model.Contents.{Contents}
-use Rattle.outside.specs.declared.codes.Code.TheVariants.{OutOfProfile}
+use Rattle.model_types.specs.{declared.grid.Grid.Grid, declared.model.FlowModel.FlowModel, declared.period.Period.Period, dec_at, int_at, no_number, is_nonzero}
+use Rattle.model_types.specs.{cell_count}
+use Rattle.lpf_package.specs.{declared.layer.Properties.Properties, declared.model.Contents.Contents, declared.settings.Settings.Settings}
+use Rattle.lpf_package.specs.{declared.layer.Layer.Layer}
 use Rattle.array_reader.specs.{number_at, free_list, zero_list, real_layer, layer_or, number, integer}
-use Rattle.lpf_package.specs.declared.settings.Settings.{Settings}
-use Rattle.decimal_input.specs.declared.dec.Dec.{Dec}
-use Rattle.model_types.specs.{dec_at, int_at, no_number, is_nonzero, cell_count}
+use Rattle.decimal_input.specs.{declared.dec.Dec.Dec, IsDec}
 use Rattle.number_limits.specs.{is_positive}
-use Rattle.lpf_package.specs.declared.layer.Layer.{Layer}
-use Rattle.decimal_input.specs.{IsDec}
 use Rattle.array_text.specs.{IsShort}
 use Rattle.dis_package.specs.{IsOfBeds}
 

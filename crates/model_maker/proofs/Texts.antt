@@ -1,6 +1,5 @@
 -- One more text in a row of texts, and the draws that go with it.
-use Rattle.model_maker.proofs.Common.{◌≡◌, ℕ, zero, suc, ◌+◌, ◌*◌, ◌++◌, refl, sym, ap, ◌∙◌, arith, subst, after, next_state, Text, gap, hk_row, hk_text}
-use Rattle.model_maker.proofs.Common.{texts_below}
+use Rattle.model_maker.proofs.Common.{◌≡◌, ℕ, zero, suc, ◌+◌, ◌*◌, ◌++◌, refl, sym, ap, ◌∙◌, arith, subst, after, next_state, Text, gap, hk_row, hk_text, texts_below}
 use Rattle.std.proofs.lemmas.List.{append_assoc, append-nil}
 
 pub no_text : (t : Text) (f : ℕ → Text) → t ≡ t ++ texts_below 0 f

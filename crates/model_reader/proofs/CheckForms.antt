@@ -1,13 +1,11 @@
 -- A test of cells or of columns that is passed with one file's name in its refusals is passed with any other.
-use Rattle.model_reader.proofs.Common.{ok_gives_only, goes_on, GivesOnly, HasBasics, at_cell, cell_step, check_result, fault_at, StartHead, Thickness, IsDec}
-use Rattle.model_reader.proofs.Common.{IsStarted, IsNewPeriod, cell_tested, chosen_cell, column_step, column_tested, columns_tested, evap_fault, source}
-use Rattle.model_reader.proofs.Common.{SameBut, with_properties, IsGrid, IsTimed, cell_count, int_at, is_nonzero, layer_size, Grid, Limits, FlowModel, Period}
-use Rattle.model_reader.proofs.Common.{Refusal, Area, each_number, All, Bool, List, None, Ok, Option, Result, Some, ap, length, pos, refl, subst, suc, sum}
-use Rattle.model_reader.proofs.Common.{sum_by, sym, zero, ℕ, ℤ, ◌+◌, ◌∙◌, ◌≡◌, ◌≤◌, if◌then◌else◌, IsDiscretized, IsGridWithin, IsOfBeds, HasFlow, is_transient}
-use Rattle.model_reader.proofs.Common.{steps, [], cond, map, not, ◌∷◌, ◌||◌, length-map, with_basics}
+use Rattle.model_reader.proofs.Common.{ok_gives_only, goes_on, GivesOnly, HasBasics, at_cell, cell_step, check_result, fault_at, StartHead, Thickness, IsDec, IsStarted, IsNewPeriod, cell_tested}
+use Rattle.model_reader.proofs.Common.{chosen_cell, column_step, column_tested, columns_tested, evap_fault, source, SameBut, with_properties, IsGrid, IsTimed, cell_count, int_at, is_nonzero}
+use Rattle.model_reader.proofs.Common.{layer_size, Grid, Limits, FlowModel, Period, Refusal, Area, each_number, All, Bool, List, None, Ok, Option, Result, Some, ap, length, pos, refl, subst, suc, sum}
+use Rattle.model_reader.proofs.Common.{sum_by, sym, zero, ℕ, ℤ, ◌+◌, ◌∙◌, ◌≡◌, ◌≤◌, if◌then◌else◌, IsDiscretized, IsGridWithin, IsOfBeds, HasFlow, is_transient, steps, [], cond, map, not, ◌∷◌, ◌||◌}
+use Rattle.model_reader.proofs.Common.{length-map, with_basics}
 use Rattle.array_text.specs.{IsShort}
-use Rattle.number_limits.specs.declared.passing.Check.{Check}
-use Rattle.number_limits.specs.declared.passing.Check.TheVariants.{Properties as PropertyCheck}
+use Rattle.number_limits.specs.{declared.passing.Check.Check, declared.passing.Check.TheVariants.Properties as PropertyCheck}
 use Rattle.std.proofs.lemmas.List.Sums.{sum-map}
 use Rattle.std.specs.List.{list_any}
 use Rattle.outside.specs.declared.codes.Code.{Code}

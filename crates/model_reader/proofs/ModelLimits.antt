@@ -1,21 +1,13 @@
 -- A model that is read is in limits.
-use Rattle.model_reader.proofs.Common.{◌≡◌, ◌⊎◌, inl, inr, ℕ, ◌+◌, ◌<◌, ℤ, pos, ◌≤ℤ◌, Bool, true, false, not, ◌&&◌, ◌||◌, nat_le, nat_lt, List, [], ◌∷◌, All}
-use Rattle.model_reader.proofs.Common.{length, refl, sym, ap, arith, FlowModel, layer_size, cell_count, IsModel, IsCellValid, IsBedValid, IsBedChecked}
-use Rattle.model_reader.proofs.Common.{IsPeriod, Properties, StartHead, Thickness, is_transient, HasFlow, is_checked_bed, dec_at, is_active, has_bed, top_at}
-use Rattle.model_reader.proofs.Common.{bottom_at, lowest, negsuc, Result, Ok, Err, IfOk, FileSet, InputFault, Has, Pairs, model_of, All-nil, All-cons}
-use Rattle.model_reader.proofs.Common.{All-weaker, Dec, number, IsLayerArray, is_int, Grid, Limits, Period, Wells, Rivers, Drains, Generals, IsReals, is_option}
-use Rattle.model_reader.proofs.Common.{Area, HasArrays, evaporation_arrays, entry_list, given_list, is_thick, is_positive, is_same_number}
-use Rattle.std.proofs.lemmas.Bool.{and_parts, or_parts, not-true, lt-leb, lt-ltb, leb-true}
-use Rattle.number_limits.proofs.PassedCells.{each_passed}
-use Rattle.std.proofs.lemmas.Int.{ints}
-use Rattle.number_limits.proofs.Canonical.{dec_at_is}
-use Rattle.number_limits.proofs.HeadLemmas.{head_of}
-use Rattle.number_limits.proofs.FloorLemmas.{thick_sound}
-use Rattle.number_limits.proofs.SignLemmas.{one_dec, positive_of}
+use Rattle.model_reader.proofs.Common.{◌≡◌, ◌⊎◌, inl, inr, ℕ, ◌+◌, ◌<◌, ℤ, pos, ◌≤ℤ◌, Bool, true, false, not, ◌&&◌, ◌||◌, nat_le, nat_lt, List, [], ◌∷◌, All, length, refl, sym, ap, arith, FlowModel}
+use Rattle.model_reader.proofs.Common.{layer_size, cell_count, IsModel, IsCellValid, IsBedValid, IsBedChecked, IsPeriod, Properties, StartHead, Thickness, is_transient, HasFlow, is_checked_bed}
+use Rattle.model_reader.proofs.Common.{dec_at, is_active, has_bed, top_at, bottom_at, lowest, negsuc, Result, Ok, Err, IfOk, FileSet, InputFault, Has, Pairs, model_of, All-nil, All-cons, All-weaker}
+use Rattle.model_reader.proofs.Common.{Dec, number, IsLayerArray, is_int, Grid, Limits, Period, Wells, Rivers, Drains, Generals, IsReals, is_option, Area, HasArrays, evaporation_arrays, entry_list}
+use Rattle.model_reader.proofs.Common.{given_list, is_thick, is_positive, is_same_number}
+use Rattle.std.proofs.{lemmas.Bool.and_parts, lemmas.Bool.or_parts, lemmas.Bool.not-true, lemmas.Bool.lt-leb, lemmas.Bool.lt-ltb, lemmas.Bool.leb-true, lemmas.Int.ints}
+use Rattle.number_limits.proofs.{PassedCells.each_passed, Canonical.dec_at_is, HeadLemmas.head_of, FloorLemmas.thick_sound, SignLemmas.one_dec, SignLemmas.positive_of}
 use Rattle.evt_package.proofs.ModelLemmas.{evaps}
-use Rattle.model_reader.proofs.CheckForms.{IsSound}
-use Rattle.model_reader.proofs.PeriodForms.{IsKnown, IsOption}
-use Rattle.model_reader.proofs.ReadForms.{IsRead, model_is}
+use Rattle.model_reader.proofs.{CheckForms.IsSound, PeriodForms.IsKnown, PeriodForms.IsOption, ReadForms.IsRead, ReadForms.model_is}
 
 second : (a b : Bool) → (not a || b) ≡ true → a ≡ true → b ≡ true
 second true b e f = e

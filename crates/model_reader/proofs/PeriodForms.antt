@@ -1,8 +1,7 @@
 -- What is known of the stress periods of a model while its packages of stresses are read.
-use Rattle.model_reader.proofs.Common.{ArrayKind, Area, HasArrays, no_area, recharge_arrays, evaporation_arrays, steps, Kind, entries_in, given_heads, kind_of}
-use Rattle.model_reader.proofs.Common.{with_entries, with_list, IsListOf, ListKind, Drains, Generals, Rivers, Wells, is_option, IsGrowing, IsTimed, cell_count}
-use Rattle.model_reader.proofs.Common.{number_one, Grid, Limits, FlowModel, Period, Stresses, All, List, [], false, inl, inr, map, pos, refl, subst, sym, true}
-use Rattle.model_reader.proofs.Common.{ℕ, ℤ, ◌∙◌, ◌≡◌, ◌⊎◌, drains, generals, rivers, wells}
+use Rattle.model_reader.proofs.Common.{ArrayKind, Area, HasArrays, no_area, recharge_arrays, evaporation_arrays, steps, Kind, entries_in, given_heads, kind_of, with_entries, with_list, IsListOf}
+use Rattle.model_reader.proofs.Common.{ListKind, Drains, Generals, Rivers, Wells, is_option, IsGrowing, IsTimed, cell_count, number_one, Grid, Limits, FlowModel, Period, Stresses, All, List, []}
+use Rattle.model_reader.proofs.Common.{false, inl, inr, map, pos, refl, subst, sym, true, ℕ, ℤ, ◌∙◌, ◌≡◌, ◌⊎◌, drains, generals, rivers, wells}
 use Rattle.model_types.specs.declared.entry.Entry.{Entry}
 use Rattle.model_types.specs.declared.entry.Given.{Given}
 

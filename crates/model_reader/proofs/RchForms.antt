@@ -1,10 +1,8 @@
 -- What a file of RCH or of EVT gives.
-use Rattle.model_reader.proofs.Common.{ok_gives_only, then_, GivesOnly, evaporation_arrays, evt_of, steps, entries_in, kind_of, IsListOf, ListKind, Wells}
-use Rattle.model_reader.proofs.Common.{HasSize, cell_count, Grid, Limits, FlowModel, Period, Stresses, FileSet, ArrayKind, arrays_in, is_option, with_area}
-use Rattle.model_reader.proofs.Common.{Area, ◌>>=◌, All, List, Ok, false, inr, map, pos, refl, subst, sym, true, ℕ, ℤ, ◌∙◌, ◌≡◌, rch_of, recharge_arrays}
-use Rattle.model_reader.proofs.Common.{IsArea}
-use Rattle.model_reader.proofs.CheckForms.{columns_again}
-use Rattle.model_reader.proofs.PeriodForms.{ByOption, IsKnown, IsOption, IsStage, no_option, with_stresses}
+use Rattle.model_reader.proofs.Common.{ok_gives_only, then_, GivesOnly, evaporation_arrays, evt_of, steps, entries_in, kind_of, IsListOf, ListKind, Wells, HasSize, cell_count, Grid, Limits, FlowModel}
+use Rattle.model_reader.proofs.Common.{Period, Stresses, FileSet, ArrayKind, arrays_in, is_option, with_area, Area, ◌>>=◌, All, List, Ok, false, inr, map, pos, refl, subst, sym, true, ℕ, ℤ, ◌∙◌, ◌≡◌}
+use Rattle.model_reader.proofs.Common.{rch_of, recharge_arrays, IsArea}
+use Rattle.model_reader.proofs.{CheckForms.columns_again, PeriodForms.ByOption, PeriodForms.IsKnown, PeriodForms.IsOption, PeriodForms.IsStage, PeriodForms.no_option, PeriodForms.with_stresses}
 use Rattle.period_arrays.proofs.FileForms.{IsTested, arrays_are_read}
 
 -- a model with the arrays of a file by its option, on which NRCHOP and NEVTOP depend so; option 0 where there is no file

@@ -1,14 +1,12 @@
 -- A model that is read, in reading order.
-use Rattle.model_reader.proofs.Common.{All, List, Ok, subst, sym, ℕ, ◌≡◌, All-weaker, ok_gives_only, goes_on, then_, gives_only_less, GivesOnly, HasBasics}
-use Rattle.model_reader.proofs.Common.{check_result, StartHead, Thickness, IsStarted, dis_is, HasFlow, SameBut, bas_in, basics_tested, dis_in, lpf_in, model_of}
-use Rattle.model_reader.proofs.Common.{names_in, needed_file, reads, stresses, with_stresses, IsTimed, Limits, FlowModel, Pairs, Bas, Dis, Lpf, FileSet}
-use Rattle.model_reader.proofs.Common.{file_at}
+use Rattle.model_reader.proofs.Common.{All, List, Ok, subst, sym, ℕ, ◌≡◌, All-weaker, ok_gives_only, goes_on, then_, gives_only_less, GivesOnly, HasBasics, check_result, StartHead, Thickness}
+use Rattle.model_reader.proofs.Common.{IsStarted, dis_is, HasFlow, SameBut, bas_in, basics_tested, dis_in, lpf_in, model_of, names_in, needed_file, reads, stresses, with_stresses, IsTimed, Limits}
+use Rattle.model_reader.proofs.Common.{FlowModel, Pairs, Bas, Dis, Lpf, FileSet, file_at}
 use Rattle.bas_package.proofs.BasForms.{bas_is}
 use Rattle.number_limits.specs.declared.passing.Check.TheVariants.{Properties as PropertyCheck}
 use Rattle.lpf_package.proofs.LpfForms.{lpf_is}
-use Rattle.model_reader.proofs.CheckForms.{IsFlow, IsSound, flow_is, sound_again}
-use Rattle.model_reader.proofs.PeriodForms.{IsKnown, IsOption}
-use Rattle.model_reader.proofs.StageForms.{IsStressed, first_stage, stresses_are}
+use Rattle.model_reader.proofs.{CheckForms.IsFlow, CheckForms.IsSound, CheckForms.flow_is, CheckForms.sound_again, PeriodForms.IsKnown, PeriodForms.IsOption, StageForms.IsStressed}
+use Rattle.model_reader.proofs.{StageForms.first_stage, StageForms.stresses_are}
 
 -- a model with IBOUND and STRT that passed the tests of thickness and of starting heads
 pub record IsTested (dis bas : List ℕ) (begun basic : FlowModel) : Type 0 where

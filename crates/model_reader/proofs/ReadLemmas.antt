@@ -1,9 +1,8 @@
 -- Readings one after the other, and what comes of the whole.
-use Rattle.model_reader.proofs.Common.{◌≡◌, ℕ, List, Ok, length, refl, sym, subst, FileSet, file_at, input_fault, Stops, StopsText, FlowModel, check_result}
-use Rattle.model_reader.proofs.Common.{bas_in, basics_tested, lpf_in, lpf_of, ◌+◌, ◌<◌, Result, ◌>>=◌, Has, stress_in, with_stresses, ◌∙◌, drop, drop-cons}
-use Rattle.model_reader.proofs.Common.{get_or, add-one, ReadsOn, ◌≤◌, InputCounts, Properties, stops_all, Pairs, bas_of, Refusal, InputFault, Limits, drop_all}
-use Rattle.outside.specs.declared.inputs.TextFault.{TextFault}
-use Rattle.outside.specs.declared.traits.Folder.{Ghosts as FolderOf}
+use Rattle.model_reader.proofs.Common.{◌≡◌, ℕ, List, Ok, length, refl, sym, subst, FileSet, file_at, input_fault, Stops, StopsText, FlowModel, check_result, bas_in, basics_tested, lpf_in, lpf_of, ◌+◌}
+use Rattle.model_reader.proofs.Common.{◌<◌, Result, ◌>>=◌, Has, stress_in, with_stresses, ◌∙◌, drop, drop-cons, get_or, add-one, ReadsOn, ◌≤◌, InputCounts, Properties, stops_all, Pairs, bas_of}
+use Rattle.model_reader.proofs.Common.{Refusal, InputFault, Limits, drop_all}
+use Rattle.outside.specs.{declared.inputs.TextFault.TextFault, declared.traits.Folder.Ghosts as FolderOf}
 use Rattle.name_file.specs.declared.package.Package.{Package}
 use Rattle.outside.specs.declared.inputs.TextFault.TheVariants as texts
 

@@ -1,10 +1,8 @@
 -- The packages of stresses are read one after the other, each where the name file names it.
-use Rattle.model_reader.proofs.Common.{ok_gives_only, goes_on, then_, GivesOnly, Dec, IsNewPeriod, without_stresses, evt_of, Kind, entries_in, given_heads}
-use Rattle.model_reader.proofs.Common.{kind_of, package_of, with_list, IsEntry, IsListOf, ListKind, Drains, Generals, Rivers, Wells, file_in, stresses}
-use Rattle.model_reader.proofs.Common.{where_named, with_stresses, HasSize, IsTimed, cell_count, Grid, Limits, FlowModel, Period, file_of, Pairs, Chd, Drn, Evt}
-use Rattle.model_reader.proofs.Common.{Ghb, Rch, Riv, Wel, FileSet, file_at, All, Bool, List, None, Option, Some, [], arith, false, inl, Refusal, Result, map}
-use Rattle.model_reader.proofs.Common.{pos, refl, subst, sym, true, ℕ, ℤ, ◌∙◌, ◌≡◌, All-nil, if◌then◌else◌, rch_of, wells, lists_are, steps}
-use Rattle.model_reader.proofs.Common.{entry_place_is_cell}
+use Rattle.model_reader.proofs.Common.{ok_gives_only, goes_on, then_, GivesOnly, Dec, IsNewPeriod, without_stresses, evt_of, Kind, entries_in, given_heads, kind_of, package_of, with_list, IsEntry}
+use Rattle.model_reader.proofs.Common.{IsListOf, ListKind, Drains, Generals, Rivers, Wells, file_in, stresses, where_named, with_stresses, HasSize, IsTimed, cell_count, Grid, Limits, FlowModel}
+use Rattle.model_reader.proofs.Common.{Period, file_of, Pairs, Chd, Drn, Evt, Ghb, Rch, Riv, Wel, FileSet, file_at, All, Bool, List, None, Option, Some, [], arith, false, inl, Refusal, Result, map}
+use Rattle.model_reader.proofs.Common.{pos, refl, subst, sym, true, ℕ, ℤ, ◌∙◌, ◌≡◌, All-nil, if◌then◌else◌, rch_of, wells, lists_are, steps, entry_place_is_cell}
 use Rattle.model_types.specs.declared.grid.CellId.{CellId}
 use Rattle.model_reader.proofs.RchForms.{HasOption, evt_is, rch_is}
 use Rattle.model_reader.proofs.PeriodForms.{IsKnown, IsOption, IsStage, no_option, with_entry_list, with_given_list}

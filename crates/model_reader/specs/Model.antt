@@ -1,13 +1,11 @@
 -- A model from its files, in reading order: each file is read when its turn comes.
 use Rattle.std.specs.Prelude.{ℕ, List, Result, Ok, [], ◌∷◌, unwrap_or, Option, Some, None}
-use Rattle.outside.specs.{FileSet, file_at}
-use Rattle.outside.specs.declared.inputs.Refusal.{Refusal}
+use Rattle.outside.specs.{FileSet, file_at, declared.inputs.Refusal.Refusal}
 use Rattle.record_lines.specs.{◌>>=◌}
 use Rattle.name_file.specs.Pairs.{Pairs}
 use Rattle.name_file.specs.{file_of, names_of}
 use Rattle.name_file.specs.declared.package.Package.TheVariants.{Dis, Bas, Lpf, Wel, Riv, Drn, Ghb, Rch, Chd, Evt}
-use Rattle.model_types.specs.declared.limits.Limits.{Limits}
-use Rattle.model_types.specs.declared.model.FlowModel.{FlowModel}
+use Rattle.model_types.specs.{declared.limits.Limits.Limits, declared.model.FlowModel.FlowModel}
 use Rattle.dis_package.specs.{dis_of}
 use Rattle.bas_package.specs.{bas_of}
 use Rattle.lpf_package.specs.{lpf_of}

@@ -1,16 +1,14 @@
 -- The files of RCH and EVT are read as written.
-use Rattle.model_text.proofs.Common.{◌≡◌, ℕ, ℤ, Bool, true, false, if◌then◌else◌, List, [], ◌∷◌, ◌++◌, length, All, Ok, refl, arith, codes, All-head, All-tail}
-use Rattle.model_text.proofs.Common.{Dec, FileSet, Grid, HasSize, is_int, real_layer, area_at, array_or, arrays_of, nothing_yet, flags_of, is_option, IsReals}
-use Rattle.model_text.proofs.Common.{HasArrays, ArrayKind, with_area, contents, arrays_in, option_line, period_at, periods_of, tested_area, unit_if}
-use Rattle.model_text.proofs.Common.{integer_word, Line, IsLine, text, real_array, Takes, line_by_test, HasPackage, with_areas, rch_item_2, rch_items}
-use Rattle.model_text.proofs.Common.{rch_lines, evt_item_2, evt_items, evt_lines, flat_map, AllZip, FlowModel, Period, recharge_arrays, rch_of}
-use Rattle.model_text.proofs.Common.{evaporation_arrays, evt_of, takes_none, takes_where, then_takes, last_takes, line_takes, Area}
-use Rattle.model_text.proofs.FrameTexts.{zero_item}
-use Rattle.model_text.proofs.DisTexts.{line_is_item, item_takes, file_takes, each_takes}
+use Rattle.model_text.proofs.Common.{◌≡◌, ℕ, ℤ, Bool, true, false, if◌then◌else◌, List, [], ◌∷◌, ◌++◌, length, All, Ok, refl, arith, codes, All-head, All-tail, Dec, FileSet, Grid, HasSize, is_int}
+use Rattle.model_text.proofs.Common.{real_layer, area_at, array_or, arrays_of, nothing_yet, flags_of, is_option, IsReals, HasArrays, ArrayKind, with_area, contents, arrays_in, option_line, period_at}
+use Rattle.model_text.proofs.Common.{periods_of, tested_area, unit_if, integer_word, Line, IsLine, text, real_array, Takes, line_by_test, HasPackage, with_areas, rch_item_2, rch_items, rch_lines}
+use Rattle.model_text.proofs.Common.{evt_item_2, evt_items, evt_lines, flat_map, AllZip, FlowModel, Period, recharge_arrays, rch_of, evaporation_arrays, evt_of, takes_none, takes_where, then_takes}
+use Rattle.model_text.proofs.Common.{last_takes, line_takes, Area}
+use Rattle.model_text.proofs.{FrameTexts.zero_item, DisTexts.line_is_item, DisTexts.item_takes, DisTexts.file_takes, DisTexts.each_takes, GridTexts.reals_take, AreaTexts.flag_reads}
+use Rattle.model_text.proofs.{AreaTexts.flag_if_reads, AreaTexts.option_reads, AreaTexts.option_is_short, AreaTexts.option_is_item, AreaTexts.option_is_line, AreaTexts.layers_lines}
+use Rattle.model_text.proofs.{AreaTexts.layers_take}
 use Rattle.model_types.specs.declared.period.Stresses.{Stresses}
 use Rattle.period_arrays.specs.declared.area.InForce.{InForce}
-use Rattle.model_text.proofs.GridTexts.{reals_take}
-use Rattle.model_text.proofs.AreaTexts.{flag_reads, flag_if_reads, option_reads, option_is_short, option_is_item, option_is_line, layers_lines, layers_take}
 
 -- each array is read anew
 abbrev flags : Bool → Line

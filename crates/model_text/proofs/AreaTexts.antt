@@ -1,11 +1,9 @@
 -- Flags, arrays of one layer, and arrays of layers are read as written.
-use Rattle.model_text.proofs.Common.{◌≡◌, ℕ, zero, suc, ◌+◌, ◌^◌, ◌<◌, ◌≤◌, Bool, true, false, ◌&&◌, nat_lt, nat_le, if◌then◌else◌, List, [], ◌∷◌, length, drop}
-use Rattle.model_text.proofs.Common.{All, Ok, refl, arith, ℤ, pos, negsuc, codes, FileSet, is_comment, each_number, is_word, Grid, HasSize, is_int, layer_size}
-use Rattle.model_text.proofs.Common.{int_at, array_or, flag_at, flag_if, is_option, option_at, CoversLayer, is_layer, layer_step, layers_tested, layers_at}
-use Rattle.model_text.proofs.Common.{IsShort, integer_word, Line, IsLine, integer_array, Takes, integer_is_word, word_by_test, IsLayers, number_at, integer}
-use Rattle.model_text.proofs.Common.{arrays_read_back, digits_spell, takes_none, takes_where, last_takes, and_parts, leb-true}
-use Rattle.model_text.proofs.FrameTexts.{integer_item, no_keyword}
-use Rattle.model_text.proofs.DisTexts.{decimal_is_item}
+use Rattle.model_text.proofs.Common.{◌≡◌, ℕ, zero, suc, ◌+◌, ◌^◌, ◌<◌, ◌≤◌, Bool, true, false, ◌&&◌, nat_lt, nat_le, if◌then◌else◌, List, [], ◌∷◌, length, drop, All, Ok, refl, arith, ℤ, pos, negsuc}
+use Rattle.model_text.proofs.Common.{codes, FileSet, is_comment, each_number, is_word, Grid, HasSize, is_int, layer_size, int_at, array_or, flag_at, flag_if, is_option, option_at, CoversLayer}
+use Rattle.model_text.proofs.Common.{is_layer, layer_step, layers_tested, layers_at, IsShort, integer_word, Line, IsLine, integer_array, Takes, integer_is_word, word_by_test, IsLayers, number_at}
+use Rattle.model_text.proofs.Common.{integer, arrays_read_back, digits_spell, takes_none, takes_where, last_takes, and_parts, leb-true}
+use Rattle.model_text.proofs.{FrameTexts.integer_item, FrameTexts.no_keyword, DisTexts.decimal_is_item}
 
 one_item : (file : List ℕ) (line : ℕ) (ws : Line) → number_at integer file line (codes "1" ∷ ws) ≡ Ok (pos 1, ws)
 unfolding number_at integer

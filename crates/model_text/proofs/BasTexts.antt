@@ -1,16 +1,12 @@
 -- The file of BAS6 is read as written.
-use Rattle.model_text.proofs.Common.{◌≡◌, ℕ, zero, suc, ◌+◌, ◌*◌, ◌<◌, List, [], ◌∷◌, ◌++◌, length, drop, Result, Ok, refl, sym, arith, false, codes, flat_map}
-use Rattle.model_text.proofs.Common.{range_with_len, drop_all, drop-drop, take-append-drop, FileSet, Refusal, Left, is_comment, appended_readings, real}
-use Rattle.model_text.proofs.Common.{layer_array, real_layer, integer_layer, layers, Grid, FlowModel, layer_size, cell_count, IsShort, Line, line_text, text}
-use Rattle.model_text.proofs.Common.{Takes, line_by_test, arrays_read_back, layer_values, each_layer, IsDiscretized, IsBasic, bas_item_1, bas_item_2}
-use Rattle.model_text.proofs.Common.{bas_item_3, bas_item_4, bas_lines, head_item, basics_of, with_basics, bas_of, takes_none, then_takes, last_takes}
-use Rattle.model_text.proofs.Common.{line_takes}
+use Rattle.model_text.proofs.Common.{◌≡◌, ℕ, zero, suc, ◌+◌, ◌*◌, ◌<◌, List, [], ◌∷◌, ◌++◌, length, drop, Result, Ok, refl, sym, arith, false, codes, flat_map, range_with_len, drop_all, drop-drop}
+use Rattle.model_text.proofs.Common.{take-append-drop, FileSet, Refusal, Left, is_comment, appended_readings, real, layer_array, real_layer, integer_layer, layers, Grid, FlowModel, layer_size}
+use Rattle.model_text.proofs.Common.{cell_count, IsShort, Line, line_text, text, Takes, line_by_test, arrays_read_back, layer_values, each_layer, IsDiscretized, IsBasic, bas_item_1, bas_item_2}
+use Rattle.model_text.proofs.Common.{bas_item_3, bas_item_4, bas_lines, head_item, basics_of, with_basics, bas_of, takes_none, then_takes, last_takes, line_takes}
 use Rattle.array_reader.specs.{whole}
 use Rattle.model_text.specs.{real_layer as real_layer_lines, integer_layer as integer_layer_lines}
 use Rattle.bas_package.specs.{option_line}
-use Rattle.model_text.proofs.DisTexts.{file_takes, line_is_item}
-use Rattle.model_text.proofs.GridTexts.{layer_length, layer_has, layer_takes}
-use Rattle.model_text.proofs.FrameTexts.{zero_number_item}
+use Rattle.model_text.proofs.{DisTexts.file_takes, DisTexts.line_is_item, GridTexts.layer_length, GridTexts.layer_has, GridTexts.layer_takes, FrameTexts.zero_number_item}
 
 -- Readings that each take a layer's lines take those of all layers.
 module _ {X : Type 0} (read : Left → Result (List X × Left) Refusal) (g : Grid) (lines : ℕ → List Line) (xs : List X) (whole_list : length xs ≡ cell_count g)

@@ -1,15 +1,11 @@
 -- The file of DIS is read as written.
-use Rattle.model_text.proofs.Common.{◌≡◌, ℕ, ◌^◌, ◌<◌, ◌≤◌, ◌==◌, true, false, List, [], ◌∷◌, ◌++◌, append_assoc, length, map, All, Ok, refl, arith, ◌+◌}
-use Rattle.model_text.proofs.Common.{Result, codes, decimal, All-head, All-from_recursion, All-cons, nat_tests, FileSet, words, is_comment, Left}
-use Rattle.model_text.proofs.Common.{without_comments, left_from, next_number, for_each, begins_with, ◌>>=◌, Numbered, FlowModel, HasSize, without_stresses}
-use Rattle.model_text.proofs.Common.{beds_of, model_of_grid, head_of, dis_of, IsWord, Line, IsLine, line_text, text, number_after, Takes, numbered_lines}
-use Rattle.model_text.proofs.Common.{left_of_lines, word_by_test, count_is_word, integer_is_word, each_layer, dis_item_1, dis_item_2, dis_item_3, dis_item_4}
-use Rattle.model_text.proofs.Common.{dis_item_5, dis_item_6, dis_item_7, dis_lines, IsDiscretized, IsGridWithin, Limits, is_digit, digits_spell, then_takes}
-use Rattle.model_text.proofs.Common.{last_takes, line_takes, line_words, text_left, next_line, takes_none, free_lists, append-nil, flat_map, AllZip, Refusal}
-use Rattle.model_text.proofs.Common.{item_line}
-use Rattle.model_text.proofs.GridTexts.{grid_takes}
-use Rattle.model_text.proofs.FrameTexts.{frame_reads, beds_read}
-use Rattle.model_text.proofs.TimeTexts.{periods_take}
+use Rattle.model_text.proofs.Common.{◌≡◌, ℕ, ◌^◌, ◌<◌, ◌≤◌, ◌==◌, true, false, List, [], ◌∷◌, ◌++◌, append_assoc, length, map, All, Ok, refl, arith, ◌+◌, Result, codes, decimal, All-head}
+use Rattle.model_text.proofs.Common.{All-from_recursion, All-cons, nat_tests, FileSet, words, is_comment, Left, without_comments, left_from, next_number, for_each, begins_with, ◌>>=◌, Numbered}
+use Rattle.model_text.proofs.Common.{FlowModel, HasSize, without_stresses, beds_of, model_of_grid, head_of, dis_of, IsWord, Line, IsLine, line_text, text, number_after, Takes, numbered_lines}
+use Rattle.model_text.proofs.Common.{left_of_lines, word_by_test, count_is_word, integer_is_word, each_layer, dis_item_1, dis_item_2, dis_item_3, dis_item_4, dis_item_5, dis_item_6, dis_item_7}
+use Rattle.model_text.proofs.Common.{dis_lines, IsDiscretized, IsGridWithin, Limits, is_digit, digits_spell, then_takes, last_takes, line_takes, line_words, text_left, next_line, takes_none}
+use Rattle.model_text.proofs.Common.{free_lists, append-nil, flat_map, AllZip, Refusal, item_line}
+use Rattle.model_text.proofs.{GridTexts.grid_takes, FrameTexts.frame_reads, FrameTexts.beds_read, TimeTexts.periods_take}
 
 -- A file of lines is read from its first line on, and a list of periods period by period.
 -- the first line of a file of stresses, and what follows it

@@ -1,12 +1,9 @@
 -- The entries of a list are read as written.
-use Rattle.model_text.proofs.Common.{◌≡◌, ℕ, ◌+◌, ◌^◌, ◌<◌, Bool, true, false, List, [], ◌∷◌, length, map, get_or, set, All, None, Ok, refl, sym, subst, arith}
-use Rattle.model_text.proofs.Common.{decimal, All-append, All-map, All-weaker, All-head, All-tail, All-from_recursion, Dec, repeated_reading, Grid, CellId}
-use Rattle.model_text.proofs.Common.{cell_count, layer_of, row_of, column_of, place, HasSize, row_below, column_below, layer_below, entry_of, entry_at}
-use Rattle.model_text.proofs.Common.{is_left_out, no_marks, new_list, Kind, first_fault, Differ, IsWord, number_word, Line, IsLine, Takes, count_is_word}
-use Rattle.model_text.proofs.Common.{list_item_6, IsEntry, IsDec, number_at, number, zero, suc, cond, replicate, ◌∙◌, AllPairs, get_or-set_other, takes_none}
-use Rattle.model_text.proofs.Common.{then_takes, last_takes, line_takes}
-use Rattle.model_text.proofs.FrameTexts.{decimal_item, number_item, is_entry, cell_reads}
-use Rattle.model_text.proofs.TimeTexts.{canonical_word}
+use Rattle.model_text.proofs.Common.{◌≡◌, ℕ, ◌+◌, ◌^◌, ◌<◌, Bool, true, false, List, [], ◌∷◌, length, map, get_or, set, All, None, Ok, refl, sym, subst, arith, decimal, All-append, All-map}
+use Rattle.model_text.proofs.Common.{All-weaker, All-head, All-tail, All-from_recursion, Dec, repeated_reading, Grid, CellId, cell_count, layer_of, row_of, column_of, place, HasSize, row_below}
+use Rattle.model_text.proofs.Common.{column_below, layer_below, entry_of, entry_at, is_left_out, no_marks, new_list, Kind, first_fault, Differ, IsWord, number_word, Line, IsLine, Takes, count_is_word}
+use Rattle.model_text.proofs.Common.{list_item_6, IsEntry, IsDec, number_at, number, zero, suc, cond, replicate, ◌∙◌, AllPairs, get_or-set_other, takes_none, then_takes, last_takes, line_takes}
+use Rattle.model_text.proofs.{FrameTexts.decimal_item, FrameTexts.number_item, FrameTexts.is_entry, FrameTexts.cell_reads, TimeTexts.canonical_word}
 
 -- The cells of a list's entries are not marked when their turn comes.
 module _ {E : Type 0} (kind : Kind E) where

@@ -1,8 +1,7 @@
 -- The files of a deck are found by their names.
-use Rattle.model_text.proofs.Common.{◌≡◌, ℕ, ◌≤◌, ◌==◌, Bool, true, false, nat_le, List, [], ◌∷◌, ◌++◌, length, map, filter, All, Option, Some, Ok, refl, sym}
-use Rattle.model_text.proofs.Common.{ap, ◌∙◌, arith, list_any, list_all, All-head, All-tail, nat_tests, File, bytes_under, file_at, folder_name, with_limit}
-use Rattle.model_text.proofs.Common.{is_same_package, Package, FlowModel, text, packages, name_item, IsFileName, AreNames, has, lines_of, package_file, written}
-use Rattle.model_text.proofs.Common.{deck_name, deck_names, is_itself, not, cond, None, not-true, Dis, word_by_test, all_pass, zone_name, bytes_eq}
+use Rattle.model_text.proofs.Common.{◌≡◌, ℕ, ◌≤◌, ◌==◌, Bool, true, false, nat_le, List, [], ◌∷◌, ◌++◌, length, map, filter, All, Option, Some, Ok, refl, sym, ap, ◌∙◌, arith, list_any, list_all}
+use Rattle.model_text.proofs.Common.{All-head, All-tail, nat_tests, File, bytes_under, file_at, folder_name, with_limit, is_same_package, Package, FlowModel, text, packages, name_item, IsFileName}
+use Rattle.model_text.proofs.Common.{AreNames, has, lines_of, package_file, written, deck_name, deck_names, is_itself, not, cond, None, not-true, Dis, word_by_test, all_pass, zone_name, bytes_eq}
 use Rattle.model_text.proofs.PackageTexts.{item_found}
 use Rattle.std.proofs.lemmas.Slice.Eq.{bytes_eq-Decides}
 

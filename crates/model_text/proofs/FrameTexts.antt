@@ -1,13 +1,11 @@
 -- DIS items 1 and 2 are read as written.
-use Rattle.model_text.proofs.Common.{◌≡◌, ℕ, suc, ◌+◌, ◌-◌, ◌*◌, ◌<◌, ◌≤◌, true, List, [], ◌∷◌, ◌++◌, length, take, map, nat_le, All, Ok, refl, sym, ap, ◌∙◌}
-use Rattle.model_text.proofs.Common.{arith, ℤ, pos, codes, decimal, map-append, length-take-le, take_more, take_all, All-nil, All-cons, All-append, All-take}
-use Rattle.model_text.proofs.Common.{All-weaker, nat_tests, Left, next_number, repeated_reading, beginning, is_word, integer, value_at, value_alone, zero_at}
-use Rattle.model_text.proofs.Common.{number, canonical, number_at, Grid, FlowModel, HasSize, IsGrid, int_at, most_layers, most_in_row, most_cells, no_number}
-use Rattle.model_text.proofs.Common.{cell_count, layer_of, row_of, column_of, size_at, frame_of, beds_of, count_at, IsShort, IsWord, integer_word, Line}
-use Rattle.model_text.proofs.Common.{left_of_lines, row_line, number_word, IsWrittenAs, on_line, value_reads, values_read, last_word, line_begins, alone_begins}
-use Rattle.model_text.proofs.Common.{same_start, row_is_words, integer_written, dis_item_1, dis_item_2, IsDiscretized, IsGridWithin, Limits, layers_few}
-use Rattle.model_text.proofs.Common.{in_row_few, ◌^◌, nat_lt, Some, Dec, IsDec, is_digit, within, number_reads, integer_reads, ◌==◌, false, drop, All-head}
-use Rattle.model_text.proofs.Common.{CellId, row_below, column_below, layer_below, place_gives, cell_at, is_left_out, digits_spell}
+use Rattle.model_text.proofs.Common.{◌≡◌, ℕ, suc, ◌+◌, ◌-◌, ◌*◌, ◌<◌, ◌≤◌, true, List, [], ◌∷◌, ◌++◌, length, take, map, nat_le, All, Ok, refl, sym, ap, ◌∙◌, arith, ℤ, pos, codes, decimal, map-append}
+use Rattle.model_text.proofs.Common.{length-take-le, take_more, take_all, All-nil, All-cons, All-append, All-take, All-weaker, nat_tests, Left, next_number, repeated_reading, beginning, is_word}
+use Rattle.model_text.proofs.Common.{integer, value_at, value_alone, zero_at, number, canonical, number_at, Grid, FlowModel, HasSize, IsGrid, int_at, most_layers, most_in_row, most_cells, no_number}
+use Rattle.model_text.proofs.Common.{cell_count, layer_of, row_of, column_of, size_at, frame_of, beds_of, count_at, IsShort, IsWord, integer_word, Line, left_of_lines, row_line, number_word}
+use Rattle.model_text.proofs.Common.{IsWrittenAs, on_line, value_reads, values_read, last_word, line_begins, alone_begins, same_start, row_is_words, integer_written, dis_item_1, dis_item_2}
+use Rattle.model_text.proofs.Common.{IsDiscretized, IsGridWithin, Limits, layers_few, in_row_few, ◌^◌, nat_lt, Some, Dec, IsDec, is_digit, within, number_reads, integer_reads, ◌==◌, false, drop}
+use Rattle.model_text.proofs.Common.{All-head, CellId, row_below, column_below, layer_below, place_gives, cell_at, is_left_out, digits_spell}
 use Rattle.std.specs.Char.{to_ascii_lowercase}
 
 -- Counts in lines.

@@ -1,14 +1,11 @@
 -- DIS items 3 to 6 are read as written.
-use Rattle.model_text.proofs.Common.{◌≡◌, ℕ, ◌+◌, ◌*◌, ◌<◌, ◌≤◌, Bool, true, false, if◌then◌else◌, List, [], ◌++◌, length, take, replicate, All, refl, arith}
-use Rattle.model_text.proofs.Common.{list_all, All-weaker, Dec, IsDec, FileSet, real, real_layer, layer_or, Grid, layer_size, cell_count, HasSize, IsGrid}
-use Rattle.model_text.proofs.Common.{int_at, is_nonzero, no_number, IsPositive, is_positive, number_word, real_array, Takes, one, real_one, reals_written}
-use Rattle.model_text.proofs.Common.{arrays_read_back, layer_values, each_layer, dis_item_3, dis_item_4, dis_item_5, dis_item_6, IsOfBeds, ◌-◌, drop, ◌∙◌}
-use Rattle.model_text.proofs.Common.{length-drop, length-take-le, take_all, All-take, All-drop, array_takes, takes_none, takes_where, then_takes, last_takes}
-use Rattle.model_text.proofs.Common.{counted_take, widths, bottom_at, bottoms_of, grid_of, drop-take, take-append-drop, take-take, list_all-from_AllPass}
-use Rattle.model_text.proofs.Common.{positive_is}
+use Rattle.model_text.proofs.Common.{◌≡◌, ℕ, ◌+◌, ◌*◌, ◌<◌, ◌≤◌, Bool, true, false, if◌then◌else◌, List, [], ◌++◌, length, take, replicate, All, refl, arith, list_all, All-weaker, Dec, IsDec, FileSet}
+use Rattle.model_text.proofs.Common.{real, real_layer, layer_or, Grid, layer_size, cell_count, HasSize, IsGrid, int_at, is_nonzero, no_number, IsPositive, is_positive, number_word, real_array, Takes}
+use Rattle.model_text.proofs.Common.{one, real_one, reals_written, arrays_read_back, layer_values, each_layer, dis_item_3, dis_item_4, dis_item_5, dis_item_6, IsOfBeds, ◌-◌, drop, ◌∙◌, length-drop}
+use Rattle.model_text.proofs.Common.{length-take-le, take_all, All-take, All-drop, array_takes, takes_none, takes_where, then_takes, last_takes, counted_take, widths, bottom_at, bottoms_of, grid_of}
+use Rattle.model_text.proofs.Common.{drop-take, take-append-drop, take-take, list_all-from_AllPass, positive_is}
 use Rattle.model_text.specs.{real_layer as real_layer_lines}
-use Rattle.dis_package.specs.declared.frame.Size.{Size}
-use Rattle.dis_package.specs.declared.bottoms.Bottoms.{Bottoms}
+use Rattle.dis_package.specs.{declared.frame.Size.Size, declared.bottoms.Bottoms.Bottoms}
 use Rattle.std.proofs.Math.Nat.{mul-le-mul_right}
 
 take_more : {X : Type 0} (a b : ℕ) (xs : List X) → take a xs ++ take b (drop a xs) ≡ take (a + b) xs

@@ -1,15 +1,12 @@
 -- The file of a list package is read as written.
-use Rattle.model_text.proofs.Common.{◌≡◌, ℕ, suc, ◌^◌, ◌<◌, ◌≤◌, max, Bool, true, false, nat_le, fold, List, [], ◌∷◌, length, map, drop, All, Option, Some}
-use Rattle.model_text.proofs.Common.{None, is_some, Ok, refl, arith, codes, decimal, AllZip, flat_map, All-cons, nat_tests, Dec, is_word, ◌>>=◌, Grid}
-use Rattle.model_text.proofs.Common.{cell_count, HasSize, most_entries, dec_at, cell_of, Kind, header_of, item_line, list_at, lists_of, given_heads, with_list}
-use Rattle.model_text.proofs.Common.{Line, IsLine, text, Takes, digits_spell, count_is_word, word_by_test, list_item_2, list_item_5, period_list, list_lines}
-use Rattle.model_text.proofs.Common.{IsListOf, with_lists, numbers_of, heads_of, ListPackagesReadAsWritten, Limits, Period, entries_few, CellId, wells, rivers}
-use Rattle.model_text.proofs.Common.{drains, generals, number_at, integer, words, last_takes, line_takes}
-use Rattle.list_package.specs.{period_at, periods_of}
-use Rattle.list_package.specs.declared.header.Count.TheVariants.{Entries}
-use Rattle.model_text.proofs.FrameTexts.{decimal_item, no_keyword}
-use Rattle.model_text.proofs.DisTexts.{item_takes, whole_file, each_takes, line_is_item, decimal_is_item}
-use Rattle.model_text.proofs.EntryTexts.{all_free, WritesNumbers, list_takes}
+use Rattle.model_text.proofs.Common.{◌≡◌, ℕ, suc, ◌^◌, ◌<◌, ◌≤◌, max, Bool, true, false, nat_le, fold, List, [], ◌∷◌, length, map, drop, All, Option, Some, None, is_some, Ok, refl, arith, codes}
+use Rattle.model_text.proofs.Common.{decimal, AllZip, flat_map, All-cons, nat_tests, Dec, is_word, ◌>>=◌, Grid, cell_count, HasSize, most_entries, dec_at, cell_of, Kind, header_of, item_line, list_at}
+use Rattle.model_text.proofs.Common.{lists_of, given_heads, with_list, Line, IsLine, text, Takes, digits_spell, count_is_word, word_by_test, list_item_2, list_item_5, period_list, list_lines}
+use Rattle.model_text.proofs.Common.{IsListOf, with_lists, numbers_of, heads_of, ListPackagesReadAsWritten, Limits, Period, entries_few, CellId, wells, rivers, drains, generals, number_at, integer}
+use Rattle.model_text.proofs.Common.{words, last_takes, line_takes}
+use Rattle.list_package.specs.{period_at, periods_of, declared.header.Count.TheVariants.Entries}
+use Rattle.model_text.proofs.{FrameTexts.decimal_item, FrameTexts.no_keyword, DisTexts.item_takes, DisTexts.whole_file, DisTexts.each_takes, DisTexts.line_is_item, DisTexts.decimal_is_item}
+use Rattle.model_text.proofs.{EntryTexts.all_free, EntryTexts.WritesNumbers, EntryTexts.list_takes}
 
 -- a count and a 0 on a line
 pub counts_are_line : (n : ℕ) → n < 10 ^ 18 → IsLine (decimal n ∷ codes "0" ∷ [])

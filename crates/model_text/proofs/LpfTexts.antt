@@ -1,14 +1,11 @@
 -- The file of LPF is read as written.
-use Rattle.model_text.proofs.Common.{◌≡◌, ℕ, ◌+◌, ◌*◌, ◌<◌, Bool, true, false, not, ◌||◌, List, [], ◌∷◌, length, map, take, Ok, refl, sym, ap, ◌∙◌, arith}
-use Rattle.model_text.proofs.Common.{codes, take_all, FileSet, is_comment, FlowModel, Period, layer_size, int_at, is_nonzero, dec_at, no_number}
-use Rattle.model_text.proofs.Common.{without_stresses, is_transient, with_properties, contents_of, lpf_of, layer_at, layers_of, storage_layer, properties_of}
-use Rattle.model_text.proofs.Common.{nth_layer, line_text, text, Takes, each_layer, storage_option, lpf_item_1, lpf_arrays, lpf_lines, IsDiscretized, HasFlow}
-use Rattle.model_text.proofs.Common.{layer_values, if◌then◌else◌, replicate, get_or-replicate, nil_from_length, Dec, takes_none, takes_where, then_takes}
-use Rattle.model_text.proofs.Common.{drop_all, last_takes, counted_take}
+use Rattle.model_text.proofs.Common.{◌≡◌, ℕ, ◌+◌, ◌*◌, ◌<◌, Bool, true, false, not, ◌||◌, List, [], ◌∷◌, length, map, take, Ok, refl, sym, ap, ◌∙◌, arith, codes, take_all, FileSet, is_comment}
+use Rattle.model_text.proofs.Common.{FlowModel, Period, layer_size, int_at, is_nonzero, dec_at, no_number, without_stresses, is_transient, with_properties, contents_of, lpf_of, layer_at, layers_of}
+use Rattle.model_text.proofs.Common.{storage_layer, properties_of, nth_layer, line_text, text, Takes, each_layer, storage_option, lpf_item_1, lpf_arrays, lpf_lines, IsDiscretized, HasFlow}
+use Rattle.model_text.proofs.Common.{layer_values, if◌then◌else◌, replicate, get_or-replicate, nil_from_length, Dec, takes_none, takes_where, then_takes, drop_all, last_takes, counted_take}
 use Rattle.model_text.specs.{real_layer}
-use Rattle.model_text.proofs.GridTexts.{one_more_layer, all_layers, layer_takes, layer_or_takes}
-use Rattle.model_text.proofs.DisTexts.{line_is_item, file_takes}
-use Rattle.model_text.proofs.SettingTexts.{settings_take, option_takes, minus_one}
+use Rattle.model_text.proofs.{GridTexts.one_more_layer, GridTexts.all_layers, GridTexts.layer_takes, GridTexts.layer_or_takes, DisTexts.line_is_item, DisTexts.file_takes, SettingTexts.settings_take}
+use Rattle.model_text.proofs.{SettingTexts.option_takes, SettingTexts.minus_one}
 use Rattle.lpf_package.specs.declared.layer.Properties.{Properties}
 
 -- LPF items 10 to 15 of a layer are read as written.

@@ -1,15 +1,13 @@
 -- No line of a deck's files is one at which its text is cut: it has no letter F or N, or it is one of a few fixed lines.
-use Rattle.model_text.proofs.Common.{◌≡◌, ◌==◌, ◌&&◌, ◌+◌, ◌<◌, ◌/◌, ◌%◌, ℕ, zero, suc, Bool, true, false, not, List, [], ◌∷◌, ◌++◌, map, filter, refl, ap, ◌∙◌}
-use Rattle.model_text.proofs.Common.{sym, append_assoc, arith, nat_tests, ℤ, pos, negsuc, flat_map, decimal, codes, if◌then◌else◌, nat_lt, Dec, Line, Grid}
-use Rattle.model_text.proofs.Common.{FlowModel, Period, Package, Dis, Bas, Lpf, Wel, Riv, Drn, Ghb, Rch, Chd, Evt, line_text, text, number_word, integer_word}
-use Rattle.model_text.proofs.Common.{row_line, row_lines, real_array, integer_array, lines, range_with_len, replicate, length, place, packages, has, lines_of}
-use Rattle.model_text.proofs.Common.{deck_names, layer_values, each_layer, steady_word, storage_option, name_item, is_mark, is_transient, is_nonzero, int_at}
-use Rattle.model_text.proofs.Common.{is_int, numbers_of, bas_item_1, bas_item_2, bas_item_3, bas_item_4, bas_lines, dis_item_1, dis_item_2, dis_item_3}
-use Rattle.model_text.proofs.Common.{dis_item_4, dis_item_5, dis_item_6, dis_item_7, dis_lines, evt_item_2, evt_items, evt_lines, list_item_2, list_item_5}
-use Rattle.model_text.proofs.Common.{list_item_6, list_lines, lpf_arrays, lpf_item_1, lpf_item_4, lpf_item_5, lpf_lines, lpf_zeros, period_list, rch_item_2}
-use Rattle.model_text.proofs.Common.{rch_items, rch_lines, heads_of, cell_of, join_with_byte, AllByRecursion, All, All-from_recursion, File, is_good_name}
-use Rattle.model_text.proofs.Common.{zone_name, HasNoMark, NoLineIsAMark, name_file, package_file, deck_name, written, zone_file, zoned_files, Option, Some}
-use Rattle.model_text.proofs.Common.{None, subst, append-nil, list_all, array_lines, in_rows, sign, digits_onto, digit_glyph, signed_decimal}
+use Rattle.model_text.proofs.Common.{◌≡◌, ◌==◌, ◌&&◌, ◌+◌, ◌<◌, ◌/◌, ◌%◌, ℕ, zero, suc, Bool, true, false, not, List, [], ◌∷◌, ◌++◌, map, filter, refl, ap, ◌∙◌, sym, append_assoc, arith, nat_tests, ℤ}
+use Rattle.model_text.proofs.Common.{pos, negsuc, flat_map, decimal, codes, if◌then◌else◌, nat_lt, Dec, Line, Grid, FlowModel, Period, Package, Dis, Bas, Lpf, Wel, Riv, Drn, Ghb, Rch, Chd, Evt}
+use Rattle.model_text.proofs.Common.{line_text, text, number_word, integer_word, row_line, row_lines, real_array, integer_array, lines, range_with_len, replicate, length, place, packages, has}
+use Rattle.model_text.proofs.Common.{lines_of, deck_names, layer_values, each_layer, steady_word, storage_option, name_item, is_mark, is_transient, is_nonzero, int_at, is_int, numbers_of, bas_item_1}
+use Rattle.model_text.proofs.Common.{bas_item_2, bas_item_3, bas_item_4, bas_lines, dis_item_1, dis_item_2, dis_item_3, dis_item_4, dis_item_5, dis_item_6, dis_item_7, dis_lines, evt_item_2}
+use Rattle.model_text.proofs.Common.{evt_items, evt_lines, list_item_2, list_item_5, list_item_6, list_lines, lpf_arrays, lpf_item_1, lpf_item_4, lpf_item_5, lpf_lines, lpf_zeros, period_list}
+use Rattle.model_text.proofs.Common.{rch_item_2, rch_items, rch_lines, heads_of, cell_of, join_with_byte, AllByRecursion, All, All-from_recursion, File, is_good_name, zone_name, HasNoMark}
+use Rattle.model_text.proofs.Common.{NoLineIsAMark, name_file, package_file, deck_name, written, zone_file, zoned_files, Option, Some, None, subst, append-nil, list_all, array_lines, in_rows, sign}
+use Rattle.model_text.proofs.Common.{digits_onto, digit_glyph, signed_decimal}
 use Rattle.model_text.specs.{integer_layer, real_layer}
 unfoldable use Rattle.std.specs.Fmt.{digits}
 

@@ -1,12 +1,10 @@
 -- A model that is read is writable.
-use Rattle.model_text.proofs.Common.{pos, negsuc, nat_abs, ◌<◌, ◌^◌, arith, ◌≡◌, ◌⊎◌, inl, inr, ℕ, ℤ, List, All, Ok, All-weaker, Period, IsShort, HasPackage}
-use Rattle.model_text.proofs.Common.{LacksPackage, IsWritable, deck_name, deck_names, IsReadAgain, ModelsReadAreReadAsWritten, most_bytes, ArrayKind, HasArrays}
-use Rattle.model_text.proofs.Common.{no_area, recharge_arrays, evaporation_arrays, FileSet, FlowModel, reads, Limits}
-use Rattle.model_text.proofs.FileTexts.{good_names}
-use Rattle.model_text.proofs.ModelTexts.{model_reads}
+use Rattle.model_text.proofs.Common.{pos, negsuc, nat_abs, ◌<◌, ◌^◌, arith, ◌≡◌, ◌⊎◌, inl, inr, ℕ, ℤ, List, All, Ok, All-weaker, Period, IsShort, HasPackage, LacksPackage, IsWritable, deck_name}
+use Rattle.model_text.proofs.Common.{deck_names, IsReadAgain, ModelsReadAreReadAsWritten, most_bytes, ArrayKind, HasArrays, no_area, recharge_arrays, evaporation_arrays, FileSet, FlowModel, reads}
+use Rattle.model_text.proofs.Common.{Limits}
+use Rattle.model_text.proofs.{FileTexts.good_names, ModelTexts.model_reads}
 use Rattle.list_package.specs.declared.entries.ListKind.TheVariants.{Wells, Rivers, Drains, Generals}
-use Rattle.model_reader.proofs.PeriodForms.{ByOption, IsKnown, IsOption}
-use Rattle.model_reader.proofs.ReadForms.{IsRead, read_is}
+use Rattle.model_reader.proofs.{PeriodForms.ByOption, PeriodForms.IsKnown, PeriodForms.IsOption, ReadForms.IsRead, ReadForms.read_is}
 
 module _ (limits : Limits) (m : FlowModel) (r : IsRead limits m) where
   -- what is known of each period

@@ -1,21 +1,15 @@
 -- A model is read as written.
-use Rattle.model_text.proofs.Common.{with_limit, FileSet, file_at, ◌≡◌, ℕ, ◌≤◌, pos, Bool, true, false, if◌then◌else◌, List, [], ◌∷◌, length, map, All, Some}
-use Rattle.model_text.proofs.Common.{None, Ok, refl, ap, list_any, Pairs, is_same_package, file_of, Package, Dis, Bas, Lpf, Wel, Riv, Drn, Ghb, Rch, Chd, Evt}
-use Rattle.model_text.proofs.Common.{FlowModel, Period, HasSize, cell_of, stress_in, stresses, with_stresses, names_in, needed_file, dis_in, basics_tested}
-use Rattle.model_text.proofs.Common.{bas_in, lpf_in, model_of, reads, text, numbers_of, heads_of, packages, AreNames, has, lines_of, written, IsWritable}
-use Rattle.model_text.proofs.Common.{rch_lines, evt_lines, Limits, recharge_arrays, rch_of, wells, rivers, drains, generals, evaporation_arrays, evt_of}
-use Rattle.model_text.proofs.Common.{length-map, model_of_grid, without_stresses, with_basics, given_heads, check_result, fault_at, Thickness, StartHead, File}
-use Rattle.model_text.proofs.Common.{bytes_under, deck_files, deck_name, deck_names, filter, name_item, zone_file, zoned_files, Option}
-use Rattle.model_text.proofs.DisTexts.{dis_reads}
+use Rattle.model_text.proofs.Common.{with_limit, FileSet, file_at, ◌≡◌, ℕ, ◌≤◌, pos, Bool, true, false, if◌then◌else◌, List, [], ◌∷◌, length, map, All, Some, None, Ok, refl, ap, list_any, Pairs}
+use Rattle.model_text.proofs.Common.{is_same_package, file_of, Package, Dis, Bas, Lpf, Wel, Riv, Drn, Ghb, Rch, Chd, Evt, FlowModel, Period, HasSize, cell_of, stress_in, stresses, with_stresses}
+use Rattle.model_text.proofs.Common.{names_in, needed_file, dis_in, basics_tested, bas_in, lpf_in, model_of, reads, text, numbers_of, heads_of, packages, AreNames, has, lines_of, written, IsWritable}
+use Rattle.model_text.proofs.Common.{rch_lines, evt_lines, Limits, recharge_arrays, rch_of, wells, rivers, drains, generals, evaporation_arrays, evt_of, length-map, model_of_grid, without_stresses}
+use Rattle.model_text.proofs.Common.{with_basics, given_heads, check_result, fault_at, Thickness, StartHead, File, bytes_under, deck_files, deck_name, deck_names, filter, name_item, zone_file}
+use Rattle.model_text.proofs.Common.{zoned_files, Option}
+use Rattle.model_text.proofs.{DisTexts.dis_reads, BasTexts.bas_reads, LpfTexts.lpf_reads, ListTexts.list_packages, NameTexts.pairs_of, NameTexts.absent_package_has_no_file, NameTexts.present}
+use Rattle.model_text.proofs.{NameTexts.names_read, FileTexts.good_names, FileTexts.name_file_is, FileTexts.package_file_is, FileTexts.small_file, FileTexts.still_found, StageTexts.staged}
+use Rattle.model_text.proofs.{StageTexts.with_list, StageTexts.with_arrays, StageTexts.list_stage, StageTexts.arrays_stage, AreaFileTexts.evt_reads, AreaFileTexts.rch_reads}
 use Rattle.number_limits.specs.declared.passing.Check.TheVariants.{Properties}
 use Rattle.model_reader.proofs.CheckForms.{checks_kept}
-use Rattle.model_text.proofs.BasTexts.{bas_reads}
-use Rattle.model_text.proofs.LpfTexts.{lpf_reads}
-use Rattle.model_text.proofs.ListTexts.{list_packages}
-use Rattle.model_text.proofs.NameTexts.{pairs_of, absent_package_has_no_file, present, names_read}
-use Rattle.model_text.proofs.FileTexts.{good_names, name_file_is, package_file_is, small_file, still_found}
-use Rattle.model_text.proofs.StageTexts.{staged, with_list, with_arrays, list_stage, arrays_stage}
-use Rattle.model_text.proofs.AreaFileTexts.{evt_reads, rch_reads}
 
 -- The periods without stresses, and then with one package more at each stage.
 abbrev with_wells : Period → Period

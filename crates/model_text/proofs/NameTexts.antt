@@ -1,14 +1,11 @@
 -- The name file is read as written.
-use Rattle.model_text.proofs.Common.{◌≡◌, ℕ, ◌≤◌, Bool, true, false, nat_le, ◌&&◌, List, [], ◌∷◌, ◌++◌, append_assoc, length, map, filter, All, Some, None, Ok}
-use Rattle.model_text.proofs.Common.{refl, arith, list_any, append-nil, All-nil, All-cons, All-head, All-tail, All-from_recursion, nat_tests, is_good_name}
-use Rattle.model_text.proofs.Common.{next_number, word_at, name_at, Pairs, is_same_package, file_of, has_package, file_in, after_package, after_line}
-use Rattle.model_text.proofs.Common.{after_lines, names_of, Package, Dis, Bas, Lpf, IsWord, IsWordByte, Line, IsLine, line_text, text, numbered_lines}
-use Rattle.model_text.proofs.Common.{left_of_lines, packages, file_type, file_unit, name_item, IsFileName, AreNames, is_same, is_itself, line_words, text_left}
-use Rattle.model_text.proofs.Common.{All-weaker, list_all-from_AllPass}
+use Rattle.model_text.proofs.Common.{◌≡◌, ℕ, ◌≤◌, Bool, true, false, nat_le, ◌&&◌, List, [], ◌∷◌, ◌++◌, append_assoc, length, map, filter, All, Some, None, Ok, refl, arith, list_any, append-nil}
+use Rattle.model_text.proofs.Common.{All-nil, All-cons, All-head, All-tail, All-from_recursion, nat_tests, is_good_name, next_number, word_at, name_at, Pairs, is_same_package, file_of, has_package}
+use Rattle.model_text.proofs.Common.{file_in, after_package, after_line, after_lines, names_of, Package, Dis, Bas, Lpf, IsWord, IsWordByte, Line, IsLine, line_text, text, numbered_lines}
+use Rattle.model_text.proofs.Common.{left_of_lines, packages, file_type, file_unit, name_item, IsFileName, AreNames, is_same, is_itself, line_words, text_left, All-weaker, list_all-from_AllPass}
 use Rattle.name_file.specs.{whole}
 use Rattle.model_text.proofs.DisTexts.{line_is_item}
-use Rattle.model_text.proofs.PackageTexts.{type_is_word, unit_is_word, type_is_item, type_reads, type_is_kept, unit_is_integer, AreApart, packages_apart}
-use Rattle.model_text.proofs.PackageTexts.{item_found}
+use Rattle.model_text.proofs.PackageTexts.{type_is_word, unit_is_word, type_is_item, type_reads, type_is_kept, unit_is_integer, AreApart, packages_apart, item_found}
 
 good_byte : (b : ℕ) → IsWordByte b → (nat_le 33 b && nat_le b 126) ≡ true
 good_byte b k =

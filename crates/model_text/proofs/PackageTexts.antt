@@ -1,7 +1,6 @@
 -- Packages: their file types and units are words that are read as the package, and two packages are the same or apart.
-use Rattle.model_text.proofs.Common.{◌≡◌, Bool, true, false, not, ◌&&◌, List, [], ◌∷◌, All, Some, refl, list_all, list_any, is_comment, is_same_package}
-use Rattle.model_text.proofs.Common.{is_integer, package_of, is_passed_over, Package, Dis, IsWord, word_by_test, all_pass, packages, file_type, file_unit}
-use Rattle.model_text.proofs.Common.{and_parts, not-true, ◌∙◌, Option, map, filter, is_same}
+use Rattle.model_text.proofs.Common.{◌≡◌, Bool, true, false, not, ◌&&◌, List, [], ◌∷◌, All, Some, refl, list_all, list_any, is_comment, is_same_package, is_integer, package_of, is_passed_over}
+use Rattle.model_text.proofs.Common.{Package, Dis, IsWord, word_by_test, all_pass, packages, file_type, file_unit, and_parts, not-true, ◌∙◌, Option, map, filter, is_same}
 
 pub type_is_word : (k : Package) → IsWord (file_type k)
 type_is_word Dis = word_by_test (file_type Dis) refl

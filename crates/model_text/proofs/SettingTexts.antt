@@ -1,10 +1,9 @@
 -- LPF items 1 to 6 are read as written.
-use Rattle.model_text.proofs.Common.{◌≡◌, ℕ, zero, suc, ◌+◌, ◌≤◌, Bool, true, false, List, [], ◌∷◌, length, replicate, All, Ok, refl, ap, arith, pos, codes}
-use Rattle.model_text.proofs.Common.{list_any, length-replicate, All-nil, All-cons, All-append, All-replicate, Dec, Left, next_number, each_number, beginning}
-use Rattle.model_text.proofs.Common.{is_word, number, integer, canonical, significant, zeros, value_at, free_list, zero_at, zero_step, zero_list, FlowModel}
-use Rattle.model_text.proofs.Common.{IsWord, Line, IsLine, left_of_lines, number_after, row_line, Takes, word_by_test, line_by_test, IsWrittenAs, on_line}
-use Rattle.model_text.proofs.Common.{value_reads, line_begins, free_list_reads, free_lists, storage_option, lpf_item_1, lpf_zeros, lpf_item_4, lpf_item_5}
-use Rattle.model_text.proofs.Common.{IsDiscretized, HasFlow, settings_of, one_line, takes_none, then_takes, last_takes, line_takes}
+use Rattle.model_text.proofs.Common.{◌≡◌, ℕ, zero, suc, ◌+◌, ◌≤◌, Bool, true, false, List, [], ◌∷◌, length, replicate, All, Ok, refl, ap, arith, pos, codes, list_any, length-replicate, All-nil}
+use Rattle.model_text.proofs.Common.{All-cons, All-append, All-replicate, Dec, Left, next_number, each_number, beginning, is_word, number, integer, canonical, significant, zeros, value_at, free_list}
+use Rattle.model_text.proofs.Common.{zero_at, zero_step, zero_list, FlowModel, IsWord, Line, IsLine, left_of_lines, number_after, row_line, Takes, word_by_test, line_by_test, IsWrittenAs, on_line}
+use Rattle.model_text.proofs.Common.{value_reads, line_begins, free_list_reads, free_lists, storage_option, lpf_item_1, lpf_zeros, lpf_item_4, lpf_item_5, IsDiscretized, HasFlow, settings_of}
+use Rattle.model_text.proofs.Common.{one_line, takes_none, then_takes, last_takes, line_takes}
 use Rattle.lpf_package.specs.{option_line}
 use Rattle.model_text.proofs.FrameTexts.{zero_item, zero_number_item}
 

@@ -1,8 +1,7 @@
 -- A model's packages of stresses are read one after the other, each where the model has it.
-use Rattle.model_text.proofs.Common.{◌≡◌, ◌⊎◌, inl, inr, ℕ, zero, suc, ℤ, pos, negsuc, Bool, true, false, not, nat_lt, if◌then◌else◌, List, [], ◌∷◌, length}
-use Rattle.model_text.proofs.Common.{map, All, Option, Some, None, Ok, refl, ap, ◌∙◌, arith, AllZip, or_parts, nat_tests, nil_from_length, All-head, All-tail}
-use Rattle.model_text.proofs.Common.{FileSet, file_at, FlowModel, Period, HasSize, cell_count, is_int, where_named, text, Line, list_lines, is_listed, HasLists}
-use Rattle.model_text.proofs.Common.{HasPackage, LacksPackage, IsListOf, with_lists, ListsReadAsWritten, with_areas, Result, Refusal, no_area, is_option}
+use Rattle.model_text.proofs.Common.{◌≡◌, ◌⊎◌, inl, inr, ℕ, zero, suc, ℤ, pos, negsuc, Bool, true, false, not, nat_lt, if◌then◌else◌, List, [], ◌∷◌, length, map, All, Option, Some, None, Ok, refl, ap}
+use Rattle.model_text.proofs.Common.{◌∙◌, arith, AllZip, or_parts, nat_tests, nil_from_length, All-head, All-tail, FileSet, file_at, FlowModel, Period, HasSize, cell_count, is_int, where_named, text}
+use Rattle.model_text.proofs.Common.{Line, list_lines, is_listed, HasLists, HasPackage, LacksPackage, IsListOf, with_lists, ListsReadAsWritten, with_areas, Result, Refusal, no_area, is_option}
 use Rattle.model_text.proofs.Common.{ArrayKind, with_area, Limits, Dec, Kind, Area}
 use Rattle.model_reader.specs.{file_in}
 use Rattle.list_package.specs.{with_list as put, package_of}

@@ -1,12 +1,10 @@
 -- DIS item 7 is read as written.
-use Rattle.model_text.proofs.Common.{◌≡◌, ℕ, ◌+◌, ◌*◌, ◌≤◌, ◌⊎◌, inl, inr, Bool, true, false, ◌||◌, List, [], ◌∷◌, length, map, nat_le, sum_by, fold, All, Ok}
-use Rattle.model_text.proofs.Common.{refl, arith, codes, decimal, All-head, All-tail, nat_tests, Dec, IsDec, Ratio, ratio, Refusal, repeated_reading, Period}
-use Rattle.model_text.proofs.Common.{without_stresses, kind_of, kind_or_refusal, is_growth, is_time, time_of, IsWord, number_word, IsLine, Takes}
-use Rattle.model_text.proofs.Common.{short_exponent, word_by_test, number_is_word, count_is_word, steady_word, dis_item_7, is_at_most, is_at_least, takes_none}
-use Rattle.model_text.proofs.Common.{line_takes, All-from_recursion, then_takes, last_takes, IsTimed, IsGrowing, number_one, sum_by_from, positive_is}
-use Rattle.dis_package.specs.{period_at, periods_of}
+use Rattle.model_text.proofs.Common.{◌≡◌, ℕ, ◌+◌, ◌*◌, ◌≤◌, ◌⊎◌, inl, inr, Bool, true, false, ◌||◌, List, [], ◌∷◌, length, map, nat_le, sum_by, fold, All, Ok, refl, arith, codes, decimal, All-head}
+use Rattle.model_text.proofs.Common.{All-tail, nat_tests, Dec, IsDec, Ratio, ratio, Refusal, repeated_reading, Period, without_stresses, kind_of, kind_or_refusal, is_growth, is_time, time_of, IsWord}
+use Rattle.model_text.proofs.Common.{number_word, IsLine, Takes, short_exponent, word_by_test, number_is_word, count_is_word, steady_word, dis_item_7, is_at_most, is_at_least, takes_none, line_takes}
+use Rattle.model_text.proofs.Common.{All-from_recursion, then_takes, last_takes, IsTimed, IsGrowing, number_one, sum_by_from, positive_is}
+use Rattle.dis_package.specs.{period_at, periods_of, declared.periods.Time.Time}
 use Rattle.decimal_input.specs.Ratios.{den, AtMost}
-use Rattle.dis_package.specs.declared.periods.Time.{Time}
 use Rattle.model_text.proofs.FrameTexts.{number_item, count_reads}
 
 pub canonical_word : (d : Dec) → IsDec d → IsWord (number_word d)

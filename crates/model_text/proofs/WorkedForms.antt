@@ -1,19 +1,15 @@
 -- Three cells in a row are a writable model.
-use Rattle.model_text.proofs.Common.{◌≡◌, ℕ, zero, suc, ◌%◌, ◌^◌, ◌<◌, ◌≤◌, inr, true, pos, negsuc, List, [], ◌∷◌, length, replicate, All, Ok, refl, arith}
-use Rattle.model_text.proofs.Common.{All-nil, All-cons, All-replicate, All-from_recursion, All-weaker, Period, no_number, IsTimed, IsPeriod, IsShort}
-use Rattle.model_text.proofs.Common.{number_word, integer_word, line_text, text, row_line, row_lines, real_array, integer_array, IsOfBeds, IsDiscretized}
-use Rattle.model_text.proofs.Common.{IsBasic, HasFlow, IsEntry, IsListOf, deck_name, deck_names, IsWritable, written, dis_lines, dis_item_1, dis_item_2}
-use Rattle.model_text.proofs.Common.{dis_item_3, dis_item_4, dis_item_5, dis_item_6, dis_item_7, bas_lines, bas_item_1, bas_item_2, bas_item_3, bas_item_4}
-use Rattle.model_text.proofs.Common.{lpf_lines, lpf_item_1, lpf_zeros, lpf_item_4, lpf_item_5, lpf_arrays, name_item, deck, ThreeCells, wells, rivers, drains}
-use Rattle.model_text.proofs.Common.{generals, recharge_arrays, evaporation_arrays, no_area, IsDec, scaled_ratio, ratio, units_of, each_number, check_result}
-use Rattle.model_text.proofs.Common.{fault_at, is_at_most, is_thick, Thickness, given_heads, Kind}
-use Rattle.model_text.proofs.FileTexts.{good_names}
-use Rattle.model_text.proofs.ModelTexts.{model_reads}
+use Rattle.model_text.proofs.Common.{◌≡◌, ℕ, zero, suc, ◌%◌, ◌^◌, ◌<◌, ◌≤◌, inr, true, pos, negsuc, List, [], ◌∷◌, length, replicate, All, Ok, refl, arith, All-nil, All-cons, All-replicate}
+use Rattle.model_text.proofs.Common.{All-from_recursion, All-weaker, Period, no_number, IsTimed, IsPeriod, IsShort, number_word, integer_word, line_text, text, row_line, row_lines, real_array}
+use Rattle.model_text.proofs.Common.{integer_array, IsOfBeds, IsDiscretized, IsBasic, HasFlow, IsEntry, IsListOf, deck_name, deck_names, IsWritable, written, dis_lines, dis_item_1, dis_item_2}
+use Rattle.model_text.proofs.Common.{dis_item_3, dis_item_4, dis_item_5, dis_item_6, dis_item_7, bas_lines, bas_item_1, bas_item_2, bas_item_3, bas_item_4, lpf_lines, lpf_item_1, lpf_zeros}
+use Rattle.model_text.proofs.Common.{lpf_item_4, lpf_item_5, lpf_arrays, name_item, deck, ThreeCells, wells, rivers, drains, generals, recharge_arrays, evaporation_arrays, no_area, IsDec}
+use Rattle.model_text.proofs.Common.{scaled_ratio, ratio, units_of, each_number, check_result, fault_at, is_at_most, is_thick, Thickness, given_heads, Kind}
+use Rattle.model_text.proofs.{FileTexts.good_names, ModelTexts.model_reads}
 use Rattle.number_limits.specs.declared.passing.Check.{Check}
 use Rattle.number_limits.proofs.Canonical.{no_number_is}
 use Rattle.std.specs.Fmt.{decimal as numeral}
-use Rattle.std.proofs.lemmas.Fmt.{decimal_digit}
-use Rattle.std.proofs.lemmas.Int.{ints}
+use Rattle.std.proofs.{lemmas.Fmt.decimal_digit, lemmas.Int.ints}
 use Rattle.model_types.specs.declared.limits.Limits.TheVariants.{Plain}
 use Rattle.flow_equations.specs.{decimal, period_with, three_cells}
 use Rattle.flow_equations.proofs.Validity.{three_valid}

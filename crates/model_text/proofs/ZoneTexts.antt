@@ -1,15 +1,12 @@
 -- The file of zones is read as written.
-use Rattle.model_text.proofs.Common.{◌≡◌, ℕ, ◌≤◌, false, not, pos, List, [], ◌∷◌, ◌++◌, length, map, filter, All, Some, None, refl, arith, append-nil}
-use Rattle.model_text.proofs.Common.{length-map, All-head, All-tail, All-map, All-weaker, nat_tests, File, FileSet, bytes_under, with_limit, Package, Dis}
-use Rattle.model_text.proofs.Common.{FlowModel, Grid, HasSize, cell_count, Takes, IsShort, nat_lt, arrays_read_back, layers, layer_array, integer_layer}
-use Rattle.model_text.proofs.Common.{each_layer, layer_values, deck_names, has, name_at, package_file, packages, text_left, written, zone_file, zone_name}
+use Rattle.model_text.proofs.Common.{◌≡◌, ℕ, ◌≤◌, false, not, pos, List, [], ◌∷◌, ◌++◌, length, map, filter, All, Some, None, refl, arith, append-nil, length-map, All-head, All-tail, All-map}
+use Rattle.model_text.proofs.Common.{All-weaker, nat_tests, File, FileSet, bytes_under, with_limit, Package, Dis, FlowModel, Grid, HasSize, cell_count, Takes, IsShort, nat_lt, arrays_read_back}
+use Rattle.model_text.proofs.Common.{layers, layer_array, integer_layer, each_layer, layer_values, deck_names, has, name_at, package_file, packages, text_left, written, zone_file, zone_name}
 use Rattle.model_text.proofs.Common.{zoned_files, ZonesReadAsWritten, position, position_or_len, bytes_eq, is_good_name}
 use Rattle.model_text.specs.{integer_layer as integer_layer_lines}
 use Rattle.array_reader.specs.{whole}
 use Rattle.zone_file.specs.{is_zone, zones_of, zones_tested}
-use Rattle.model_text.proofs.BasTexts.{layers_take}
-use Rattle.model_text.proofs.FileTexts.{small_file, zone_name_is_good}
-use Rattle.model_text.proofs.GridTexts.{layer_length, layer_has}
+use Rattle.model_text.proofs.{BasTexts.layers_take, FileTexts.small_file, FileTexts.zone_name_is_good, GridTexts.layer_length, GridTexts.layer_has}
 
 -- The file comes after those of the packages, none of which has its name.
 other_name : (k : Package) → bytes_eq zone_name (deck_names k) ≡ false

@@ -1,9 +1,6 @@
 -- The file of the discretization (TM 6-A16, input instructions, DIS).
 use Rattle.std.specs.Prelude.{ℕ, Bool, true, false, List, [], ◌∷◌, ◌++◌, map, length, codes, decimal, if◌then◌else◌, ◌*◌, ℤ, take, drop, replicate}
-use Rattle.model_types.specs.declared.grid.Grid.{Grid}
-use Rattle.model_types.specs.declared.model.FlowModel.{FlowModel}
-use Rattle.model_types.specs.declared.period.Period.{Period}
-use Rattle.model_types.specs.{int_at, is_nonzero, layer_size}
+use Rattle.model_types.specs.{declared.grid.Grid.Grid, declared.model.FlowModel.FlowModel, declared.period.Period.Period, int_at, is_nonzero, layer_size}
 use Rattle.array_text.specs.{number_word, integer_word, Line, row_line, real_array, integer_array}
 use Rattle.std.specs.List.{flat_map, range_with_len}
 use Rattle.decimal_input.specs.declared.dec.Dec.{Dec}

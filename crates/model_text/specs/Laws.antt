@@ -2,12 +2,11 @@
 use Rattle.std.specs.Prelude.{◌≡◌, ℕ, ◌≤◌, List, All, length, Ok, map, ◌⊎◌, pos, [], Some, ◌∷◌, ◌++◌, false, Option}
 use Rattle.name_file.specs.declared.package.Package.{Package}
 use Rattle.outside.specs.{with_limit, FileSet, File, lines}
-use Rattle.model_types.specs.declared.limits.Limits.{Limits}
-use Rattle.model_types.specs.declared.model.FlowModel.{FlowModel}
+use Rattle.model_types.specs.{declared.limits.Limits.Limits, declared.model.FlowModel.FlowModel, HasSize, cell_count, cell_of, most_bytes}
+use Rattle.model_types.specs.{declared.grid.Grid.Grid, declared.period.Period.Period, declared.limits.Limits.TheVariants.Plain}
 use Rattle.model_reader.specs.{reads}
 use Rattle.zone_file.specs.{zones_of}
 use Rattle.model_text.specs.Written.{AreNames, written, deck_name, deck_names, is_mark, IsReadAgain, zone_name, zoned_files}
-use Rattle.model_types.specs.{HasSize, cell_count, cell_of, most_bytes}
 use Rattle.stress_packages.specs.{rch_of, recharge_arrays, wells, rivers, drains, generals}
 use Rattle.evt_package.specs.{evaporation_arrays, evt_of}
 use Rattle.array_text.specs.{text, IsShort}
@@ -17,14 +16,10 @@ use Rattle.dis_package.specs.{IsDiscretized, IsGridWithin, model_of_grid, dis_of
 use Rattle.lpf_package.specs.{HasFlow, with_properties, lpf_of}
 use Rattle.std.specs.List.{AllZip, flat_map}
 use Rattle.decimal_input.specs.declared.dec.Dec.{Dec}
-use Rattle.model_types.specs.declared.grid.Grid.{Grid}
-use Rattle.model_types.specs.declared.period.Period.{Period}
 use Rattle.list_package.specs.{given_heads, Kind, IsListOf, lists_of, with_list}
 use Rattle.bas_package.specs.{with_basics, bas_of}
 use Rattle.model_text.specs.Discretization.{dis_lines, bas_lines, lpf_lines}
-use Rattle.number_limits.specs.{check_result}
-use Rattle.number_limits.specs.declared.passing.Check.{Check}
-use Rattle.model_types.specs.declared.limits.Limits.TheVariants.{Plain}
+use Rattle.number_limits.specs.{check_result, declared.passing.Check.Check}
 use Rattle.flow_equations.specs.{three_cells}
 
 -- What is asked of a model, so that files can say it.

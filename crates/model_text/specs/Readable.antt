@@ -1,8 +1,6 @@
 -- What is asked of IBOUND, STRT, recharge and evapotranspiration, so that a file can say them.
 use Rattle.std.specs.Prelude.{◌≡◌, ℤ, pos, true, List, [], ◌∷◌, All, length}
-use Rattle.model_types.specs.declared.model.FlowModel.{FlowModel}
-use Rattle.model_types.specs.declared.period.Period.{Period}
-use Rattle.model_types.specs.{cell_count}
+use Rattle.model_types.specs.{declared.model.FlowModel.FlowModel, declared.period.Period.Period, cell_count}
 use Rattle.period_arrays.specs.{is_option, no_area, HasArrays, ArrayKind, with_area}
 use Rattle.array_text.specs.{IsShort}
 use Rattle.decimal_input.specs.{IsDec}

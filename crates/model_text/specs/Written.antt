@@ -1,19 +1,15 @@
 -- A model as the files of a deck.
 use Rattle.std.specs.Prelude.{ℕ, Bool, true, not, nat_lt, List, ◌∷◌, map, filter, length, ◌≡◌, ◌≤◌, [], ◌++◌, All, codes, Ok, Option, Some, None, pos, take}
 use Rattle.std.specs.Prelude.{◌||◌}
-use Rattle.std.specs.List.{list_any, flat_map}
-use Rattle.std.specs.Str.{bytes_eq}
+use Rattle.std.specs.{List.list_any, List.flat_map, Str.bytes_eq}
 use Rattle.outside.specs.{File, with_limit}
 use Rattle.name_file.specs.declared.package.Package.{Package}
 use Rattle.name_file.specs.declared.package.Package.TheVariants.{Dis, Bas, Lpf, Wel, Riv, Drn, Ghb, Rch, Chd, Evt}
-use Rattle.model_types.specs.declared.grid.Grid.{Grid}
-use Rattle.model_types.specs.declared.model.FlowModel.{FlowModel}
-use Rattle.model_types.specs.declared.period.Period.{Period}
-use Rattle.model_types.specs.{is_int, most_bytes}
+use Rattle.model_types.specs.{declared.grid.Grid.Grid, declared.model.FlowModel.FlowModel, declared.period.Period.Period, is_int, most_bytes}
+use Rattle.model_types.specs.{declared.limits.Limits.Limits}
 use Rattle.array_text.specs.{Line, text, IsShort, IsWord}
 use Rattle.model_text.specs.Discretization.{dis_lines, bas_lines, lpf_lines, each_layer, integer_layer}
 use Rattle.model_text.specs.Lists.{entry_lines, evt_lines, heads_of, list_lines, rch_lines}
-use Rattle.model_types.specs.declared.limits.Limits.{Limits}
 use Rattle.model_reader.specs.{reads}
 
 -- The name file (TM 6-A16, input instructions, name file), and what is asked of the names of files.

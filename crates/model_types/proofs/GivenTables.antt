@@ -1,14 +1,12 @@
 -- The table of given heads, entry by entry.
-use Rattle.model_types.proofs.Common.{◌≡◌, ℕ, ◌+◌, ◌<◌, inl, inr, Option, Some, None, List, [], ◌∷◌, ◌++◌, length, get_or, take, set, map, refl, sym, ap, ◌∙◌}
-use Rattle.model_types.proofs.Common.{arith, All, Bool, true, false, cond, ◌||◌, is_some, ◌==◌, replicate, reverse, min, range_with_len, flat_map, find}
-use Rattle.model_types.proofs.Common.{list_any, cases_eq, cond-true, cond-false, eq-eqb, ne_eqb, cases_lt, length-set, get_or-set_other, length-replicate}
-use Rattle.model_types.proofs.Common.{get_or-replicate, get_or_read, take_more, flat_map_more, append_assoc, reverse-append, take_all, All-get_or}
-use Rattle.model_types.proofs.Common.{length-map-range_with_len, get_or-map-range_with_len, fill_by_all, Period, FlowModel, cell_count, period_at, no_period}
-use Rattle.model_types.proofs.Common.{given_in, given_heads, no_number, last_given}
+use Rattle.model_types.proofs.Common.{◌≡◌, ℕ, ◌+◌, ◌<◌, inl, inr, Option, Some, None, List, [], ◌∷◌, ◌++◌, length, get_or, take, set, map, refl, sym, ap, ◌∙◌, arith, All, Bool, true, false, cond}
+use Rattle.model_types.proofs.Common.{◌||◌, is_some, ◌==◌, replicate, reverse, min, range_with_len, flat_map, find, list_any, cases_eq, cond-true, cond-false, eq-eqb, ne_eqb, cases_lt, length-set}
+use Rattle.model_types.proofs.Common.{get_or-set_other, length-replicate, get_or-replicate, get_or_read, take_more, flat_map_more, append_assoc, reverse-append, take_all, All-get_or}
+use Rattle.model_types.proofs.Common.{length-map-range_with_len, get_or-map-range_with_len, fill_by_all, Period, FlowModel, cell_count, period_at, no_period, given_in, given_heads, no_number}
+use Rattle.model_types.proofs.Common.{last_given}
 use Rattle.model_types.specs.declared.entry.Given.{Given}
-use Rattle.std.proofs.lemmas.Grind.{get_or-set_at}
+use Rattle.std.proofs.{lemmas.Grind.get_or-set_at, lemmas.List.Folds.list_any-append}
 use Rattle.model_types.specs.declared.given_heads.GivenHeads.{GivenHeads}
-use Rattle.std.proofs.lemmas.List.Folds.{list_any-append}
 
 -- The last entry that names a cell, list by list.
 -- one more entry at the end

@@ -1,9 +1,7 @@
 -- Growing time steps: Horner's rule is the sum of powers.
 use Rattle.model_types.proofs.Common.{◌≡◌, ℕ, zero, suc, ◌+◌, ◌*◌, ◌<◌, arith, power, geometric, one}
-use Rattle.decimal_input.specs.{Ratio, ratio}
-use Rattle.decimal_input.specs.Ratios.{den, plus, times, Same}
-use Rattle.decimal_input.proofs.Orders.{Same-trans, num_times, den_times, num_plus, den_plus}
-use Rattle.decimal_input.proofs.SameNumbers.{Same-self, plus-Same, times-positive}
+use Rattle.decimal_input.specs.{Ratio, ratio, Ratios.den, Ratios.plus, Ratios.times, Ratios.Same}
+use Rattle.decimal_input.proofs.{Orders.Same-trans, Orders.num_times, Orders.den_times, Orders.num_plus, Orders.den_plus, SameNumbers.Same-self, SameNumbers.plus-Same, SameNumbers.times-positive}
 
 pub power-positive : (t : Ratio) (n : ℕ) → 0 < t.num → 0 < (power t n).num
 unfolding power ratio

@@ -1,8 +1,7 @@
 -- Faces: where they lead, that they lead back, and that their ends ascend.
-use Rattle.model_types.proofs.Common.{◌≡◌, ℕ, suc, ◌+◌, ◌*◌, ◌-◌, ◌%◌, ◌<◌, ◌≤◌, ◌⊎◌, inl, inr, Bool, true, Option, Some, None, List, [], ◌∷◌, refl, sym, ap}
-use Rattle.model_types.proofs.Common.{subst, arith, length, All, filter_map, leb-true, le-leb, cond-true, mod_below, mul-le-mul_right, Grid, Face, Row, Column}
-use Rattle.model_types.proofs.Common.{Vertical, cell_count, stride, span, has_before, has_after, face_before, face_after, faces, through, HasSize, IsInGrid}
-use Rattle.model_types.proofs.Common.{mul-pos, mod-le}
+use Rattle.model_types.proofs.Common.{◌≡◌, ℕ, suc, ◌+◌, ◌*◌, ◌-◌, ◌%◌, ◌<◌, ◌≤◌, ◌⊎◌, inl, inr, Bool, true, Option, Some, None, List, [], ◌∷◌, refl, sym, ap, subst, arith, length, All, filter_map}
+use Rattle.model_types.proofs.Common.{leb-true, le-leb, cond-true, mod_below, mul-le-mul_right, Grid, Face, Row, Column, Vertical, cell_count, stride, span, has_before, has_after, face_before}
+use Rattle.model_types.proofs.Common.{face_after, faces, through, HasSize, IsInGrid, mul-pos, mod-le}
 use Rattle.std.proofs.lemmas.Option.{cond_some, none-some}
 use Rattle.model_types.specs.declared.face.Axis.{Axis}
 use Rattle.model_types.proofs.Remainders.{mod_minus, mod_plus, plus_below}

@@ -1,8 +1,7 @@
 -- The neighbours of a cell by its place, and by the faces along the three axes.
-use Rattle.model_types.proofs.Common.{◌≡◌, ℕ, zero, suc, ◌+◌, ◌*◌, ◌-◌, ◌%◌, ◌<◌, ◌≤◌, inl, inr, Bool, true, false, cond, Option, Some, None, [], ◌∷◌, map}
-use Rattle.model_types.proofs.Common.{refl, sym, ap, ◌∙◌, arith, nat_le, nat_lt, leb-true, leb-false, le-leb, cases_Bool, div-add-mod', mod-mul-add, mod_below}
-use Rattle.model_types.proofs.Common.{mul-le-mul_right, Grid, Face, Row, Column, Vertical, layer_size, cell_count, layer_of, row_of, column_of, left, right}
-use Rattle.model_types.proofs.Common.{back, front, up, down, has_before, has_after, face_before, face_after, HasSize}
+use Rattle.model_types.proofs.Common.{◌≡◌, ℕ, zero, suc, ◌+◌, ◌*◌, ◌-◌, ◌%◌, ◌<◌, ◌≤◌, inl, inr, Bool, true, false, cond, Option, Some, None, [], ◌∷◌, map, refl, sym, ap, ◌∙◌, arith, nat_le, nat_lt}
+use Rattle.model_types.proofs.Common.{leb-true, leb-false, le-leb, cases_Bool, div-add-mod', mod-mul-add, mod_below, mul-le-mul_right, Grid, Face, Row, Column, Vertical, layer_size, cell_count}
+use Rattle.model_types.proofs.Common.{layer_of, row_of, column_of, left, right, back, front, up, down, has_before, has_after, face_before, face_after, HasSize}
 use Rattle.std.specs.Option.{option_map}
 use Rattle.model_types.proofs.Numbering.{size_some, in_layer, place_below, row_below, column_below, place_gives}
 

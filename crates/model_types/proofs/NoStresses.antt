@@ -1,6 +1,5 @@
 -- No stresses are in limits where the model has neither RCH nor EVT.
-use Rattle.model_types.proofs.Common.{◌≡◌, ℕ, ℤ, pos, true, false, [], arith, All-nil, Grid, no_stresses, is_int, AreStresses, IsEntryList, IsEntryValid}
-use Rattle.model_types.proofs.Common.{IsGivenList, IsGivenValid}
+use Rattle.model_types.proofs.Common.{◌≡◌, ℕ, ℤ, pos, true, false, [], arith, All-nil, Grid, no_stresses, is_int, AreStresses, IsEntryList, IsEntryValid, IsGivenList, IsGivenValid}
 
 no_entries : (cells : ℕ) → IsEntryList cells []
 no_entries cells = record { few = omega arith; entries = All-nil (IsEntryValid cells) }

@@ -1,6 +1,6 @@
 -- A cell's number and its place: each gives the other.
-use Rattle.model_types.proofs.Common.{◌≡◌, ℕ, ◌+◌, ◌*◌, ◌-◌, ◌/◌, ◌%◌, ◌<◌, [], ◌∷◌, sym, ap, ◌∙◌, arith, div-add-mod', div-mul-add, mod-mul-add, mod_below}
-use Rattle.model_types.proofs.Common.{div_below, mul-add-lt, Grid, layer_size, cell_count, cell_number, layer_of, row_of, column_of, place, HasSize, IsPlace}
+use Rattle.model_types.proofs.Common.{◌≡◌, ℕ, ◌+◌, ◌*◌, ◌-◌, ◌/◌, ◌%◌, ◌<◌, [], ◌∷◌, sym, ap, ◌∙◌, arith, div-add-mod', div-mul-add, mod-mul-add, mod_below, div_below, mul-add-lt, Grid, layer_size}
+use Rattle.model_types.proofs.Common.{cell_count, cell_number, layer_of, row_of, column_of, place, HasSize, IsPlace}
 
 module _ (g : Grid) (h : HasSize g) where
   rows_some : 0 < g.rows

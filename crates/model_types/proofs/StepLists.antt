@@ -1,10 +1,8 @@
 -- The list of time steps, period by period.
-use Rattle.model_types.proofs.Common.{◌≡◌, ℕ, zero, suc, ◌+◌, ◌-◌, ◌<◌, ◌≤◌, List, [], ◌∷◌, ◌++◌, length, get_or, take, map, refl, sym, ap, ◌∙◌, arith, add-one}
-use Rattle.model_types.proofs.Common.{range_with_len, flat_map, sum_by, append-nil, append_assoc, get_or_read, length-append, take_all}
-use Rattle.model_types.proofs.Common.{length-map-range_with_len, map-range_with_len_more, Period, FlowModel, period_at, no_period, steps_of}
-use Rattle.model_types.proofs.Common.{add-sub_cancel_left}
-use Rattle.std.proofs.lemmas.List.Sums.{sum_by_more}
-use Rattle.std.proofs.lemmas.List.Concat.{flat_map-append}
+use Rattle.model_types.proofs.Common.{◌≡◌, ℕ, zero, suc, ◌+◌, ◌-◌, ◌<◌, ◌≤◌, List, [], ◌∷◌, ◌++◌, length, get_or, take, map, refl, sym, ap, ◌∙◌, arith, add-one, range_with_len, flat_map, sum_by}
+use Rattle.model_types.proofs.Common.{append-nil, append_assoc, get_or_read, length-append, take_all, length-map-range_with_len, map-range_with_len_more, Period, FlowModel, period_at, no_period}
+use Rattle.model_types.proofs.Common.{steps_of, add-sub_cancel_left}
+use Rattle.std.proofs.{lemmas.List.Sums.sum_by_more, lemmas.List.Concat.flat_map-append}
 use Rattle.model_types.proofs.Ranks.{range_more}
 use Rattle.model_types.specs.declared.time_steps.TimeStep.{TimeStep}
 

@@ -1,7 +1,6 @@
 -- No limit is above the wide one.
 use Rattle.model_types.proofs.Common.{◌≤◌, arith, most_layers, most_in_row, most_cells, most_entries}
-use Rattle.model_types.specs.declared.limits.Limits.{Limits}
-use Rattle.model_types.specs.declared.limits.Limits.TheVariants.{Plain, Wide}
+use Rattle.model_types.specs.{declared.limits.Limits.Limits, declared.limits.Limits.TheVariants.Plain, declared.limits.Limits.TheVariants.Wide}
 
 pub layers_few : (l : Limits) → most_layers l ≤ 1024
 layers_few Plain = omega arith

@@ -2,10 +2,8 @@
 -- three axes have one definition: along a row 1, along a column NCOL, from layer to layer NROW * NCOL (TM 6-A16,
 -- chapter 2).
 use Rattle.std.specs.Prelude.{ℕ, ◌+◌, ◌-◌, ◌%◌, Bool, nat_le, nat_lt, cond, List, [], ◌∷◌, Option, Some, None, ◌*◌, ◌/◌}
-use Rattle.model_types.specs.declared.grid.Grid.{Grid}
-use Rattle.model_types.specs.declared.face.Axis.{Axis}
-use Rattle.model_types.specs.declared.face.Face.{Face}
-use Rattle.model_types.specs.declared.face.Axis.TheVariants.{Row, Column, Vertical}
+use Rattle.model_types.specs.{declared.grid.Grid.Grid, declared.face.Axis.Axis, declared.face.Face.Face, declared.face.Axis.TheVariants.Row}
+use Rattle.model_types.specs.{declared.face.Axis.TheVariants.Column, declared.face.Axis.TheVariants.Vertical}
 
 -- The cells of a grid and their places. Cells are numbered layer by layer, row by row, column by column, from 0 (TM
 -- 6-A16, chapter 2). Layers, rows and columns count from 0 here; the listing and the input count them from 1.

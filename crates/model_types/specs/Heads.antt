@@ -1,17 +1,12 @@
 -- The heads of constant-head cells (TM 6-A16, chapters 4 and 6, BAS and CHD; where the manual leaves room, this program's choice).
 use Rattle.std.specs.Prelude.{ℕ, ◌-◌, Option, Some, None, take, pos, Bool, cond, not, ◌&&◌, ◌==◌, int_lt, List, length, filter, map, is_some, reverse}
-use Rattle.decimal_input.specs.{number, Ratio, Fraction, as_fraction, opposite}
-use Rattle.decimal_input.specs.Fractions.{plus, times}
-use Rattle.model_types.specs.declared.model.FlowModel.{FlowModel}
+use Rattle.decimal_input.specs.{number, Ratio, Fraction, as_fraction, opposite, Fractions.plus, Fractions.times}
+use Rattle.model_types.specs.{declared.model.FlowModel.FlowModel, Layers.dec_at, Layers.int_at, Layers.is_active, Times.period_at, Times.part_passed}
+use Rattle.model_types.specs.{declared.period.Period.Period, declared.given_heads.Kind.Kind, declared.given_heads.GivenHeads.GivenHeads}
+use Rattle.model_types.specs.{declared.given_heads.Kind.TheVariants.NoFlow, declared.given_heads.Kind.TheVariants.Constant}
+use Rattle.model_types.specs.{declared.given_heads.Kind.TheVariants.Variable, Faces.cell_count}
 use Rattle.model_types.specs.declared.entry.Given.{Given}
-use Rattle.model_types.specs.Layers.{dec_at, int_at, is_active}
-use Rattle.model_types.specs.Times.{period_at, part_passed}
 use Rattle.std.specs.List.{range_with_len, find, flat_map}
-use Rattle.model_types.specs.declared.period.Period.{Period}
-use Rattle.model_types.specs.declared.given_heads.Kind.{Kind}
-use Rattle.model_types.specs.declared.given_heads.GivenHeads.{GivenHeads}
-use Rattle.model_types.specs.declared.given_heads.Kind.TheVariants.{NoFlow, Constant, Variable}
-use Rattle.model_types.specs.Faces.{cell_count}
 
 -- Which cells have a variable head in a stress period, which a constant one, and which no flow (TM 6-A16, chapters 4
 -- and 6, BAS and CHD; where the manual leaves room, this program's choice: a cell that a CHD list names is constant

@@ -1,13 +1,9 @@
 -- The properties of a cell: its widths, its elevations and thickness, and its conductivities, with the exact numbers of the input (TM 6-A16, chapters 2 and 5).
 use Rattle.std.specs.Prelude.{ℕ, ◌+◌, ◌-◌, ◌*◌, ℤ, pos, ◌*ℤ◌, ◌-ℤ◌, Bool, cond, not, nat_lt, ◌==◌, List, slice_index_or, unsigned_abs, false}
-use Rattle.decimal_input.specs.declared.dec.Dec.{Dec}
-use Rattle.decimal_input.specs.{number, size, Ratio, over, Fraction, ratio}
-use Rattle.decimal_input.specs.Ratios.{times, plus}
-use Rattle.decimal_input.specs.Fractions.{den}
-use Rattle.model_types.specs.declared.model.FlowModel.{FlowModel}
-use Rattle.model_types.specs.Faces.{layer_size, layer_of, row_of, column_of, stride}
-use Rattle.model_types.specs.declared.face.Axis.{Axis}
-use Rattle.model_types.specs.declared.face.Axis.TheVariants.{Row, Column, Vertical}
+use Rattle.decimal_input.specs.{declared.dec.Dec.Dec, number, size, Ratio, over, Fraction, ratio, Ratios.times, Ratios.plus, Fractions.den}
+use Rattle.model_types.specs.{declared.model.FlowModel.FlowModel, Faces.layer_size, Faces.layer_of, Faces.row_of, Faces.column_of, Faces.stride}
+use Rattle.model_types.specs.{declared.face.Axis.Axis, declared.face.Axis.TheVariants.Row, declared.face.Axis.TheVariants.Column}
+use Rattle.model_types.specs.{declared.face.Axis.TheVariants.Vertical}
 
 abbrev pub no_number : Dec
 no_number = record { neg = false; digits = 0; exp = pos 0 }

@@ -1,7 +1,6 @@
 -- The limits that a model is read by, plain or wide: this program's own.
 use Rattle.std.specs.Prelude.{ℕ}
-use Rattle.model_types.specs.declared.limits.Limits.{Limits}
-use Rattle.model_types.specs.declared.limits.Limits.TheVariants.{Plain, Wide}
+use Rattle.model_types.specs.{declared.limits.Limits.Limits, declared.limits.Limits.TheVariants.Plain, declared.limits.Limits.TheVariants.Wide}
 
 -- NLAY
 abbrev pub most_layers : Limits → ℕ

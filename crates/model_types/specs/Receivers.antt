@@ -2,19 +2,12 @@
 use Rattle.std.specs.Prelude.{ℕ, suc, ◌+◌, ◌*◌, ℤ, pos, negsuc, Bool, false, cond, not, ◌&&◌, ◌||◌, ◌==◌, List, Option, Some, None, ◌≡◌, ◌-◌, ◌<◌, ◌≤◌, All}
 use Rattle.std.specs.Prelude.{length, IfSome, ◌^◌, neg_ℤ, ◌+ℤ◌, ◌≤ℤ◌, unsigned_abs}
 use Rattle.std.specs.List.{range_with_len, list_any}
-use Rattle.decimal_input.specs.declared.dec.Dec.{Dec}
-use Rattle.decimal_input.specs.{number, size, Ratio, over, Fraction, as_fraction, opposite, IsDec, EnclosesSigned, IsSignedFloor, IsSignedCeiling}
-use Rattle.decimal_input.specs.Ratios.{times}
-use Rattle.decimal_input.specs.Fractions.{plus, times as product}
-use Rattle.model_types.specs.declared.model.FlowModel.{FlowModel}
-use Rattle.model_types.specs.Faces.{layer_of, layer_size, place_in_layer, cell_count}
-use Rattle.model_types.specs.Layers.{dec_at, int_at, is_active, area, delr_at, delc_at, thickness}
-use Rattle.model_types.specs.Times.{period_at, power, geometric}
-use Rattle.model_types.specs.declared.grid.Grid.{Grid}
-use Rattle.model_types.specs.declared.face.Face.{Face}
-use Rattle.model_types.specs.declared.period.Period.{Period}
-use Rattle.model_types.specs.declared.limits.Limits.TheVariants.{Wide}
-use Rattle.model_types.specs.Limits.{most_cells}
+use Rattle.decimal_input.specs.{declared.dec.Dec.Dec, number, size, Ratio, over, Fraction, as_fraction, opposite, IsDec, EnclosesSigned, IsSignedFloor}
+use Rattle.decimal_input.specs.{IsSignedCeiling, Ratios.times, Fractions.plus, Fractions.times as product}
+use Rattle.model_types.specs.{declared.model.FlowModel.FlowModel, Faces.layer_of, Faces.layer_size, Faces.place_in_layer, Faces.cell_count, Layers.dec_at}
+use Rattle.model_types.specs.{Layers.int_at, Layers.is_active, Layers.area, Layers.delr_at, Layers.delc_at, Layers.thickness, Times.period_at, Times.power}
+use Rattle.model_types.specs.{Times.geometric, declared.grid.Grid.Grid, declared.face.Face.Face, declared.period.Period.Period}
+use Rattle.model_types.specs.{declared.limits.Limits.TheVariants.Wide, Limits.most_cells}
 
 abbrev pub is_int : ℤ → ℕ → Bool
 is_int (pos n) k = n == k

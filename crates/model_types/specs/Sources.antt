@@ -1,17 +1,12 @@
 -- What flows into a variable cell, in the terms of the packages and with the numbers of the input (TM 6-A16, chapters
 -- 5 and 6). The exact equations and their rounded bounds are both made from these lists, entry by entry.
 use Rattle.std.specs.Prelude.{ℕ, cond, ◌==◌, List, ◌++◌, filter, map, Option, Some, None}
-use Rattle.std.specs.Option.{option_to_list}
-use Rattle.std.specs.List.{filter_map}
+use Rattle.std.specs.{Option.option_to_list, List.filter_map}
 use Rattle.decimal_input.specs.declared.dec.Dec.{Dec}
-use Rattle.model_types.specs.declared.face.Face.{Face}
-use Rattle.model_types.specs.declared.model.FlowModel.{FlowModel}
-use Rattle.model_types.specs.declared.entry.Entry.{Entry}
-use Rattle.model_types.specs.declared.entry.Entry.TheVariants.{Well, River, Drain, General}
-use Rattle.model_types.specs.Faces.{faces, through}
-use Rattle.model_types.specs.Times.{period_at, entries}
-use Rattle.model_types.specs.Heads.{is_variable, is_constant}
-use Rattle.model_types.specs.Receivers.{EvapSource, recharge_at, evap_at}
+use Rattle.model_types.specs.{declared.face.Face.Face, declared.model.FlowModel.FlowModel, declared.entry.Entry.Entry, declared.entry.Entry.TheVariants.Well}
+use Rattle.model_types.specs.{declared.entry.Entry.TheVariants.River, declared.entry.Entry.TheVariants.Drain, declared.entry.Entry.TheVariants.General}
+use Rattle.model_types.specs.{Faces.faces, Faces.through, Times.period_at, Times.entries, Heads.is_variable, Heads.is_constant, Receivers.EvapSource}
+use Rattle.model_types.specs.{Receivers.recharge_at, Receivers.evap_at}
 
 -- A branch to a known head: through a face to a constant-head neighbour, to a general head over its conductance, or
 -- to the cell's own head of the step before over its storage.

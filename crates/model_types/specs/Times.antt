@@ -2,14 +2,9 @@
 -- step of a transient period is T times as long as the one before, and G(n) = 1 + T + .. + T^(n-1).
 use Rattle.std.specs.Prelude.{ℕ, zero, suc, ◌-◌, true, cond, ◌||◌, ◌==◌, List, [], ◌++◌, map, length, slice_index_or}
 use Rattle.std.specs.List.{range_with_len, flat_map}
-use Rattle.decimal_input.specs.{size, Ratio, ratio, over}
-use Rattle.decimal_input.specs.Ratios.{plus, times as product}
-use Rattle.model_types.specs.declared.entry.Entry.{Entry}
-use Rattle.model_types.specs.declared.model.FlowModel.{FlowModel}
-use Rattle.model_types.specs.declared.period.Period.{Period}
-use Rattle.model_types.specs.declared.period.Stresses.{Stresses}
-use Rattle.model_types.specs.declared.time_steps.TimeStep.{TimeStep}
-use Rattle.model_types.specs.Layers.{no_number, one}
+use Rattle.decimal_input.specs.{size, Ratio, ratio, over, Ratios.plus, Ratios.times as product}
+use Rattle.model_types.specs.{declared.entry.Entry.Entry, declared.model.FlowModel.FlowModel, declared.period.Period.Period, declared.period.Stresses.Stresses}
+use Rattle.model_types.specs.{declared.time_steps.TimeStep.TimeStep, Layers.no_number, Layers.one}
 
 -- a period's stresses where no package has any
 abbrev pub no_stresses : Stresses

@@ -2,22 +2,14 @@
 -- checks on cells. Each field is one test of the readers, or a few.
 use Rattle.std.specs.Prelude.{◌≡◌, ℕ, ◌+◌, ◌<◌, ◌≤◌, ◌⊎◌, ℤ, pos, neg_ℤ, ◌+ℤ◌, ◌≤ℤ◌, true, false, List, All, length, sum_by}
 use Rattle.std.specs.List.{AllPairs}
-use Rattle.decimal_input.specs.declared.dec.Dec.{Dec}
-use Rattle.decimal_input.specs.{IsDec, number, size, ratio, IsSignedFloor, IsSignedCeiling}
-use Rattle.decimal_input.specs.Ratios.{AtMost}
-use Rattle.model_types.specs.declared.grid.Grid.{Grid}
-use Rattle.model_types.specs.declared.model.FlowModel.{FlowModel}
-use Rattle.model_types.specs.declared.period.Period.{Period}
-use Rattle.model_types.specs.declared.period.Stresses.{Stresses}
+use Rattle.decimal_input.specs.{declared.dec.Dec.Dec, IsDec, number, size, ratio, IsSignedFloor, IsSignedCeiling, Ratios.AtMost}
+use Rattle.model_types.specs.{declared.grid.Grid.Grid, declared.model.FlowModel.FlowModel, declared.period.Period.Period, declared.period.Stresses.Stresses}
+use Rattle.model_types.specs.{declared.entry.Entry.Entry, declared.entry.Entry.TheVariants.Well, declared.entry.Entry.TheVariants.River}
+use Rattle.model_types.specs.{declared.entry.Entry.TheVariants.Drain, declared.entry.Entry.TheVariants.General, Faces.layer_size, Faces.cell_count}
+use Rattle.model_types.specs.{Layers.dec_at, Layers.is_active, Layers.has_bed, Layers.top_at, Layers.bottom_at, Layers.lowest, Receivers.EvapSource}
+use Rattle.model_types.specs.{Receivers.is_int, Receivers.IsPositive, Receivers.IsNotNegative, Receivers.IsHeadNumber, Receivers.IsThick, Receivers.IsGrid}
+use Rattle.model_types.specs.{Sources.evap_sources, declared.limits.Limits.TheVariants.Wide, Limits.most_entries}
 use Rattle.model_types.specs.declared.entry.Given.{Given}
-use Rattle.model_types.specs.declared.entry.Entry.{Entry}
-use Rattle.model_types.specs.declared.entry.Entry.TheVariants.{Well, River, Drain, General}
-use Rattle.model_types.specs.Faces.{layer_size, cell_count}
-use Rattle.model_types.specs.Layers.{dec_at, is_active, has_bed, top_at, bottom_at, lowest}
-use Rattle.model_types.specs.Receivers.{EvapSource, is_int, IsPositive, IsNotNegative, IsHeadNumber, IsThick, IsGrid}
-use Rattle.model_types.specs.Sources.{evap_sources}
-use Rattle.model_types.specs.declared.limits.Limits.TheVariants.{Wide}
-use Rattle.model_types.specs.Limits.{most_entries}
 
 abbrev pub number_one : Dec
 number_one = record { neg = false; digits = 1; exp = pos 0 }

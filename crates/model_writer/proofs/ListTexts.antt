@@ -1,13 +1,10 @@
 -- The lines of lists.
-use Rattle.model_writer.proofs.Common.{part_bytes, ◌≡◌, ℕ, ◌≤◌, List, [], ◌∷◌, ◌++◌, length, map, max, fold, codes, decimal, arith, ◌+◌, ◌<◌, ap, ◌∙◌, take}
-use Rattle.model_writer.proofs.Common.{get_or, Bool, true, false, refl, sym, filter, append_assoc, flat_map, length-map, take_more, map-append, append-nil}
-use Rattle.model_writer.proofs.Common.{number_word, text, row_line, Line, list_item_2, list_item_5, list_item_6, list_lines, period_list, deck_name, deck_names}
-use Rattle.model_writer.proofs.Common.{deck_files, deck_text, file_line, file_text, file_texts, packages, name_item, has, package_file, written, line_bytes}
-use Rattle.model_writer.proofs.Common.{spaced_words, None, Option, Some, zone_bytes, zone_file, zoned_text, entry_line, chosen_bytes, flat_map-append}
-use Rattle.model_writer.proofs.Common.{FlowModel}
+use Rattle.model_writer.proofs.Common.{part_bytes, ◌≡◌, ℕ, ◌≤◌, List, [], ◌∷◌, ◌++◌, length, map, max, fold, codes, decimal, arith, ◌+◌, ◌<◌, ap, ◌∙◌, take, get_or, Bool, true, false, refl, sym}
+use Rattle.model_writer.proofs.Common.{filter, append_assoc, flat_map, length-map, take_more, map-append, append-nil, number_word, text, row_line, Line, list_item_2, list_item_5, list_item_6}
+use Rattle.model_writer.proofs.Common.{list_lines, period_list, deck_name, deck_names, deck_files, deck_text, file_line, file_text, file_texts, packages, name_item, has, package_file, written}
+use Rattle.model_writer.proofs.Common.{line_bytes, spaced_words, None, Option, Some, zone_bytes, zone_file, zoned_text, entry_line, chosen_bytes, flat_map-append, FlowModel}
 use Rattle.decimal_input.specs.declared.dec.Dec.{Dec}
-use Rattle.model_types.specs.declared.grid.Grid.{Grid}
-use Rattle.model_types.specs.{place}
+use Rattle.model_types.specs.{declared.grid.Grid.Grid, place}
 use Rattle.model_writer.proofs.Texts.{then_line, text-cons, text-nil, text-append, next_part}
 use Rattle.std.proofs.lemmas.List.Folds.{flat_map-map}
 

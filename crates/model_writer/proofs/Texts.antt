@@ -1,8 +1,7 @@
 -- The bytes of lines, one after another.
-use Rattle.model_writer.proofs.Common.{◌≡◌, ℕ, suc, ◌+◌, ◌≤◌, ◌<◌, List, [], ◌∷◌, ◌++◌, refl, sym, ap, ◌∙◌, length, take, drop, get_or, map, ◌-◌, arith}
-use Rattle.model_writer.proofs.Common.{append_assoc, flat_map, range_with_len, flat_map-append, take_more, append-nil, map-append, map-id, Line, line_text}
-use Rattle.model_writer.proofs.Common.{text, row_line, row_lines, in_rows, line_bytes, spaced_words, replicate, replicate_next, Bool, true, false, codes}
-use Rattle.model_writer.proofs.Common.{decimal, lit≤, FlowModel, integer_word, dis_item_1, storage_option}
+use Rattle.model_writer.proofs.Common.{◌≡◌, ℕ, suc, ◌+◌, ◌≤◌, ◌<◌, List, [], ◌∷◌, ◌++◌, refl, sym, ap, ◌∙◌, length, take, drop, get_or, map, ◌-◌, arith, append_assoc, flat_map, range_with_len}
+use Rattle.model_writer.proofs.Common.{flat_map-append, take_more, append-nil, map-append, map-id, Line, line_text, text, row_line, row_lines, in_rows, line_bytes, spaced_words, replicate}
+use Rattle.model_writer.proofs.Common.{replicate_next, Bool, true, false, codes, decimal, lit≤, FlowModel, integer_word, dis_item_1, storage_option}
 use Rattle.std.proofs.lemmas.List.FromFn.{map-range_with_len_more}
 
 pub text-nil : text [] ≡ []

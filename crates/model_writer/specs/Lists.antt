@@ -1,12 +1,9 @@
 -- The lists of a stress period.
 use Rattle.std.specs.Prelude.{ℕ, List, [], Bool, ◌∷◌, ◌++◌, if◌then◌else◌, Option, Some, None}
 use Rattle.decimal_input.specs.declared.dec.Dec.{Dec}
-use Rattle.model_types.specs.declared.grid.Grid.{Grid}
+use Rattle.model_types.specs.{declared.grid.Grid.Grid, declared.model.FlowModel.FlowModel, declared.entry.Entry.Entry, declared.period.Period.Period}
 use Rattle.array_text.specs.{Line, line_text}
 use Rattle.model_text.specs.{deck_names, file_text, list_item_6, name_item, package_file, zone_file}
-use Rattle.model_types.specs.declared.model.FlowModel.{FlowModel}
-use Rattle.model_types.specs.declared.entry.Entry.{Entry}
-use Rattle.model_types.specs.declared.period.Period.{Period}
 use Rattle.name_file.specs.declared.package.Package.{Package}
 use Rattle.name_file.specs.declared.package.Package.TheVariants.{Wel, Riv, Drn, Ghb}
 use Rattle.std.specs.List.{flat_map}

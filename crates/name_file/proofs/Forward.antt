@@ -1,8 +1,7 @@
 -- The files of a name file are words of it.
-use Rattle.name_file.proofs.Common.{◌≡◌, ℕ, List, [], ◌∷◌, Option, Some, None, Ok, All, Contains, All-nil, All-push, All-head, All-tail, All-contains}
-use Rattle.name_file.proofs.Common.{folder_name, Numbered, is_comment, Pairs, has_package, is_integer, file_in, after_package, after_type, after_words}
-use Rattle.name_file.proofs.Common.{after_line, after_lines, whole, names_of, Package, Dis, Bas, Lpf, WordsMay, TextMay, words, LineMay, NamesMay, package_of}
-use Rattle.name_file.proofs.Common.{is_passed_over, GivesOnly}
+use Rattle.name_file.proofs.Common.{◌≡◌, ℕ, List, [], ◌∷◌, Option, Some, None, Ok, All, Contains, All-nil, All-push, All-head, All-tail, All-contains, folder_name, Numbered, is_comment, Pairs}
+use Rattle.name_file.proofs.Common.{has_package, is_integer, file_in, after_package, after_type, after_words, after_line, after_lines, whole, names_of, Package, Dis, Bas, Lpf, WordsMay, TextMay}
+use Rattle.name_file.proofs.Common.{words, LineMay, NamesMay, package_of, is_passed_over, GivesOnly}
 use Rattle.record_lines.proofs.Forward.{word_held, name_held, text_held}
 use Rattle.record_lines.proofs.Readings.{ok_gives_only, either, if_clear, if_passed, err_gives_only, then_}
 

@@ -1,19 +1,14 @@
 -- A package that is new goes last; and a name file goes on, stops or ends line by line.
-use Rattle.name_file.proofs.Common.{◌≡◌, ℕ, false, List, [], ◌∷◌, ◌++◌, Option, Some, None, Ok, refl, ◌∙◌, is_some, Package, Pairs, has_package, after_line}
-use Rattle.name_file.proofs.Common.{after_lines, Left, Numbered, Dis, Bas, Lpf, Wel, is_same_package, file_of, true, sym, Contains, rules, arith, All-contains}
-use Rattle.name_file.proofs.Common.{All-push, IsGoodName, AreFiles, HasNeededPackages, is_needed, packages_of, ghosts, the_type, StopsText}
+use Rattle.name_file.proofs.Common.{◌≡◌, ℕ, false, List, [], ◌∷◌, ◌++◌, Option, Some, None, Ok, refl, ◌∙◌, is_some, Package, Pairs, has_package, after_line, after_lines, Left, Numbered, Dis, Bas, Lpf}
+use Rattle.name_file.proofs.Common.{Wel, is_same_package, file_of, true, sym, Contains, rules, arith, All-contains, All-push, IsGoodName, AreFiles, HasNeededPackages, is_needed, packages_of, ghosts}
+use Rattle.name_file.proofs.Common.{the_type, StopsText}
 use Rattle.record_lines.proofs.Loops.{ends_all}
 use Rattle.std.specs.Prelude.{IsTrue}
-use Rattle.std.specs.Map.{lookup, keys_of}
-use Rattle.std.specs.HashMap.{HashMap}
+use Rattle.std.specs.{Map.lookup, Map.keys_of, HashMap.HashMap, Cmp.IsEquivalence, List.IsDistinct}
 use Rattle.indexmap.specs.IndexMap.{insert_entry}
 use Rattle.indexmap.proofs.CallerLemmas.{insert_entry-new}
 use Rattle.outside.specs.declared.inputs.TextFault.{TextFault}
-use Rattle.std.proofs.lemmas.Map.Keys.{IsDistinct-push}
-use Rattle.std.proofs.lemmas.Map.Made.{is_some-lookup}
-use Rattle.std.proofs.lemmas.Map.Views.{Contains-from_lookup, IsSome-lookup_from_Contains}
-use Rattle.std.specs.Cmp.{IsEquivalence}
-use Rattle.std.specs.List.{IsDistinct}
+use Rattle.std.proofs.{lemmas.Map.Keys.IsDistinct-push, lemmas.Map.Made.is_some-lookup, lemmas.Map.Views.Contains-from_lookup, lemmas.Map.Views.IsSome-lookup_from_Contains}
 use denote.Enum.Bare.{same_true}
 
 -- The derived equality of packages is `is_same_package`, so a map's look-up finds the file of a package.

@@ -1,7 +1,6 @@
 -- The packages of a model and the names of their files.
 use Rattle.std.specs.Prelude.{◌≡◌, ℕ, Bool, true, false, List, map, Option, is_some, All}
-use Rattle.std.specs.List.{IsDistinct}
-use Rattle.std.specs.Map.{lookup}
+use Rattle.std.specs.{List.IsDistinct, Map.lookup}
 use Rattle.outside.specs.{IsGoodName, folder_name}
 use Rattle.name_file.specs.declared.package.Package.{Package}
 use Rattle.name_file.specs.declared.package.Package.TheVariants.{Dis, Bas, Lpf, Wel, Riv, Drn, Ghb, Rch, Chd, Evt}

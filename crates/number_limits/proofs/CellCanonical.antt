@@ -1,6 +1,5 @@
 -- Elevations are canonical numbers.
-use Rattle.number_limits.proofs.Common.{◌≡◌, ℕ, ◌-◌, Bool, true, false, cond, nat_lt, List, All, FlowModel, layer_size, dec_at, has_bed, bottom_at, lowest}
-use Rattle.number_limits.proofs.Common.{top_at, IsGrid, Dec, IsDec}
+use Rattle.number_limits.proofs.Common.{ℕ, ◌-◌, Bool, true, false, cond, nat_lt, FlowModel, layer_size, dec_at, has_bed, bottom_at, lowest, top_at, IsGrid, Dec, IsDec}
 use Rattle.number_limits.proofs.Canonical.{dec_at_is}
 
 either : (b : Bool) (x y : Dec) → IsDec x → IsDec y → IsDec (cond b x y)

@@ -1,6 +1,6 @@
 -- The test of a head tells its range.
-use Rattle.number_limits.proofs.Common.{◌≡◌, ◌*◌, ◌≤◌, pos, neg_ℤ, Bool, true, false, arith, leb-true, le-leb, ints, Dec, IsDec, size, Ratio, with_sign}
-use Rattle.number_limits.proofs.Common.{EnclosesSigned, den, IsHeadNumber, is_at_most, is_head}
+use Rattle.number_limits.proofs.Common.{◌≡◌, ◌*◌, ◌≤◌, pos, neg_ℤ, Bool, true, false, arith, leb-true, le-leb, ints, Dec, IsDec, size, Ratio, with_sign, EnclosesSigned, den, IsHeadNumber, is_at_most}
+use Rattle.number_limits.proofs.Common.{is_head}
 
 enclosed : (neg : Bool) (f : Ratio) → f.num ≤ 4000000000 * den f → EnclosesSigned (neg_ℤ (pos 4000000000)) (pos 4000000000) 0 (record { num = with_sign neg f.num; less = f.less })
 enclosed false f le = record { lower = omega (arith, ints, le); upper = omega (arith, ints, le) }

@@ -1,8 +1,7 @@
 -- Magnitudes by their floors and ceilings.
-use Rattle.number_limits.proofs.Common.{◌≡◌, ◌⊎◌, inl, inr, ℕ, ◌+◌, ◌*◌, ◌-◌, ◌^◌, ◌≤◌, ◌<◌, true, false, nat_le, sym, ◌∙◌, arith, leb-true, Ratio, ratio}
-use Rattle.number_limits.proofs.Common.{IsCeiling, IsFloor, Passes, Reaches, den, AtMost, is_at_most, is_at_least}
-use Rattle.std.proofs.lemmas.Bool.Decides.{leb_tells}
-use Rattle.std.proofs.Math.Nat.{mul-le-mul_right}
+use Rattle.number_limits.proofs.Common.{◌≡◌, ◌⊎◌, inl, inr, ℕ, ◌+◌, ◌*◌, ◌-◌, ◌^◌, ◌≤◌, ◌<◌, true, false, nat_le, sym, ◌∙◌, arith, leb-true, Ratio, ratio, IsCeiling, IsFloor, Passes, Reaches, den}
+use Rattle.number_limits.proofs.Common.{AtMost, is_at_most, is_at_least}
+use Rattle.std.proofs.{lemmas.Bool.Decides.leb_tells, Math.Nat.mul-le-mul_right}
 
 abbrev Told : ℕ → ℕ → Type 0
 Told a b = ((nat_le a b ≡ true) × (a ≤ b)) ⊎ ((nat_le a b ≡ false) × (b < a))

@@ -1,6 +1,6 @@
 -- Where all checks passed, no cell has a fault.
-use Rattle.number_limits.proofs.Common.{◌≡◌, ℕ, ◌<◌, Bool, true, false, List, Option, Some, None, Ok, refl, arith, cell_count, is_active, FlowModel, at_cell}
-use Rattle.number_limits.proofs.Common.{cell_step, check_result, code_of, fault_at, passes, each_step, not, ◌||◌, if◌then◌else◌}
+use Rattle.number_limits.proofs.Common.{◌≡◌, ℕ, ◌<◌, Bool, true, false, List, Option, Some, None, Ok, refl, arith, cell_count, is_active, FlowModel, at_cell, cell_step, check_result, code_of}
+use Rattle.number_limits.proofs.Common.{fault_at, passes, each_step, not, ◌||◌, if◌then◌else◌}
 use Rattle.outside.specs.declared.codes.Code.{Code}
 use Rattle.model_types.specs.declared.grid.Grid.{Grid}
 use Rattle.number_limits.specs.declared.passing.Check.{Check}

@@ -1,12 +1,9 @@
 -- What the tests of signs tell.
-use Rattle.number_limits.proofs.Common.{◌≡◌, Bool, true, false, ◌&&◌, nat_lt, ◌==◌, List, All, IsTrue, ◌↔◌, refl, sym, ℤ, pos, negsuc, arith, and_parts}
-use Rattle.number_limits.proofs.Common.{not-true, ltb-true, eqb-true, Dec, IsDec, IsPositive, number_one, is_positive, is_one, is_same_number, unsigned_abs}
+use Rattle.number_limits.proofs.Common.{◌≡◌, Bool, true, false, ◌&&◌, nat_lt, ◌==◌, List, All, IsTrue, ◌↔◌, refl, sym, ℤ, pos, negsuc, arith, and_parts, not-true, ltb-true, eqb-true, Dec, IsDec}
+use Rattle.number_limits.proofs.Common.{IsPositive, number_one, is_positive, is_one, is_same_number, unsigned_abs}
 use Rattle.std.proofs.Common.{not}
-use Rattle.std.specs.Cmp.{signed_Decides, booleans_Decides}
-use Rattle.std.specs.List.{list_all}
-use Rattle.std.specs.Ordering.{int_eq}
-use Rattle.std.proofs.Math.Bool.{beq}
-use Rattle.std.proofs.lemmas.List.Sums.{AllPass-from_list_all, list_all-from_AllPass}
+use Rattle.std.specs.{Cmp.signed_Decides, Cmp.booleans_Decides, List.list_all, Ordering.int_eq}
+use Rattle.std.proofs.{Math.Bool.beq, lemmas.List.Sums.AllPass-from_list_all, lemmas.List.Sums.list_all-from_AllPass}
 
 pub positive_of : (d : Dec) → IsDec d → is_positive d ≡ true → IsPositive d
 positive_of d dec e =

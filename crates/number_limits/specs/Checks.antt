@@ -1,13 +1,11 @@
 -- Checks over the cells of a model, by ascending number: the first cell that fails is refused, with line 0 and its layer, row and column, counted from 1.
-use Rattle.std.specs.Prelude.{ℕ, List, Option, Some, None, Result, Ok, Err, ◌+◌, Bool, true, not, ◌&&◌, ◌||◌, nat_lt, nat_le, if◌then◌else◌}
-use Rattle.outside.specs.declared.codes.Code.{Code}
-use Rattle.outside.specs.declared.inputs.Refusal.{Refusal}
+use Rattle.std.specs.Prelude.{ℕ, List, Option, Some, None, Result, Ok, Err, ◌+◌, Bool, not, ◌&&◌, ◌||◌, nat_lt, nat_le, if◌then◌else◌}
+use Rattle.outside.specs.{declared.codes.Code.Code, declared.inputs.Refusal.Refusal, declared.codes.Code.TheVariants.BadThickness}
+use Rattle.outside.specs.{declared.codes.Code.TheVariants.BadProperty, declared.codes.Code.TheVariants.HeadTooLarge}
 use Rattle.record_lines.specs.{each_number}
-use Rattle.model_types.specs.declared.grid.Grid.{Grid}
-use Rattle.model_types.specs.declared.model.FlowModel.{FlowModel}
-use Rattle.model_types.specs.{cell_count, place, layer_size, dec_at, is_active, has_bed, top_at, bottom_at, lowest}
+use Rattle.model_types.specs.{declared.grid.Grid.Grid, declared.model.FlowModel.FlowModel, cell_count, place, layer_size, dec_at, is_active, has_bed, top_at}
+use Rattle.model_types.specs.{bottom_at, lowest}
 use Rattle.number_limits.specs.declared.passing.Check.{Check}
-use Rattle.outside.specs.declared.codes.Code.TheVariants.{BadThickness, BadProperty, HeadTooLarge}
 use Rattle.number_limits.specs.Room.{is_head, is_positive, is_same_number, is_thick}
 use Rattle.number_limits.specs.declared.passing.Check.TheVariants.{Thickness, StartHead, Properties}
 

@@ -1,9 +1,7 @@
 -- The room between two elevations, by the floor of the upper one and the ceiling of the lower one in units of 10^-18.
 use Rattle.std.specs.Prelude.{ℕ, ◌*◌, ◌^◌, ℤ, pos, ◌+ℤ◌, Bool, false, nat_lt, int_le, if◌then◌else◌, Option, Some, None, nat_le, negsuc, not, ◌&&◌, ◌==◌}
 use Rattle.std.specs.Prelude.{unsigned_abs}
-use Rattle.decimal_input.specs.declared.dec.Dec.{Dec}
-use Rattle.decimal_input.specs.{size, Ratio, floor, ceiling}
-use Rattle.decimal_input.specs.Ratios.{den}
+use Rattle.decimal_input.specs.{declared.dec.Dec.Dec, size, Ratio, floor, ceiling, Ratios.den}
 use Rattle.std.specs.Ordering.{int_eq}
 use Rattle.std.proofs.Math.Bool.{beq}
 

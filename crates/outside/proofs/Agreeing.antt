@@ -1,12 +1,10 @@
 -- Some files agree with what was read, whatever it is.
-use Rattle.outside.proofs.Common.{◌≡◌, ℕ, ◌+◌, Bool, true, false, List, [], ◌∷◌, cond, Option, None, IfSome, arith, refl, sym, subst, ◌∙◌, inl, inr, Some}
-use Rattle.outside.proofs.Common.{get_or, Contains, length-replicate, bytes_eq, File, bytes_under, Read, IsAsFound, AgreeWith, reading_of, FileSet, IsOneMore}
-use Rattle.outside.proofs.Common.{with_limit, ReadState, AgreesWith, FoundNames, IsNamedBy, FoundMay, lines, words, IsFound, IsNoLongerThan, Contains-get_or}
-use Rattle.outside.proofs.Common.{Contains-append_right}
+use Rattle.outside.proofs.Common.{◌≡◌, ℕ, ◌+◌, Bool, true, false, List, [], ◌∷◌, cond, Option, None, IfSome, arith, refl, sym, subst, ◌∙◌, inl, inr, Some, get_or, Contains, length-replicate, bytes_eq}
+use Rattle.outside.proofs.Common.{File, bytes_under, Read, IsAsFound, AgreeWith, reading_of, FileSet, IsOneMore, with_limit, ReadState, AgreesWith, FoundNames, IsNamedBy, FoundMay, lines, words}
+use Rattle.outside.proofs.Common.{IsFound, IsNoLongerThan, Contains-get_or, Contains-append_right}
 use Rattle.std.specs.Prelude.{IsSomeAnd, replicate}
 use Rattle.std.proofs.lemmas.Slice.Eq.{bytes_eq-Decides}
-use Rattle.outside.specs.declared.traits.Found.{Found}
-use Rattle.outside.specs.declared.traits.Found.TheVariants.{Bytes, Missing, TooLong}
+use Rattle.outside.specs.{declared.traits.Found.Found, declared.traits.Found.TheVariants.Bytes, declared.traits.Found.TheVariants.Missing, declared.traits.Found.TheVariants.TooLong}
 
 abbrev without : List ℕ → List File → List File
 without name [] = []

@@ -1,7 +1,6 @@
 -- A good name stays ASCII text when its backslashes are turned.
 use Rattle.outside.proofs.Common.{ℕ, ◌<◌, ◌==◌, List, All, true, false, if◌then◌else◌, arith, IsUtf8, All-map, IsNameByte, IsGoodName, folder_name}
-use Rattle.std.proofs.lemmas.Str.{IsUtf8-from_ascii}
-use Rattle.std.proofs.lemmas.Str.Ascii.{IsAscii-from_all}
+use Rattle.std.proofs.{lemmas.Str.IsUtf8-from_ascii, lemmas.Str.Ascii.IsAscii-from_all}
 
 below : (b : ℕ) → IsNameByte b → (if b == 92 then 47 else b) < 128
 below b within = elim (b == 92) as (λ t. (if t then 47 else b) < 128) [ true ↦ omega arith | false ↦ omega arith ]

@@ -1,6 +1,5 @@
 -- A struct of one field, put together. Assumes `Logic`.
-use Rattle.outside.proofs.Common.{List, [], ◌∷◌, refl, Ura, Val, vstruct, vcons, vnil, Logic, Goal, Step, step, Item, ‵, ◌$◌, move, fjoin, fpack, feq_i}
-use Rattle.outside.proofs.Common.{RattleType, Valss, nothing}
+use Rattle.outside.proofs.Common.{List, [], ◌∷◌, refl, Ura, Val, vstruct, vcons, vnil, Logic, Goal, Step, step, Item, ‵, ◌$◌, move, fjoin, fpack, feq_i, RattleType, Valss, nothing}
 use denote.Struct.Struct.{Struct, within}
 
 -- a struct by its fields alone: what it owns does not read its name

@@ -1,9 +1,7 @@
 -- The test of a file's name.
-use Rattle.outside.proofs.Common.{◌≡◌, ℕ, zero, suc, ◌<◌, Bool, true, false, ◌&&◌, List, [], ◌∷◌, length, get_or, nat_le, arith, refl, All, IsGoodName}
-use Rattle.outside.proofs.Common.{IsNameByte, is_good_name}
+use Rattle.outside.proofs.Common.{◌≡◌, ℕ, zero, suc, ◌<◌, Bool, true, false, ◌&&◌, List, [], ◌∷◌, length, get_or, nat_le, arith, refl, All, IsGoodName, IsNameByte, is_good_name}
 use Rattle.std.specs.List.{list_all}
-use Rattle.std.proofs.lemmas.Bool.Decides.{nat_tests}
-use Rattle.std.proofs.lemmas.Bool.{and_parts}
+use Rattle.std.proofs.{lemmas.Bool.Decides.nat_tests, lemmas.Bool.and_parts}
 
 bytes_taken : (bs : List ℕ) → All IsNameByte bs → list_all (λ b. nat_le 33 b && nat_le b 126) bs ≡ true
 bytes_taken [] h = refl

@@ -1,6 +1,5 @@
 -- Known bytes that grow by the parts of a piece.
-use Rattle.outside.proofs.Common.{◌≡◌, ◌∙◌, ℕ, ◌+◌, ◌-◌, ◌≤◌, List, ◌++◌, take, drop, length, sym, ap, subst, Option, take-append-drop, take-take, arith}
-use Rattle.outside.proofs.Common.{drop-take, take_rest, Appends, Appends-trans}
+use Rattle.outside.proofs.Common.{◌≡◌, ◌∙◌, ℕ, ◌+◌, ◌-◌, ◌≤◌, List, ◌++◌, take, drop, length, sym, ap, subst, Option, take-append-drop, take-take, arith, drop-take, take_rest, Appends, Appends-trans}
 
 take-plus : (m n : ℕ) (xs : List ℕ) → take m xs ++ take n (drop m xs) ≡ take (m + n) xs
 take-plus m n xs =

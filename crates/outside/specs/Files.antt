@@ -1,9 +1,8 @@
 -- A folder as clauses see it: a finite map from names to bytes.
 use Rattle.std.specs.Prelude.{◌≡◌, ℕ, ◌<◌, ◌≤◌, List, [], ◌∷◌, length, cond, None, Some, IfSome, IsSomeAnd, Option, ◌⊎◌, Contains}
 use Rattle.std.specs.Str.{bytes_eq}
-use Rattle.outside.specs.declared.traits.Found.{Found}
-use Rattle.outside.specs.declared.traits.Found.TheVariants.{Bytes, Missing, TooLong}
-use Rattle.outside.specs.Names.{folder_name, lines, words}
+use Rattle.outside.specs.{declared.traits.Found.Found, declared.traits.Found.TheVariants.Bytes, declared.traits.Found.TheVariants.Missing}
+use Rattle.outside.specs.{declared.traits.Found.TheVariants.TooLong, Names.folder_name, Names.lines, Names.words}
 
 -- a file: its name and its bytes
 pub record File : Type 0 where

@@ -1,9 +1,6 @@
 -- What a reading does to the folder that it is given.
 use Rattle.std.specs.Prelude.{ℕ, List, Result}
-use Rattle.outside.specs.Files.{FileSet}
-use Rattle.outside.specs.Puts.{InputCounts}
-use Rattle.outside.specs.declared.traits.Folder.{Ghosts as FolderOf}
-use Rattle.outside.specs.declared.inputs.InputFault.{InputFault}
+use Rattle.outside.specs.{Files.FileSet, Puts.InputCounts, declared.traits.Folder.Ghosts as FolderOf, declared.inputs.InputFault.InputFault}
 
 -- files that agree with the folder after the reading agreed with it before; only a read fault raised its count; and what it
 -- might be asked for before it may be asked for after

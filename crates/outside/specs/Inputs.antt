@@ -1,12 +1,9 @@
 -- What a named file of a folder gives: its bytes, or a refusal of the file as a whole.
 use Rattle.std.specs.Prelude.{◌≡◌, ℕ, List, length, nat_le, cond, None, Some, Option, Ok, Err, Result}
-use Rattle.outside.specs.Files.{FileSet, bytes_under}
-use Rattle.outside.specs.Names.{folder_name}
-use Rattle.outside.specs.declared.codes.Code.{Code}
-use Rattle.outside.specs.declared.codes.Code.TheVariants.{MissingFile, TooLong}
-use Rattle.outside.specs.declared.inputs.Refusal.{Refusal}
-use Rattle.outside.specs.declared.inputs.InputFault.{InputFault}
-use Rattle.outside.specs.declared.inputs.InputFault.TheVariants.{Refused, ReadFault, Memory}
+use Rattle.outside.specs.{Files.FileSet, Files.bytes_under, Names.folder_name, declared.codes.Code.Code, declared.codes.Code.TheVariants.MissingFile}
+use Rattle.outside.specs.{declared.codes.Code.TheVariants.TooLong, declared.inputs.Refusal.Refusal, declared.inputs.InputFault.InputFault}
+use Rattle.outside.specs.{declared.inputs.InputFault.TheVariants.Refused, declared.inputs.InputFault.TheVariants.ReadFault}
+use Rattle.outside.specs.{declared.inputs.InputFault.TheVariants.Memory}
 
 -- a refusal of a file as a whole, which has line 0
 abbrev pub file_refusal : Code → List ℕ → Refusal

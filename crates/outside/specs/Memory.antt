@@ -1,11 +1,8 @@
 -- The folder and the sink in memory, as clauses see them.
 use Rattle.std.specs.Prelude.{◌≡◌, ℕ, List, [], ◌∷◌, ◌++◌, take, cond, None, Some, Option, Ok, Err, Result, Contains}
 use Rattle.std.specs.Bool.{nat_eq}
-use Rattle.outside.specs.Files.{File}
-use Rattle.outside.specs.Puts.{next_count, Seen}
-use Rattle.outside.specs.declared.traits.FolderError.{FolderError}
+use Rattle.outside.specs.{Files.File, Puts.next_count, Puts.Seen, declared.traits.FolderError.FolderError, declared.traits.SinkError.SinkError}
 use Rattle.outside.specs.declared.traits.FolderError.TheVariants as folder
-use Rattle.outside.specs.declared.traits.SinkError.{SinkError}
 use Rattle.outside.specs.declared.traits.SinkError.TheVariants as sink
 
 -- the files, the latest first; how many bytes of one are read; the calls that must fail; the number of calls made; and of faults

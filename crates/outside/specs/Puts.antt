@@ -1,10 +1,8 @@
 -- Puts to a sink, and what they change in it.
 use Rattle.std.specs.Prelude.{◌≡◌, ℕ, List, [], ◌∷◌, take, Ok, Err, Result, Option, ◌<◌, ◌≤◌, ◌+◌, ◌-◌, ◌^◌, ◌⊎◌, min}
 use Rattle.std.specs.Io.KnownBytes.{Appends, Keeps}
-use Rattle.outside.specs.declared.traits.SinkError.{SinkError}
-use Rattle.outside.specs.declared.traits.SinkError.TheVariants.{Write, Memory}
-use Rattle.outside.specs.declared.traits.FolderError.{FolderError}
-use Rattle.outside.specs.declared.inputs.InputFault.{InputFault}
+use Rattle.outside.specs.{declared.traits.SinkError.SinkError, declared.traits.SinkError.TheVariants.Write, declared.traits.SinkError.TheVariants.Memory}
+use Rattle.outside.specs.{declared.traits.FolderError.FolderError, declared.inputs.InputFault.InputFault}
 use Rattle.outside.specs.declared.traits.FolderError.TheVariants as folder
 use Rattle.outside.specs.declared.traits.SinkError.TheVariants as sink
 use Rattle.outside.specs.declared.inputs.InputFault.TheVariants as input

@@ -1,6 +1,6 @@
 -- Horizontal branches: quotients are compared by products of whole numbers, with what is below another number written as that number less a rest.
-use Rattle.pair_flows.proofs.Common.{◌≡◌, ℕ, ◌<◌, ◌≤◌, ◌+◌, ◌*◌, ◌-◌, ◌⊎◌, refl, arith, ap, ◌∙◌, inl, inr, cases_eq, GentleOrderLaw, GentleLaw, HasTwoSolutions}
-use Rattle.pair_flows.proofs.Common.{LowerHeadLaw, UpperHeadLaw, half_conductance, horizontal_flow, saturated_thickness}
+use Rattle.pair_flows.proofs.Common.{◌≡◌, ℕ, ◌<◌, ◌≤◌, ◌+◌, ◌*◌, ◌-◌, ◌⊎◌, refl, arith, ap, ◌∙◌, inl, inr, cases_eq, GentleOrderLaw, GentleLaw, HasTwoSolutions, LowerHeadLaw, UpperHeadLaw}
+use Rattle.pair_flows.proofs.Common.{half_conductance, horizontal_flow, saturated_thickness}
 use Rattle.std.proofs.Math.Nat.{le_of_mul-le-mul_right, mul-le-mul_left}
 
 -- the upper half x; the lower half a * b, of the saturated thickness b, which rises by t with its head, all of it wet

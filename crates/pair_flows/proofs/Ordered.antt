@@ -1,6 +1,6 @@
 -- Over the cells where x lies above y, what they gain more at y than at x sums to no less than 0, since flows between them cancel.
-use Rattle.pair_flows.proofs.Common.{◌≡◌, ℕ, zero, suc, ◌<◌, ◌≤◌, refl, arith, ℤ, pos, ◌≤ℤ◌, ◌<ℤ◌, neg_ℤ, ◌+ℤ◌, ◌-ℤ◌, Bool, true, false, cond, inl, inr, int_lt}
-use Rattle.pair_flows.proofs.Common.{ap, sym, ◌∙◌, cases_eq, cases_Bool, CellFlows, OrderLaw, SignsEnclose, balance, gain_from_first}
+use Rattle.pair_flows.proofs.Common.{◌≡◌, ℕ, zero, suc, ◌<◌, ◌≤◌, refl, arith, ℤ, pos, ◌≤ℤ◌, ◌<ℤ◌, neg_ℤ, ◌+ℤ◌, ◌-ℤ◌, Bool, true, false, cond, inl, inr, int_lt, ap, sym, ◌∙◌, cases_eq, cases_Bool}
+use Rattle.pair_flows.proofs.Common.{CellFlows, OrderLaw, SignsEnclose, balance, gain_from_first}
 use Rattle.std.proofs.lemmas.Int.{ints, by_lt_z}
 
 -- the sum of f over the marked cells below k

@@ -1,18 +1,14 @@
 -- What is read of the arrays of a stress period.
-use Rattle.period_arrays.proofs.Common.{ok_gives_only, goes_on, if_clear, if_passed, then_, gives_only_less, GivesOnly, HasSize, int_at, is_int, layer_size}
-use Rattle.period_arrays.proofs.Common.{Grid, FileSet, words, IsArea, IsInForce, IsLayers, IsReals, area_at, array_or, arrays_of, flag_at, flag_if, flags_of}
-use Rattle.period_arrays.proofs.Common.{is_layer, is_negative, is_option, layer_step, layers_at, layers_tested, nothing_yet, option_at, InForce, Left, line_at}
-use Rattle.period_arrays.proofs.Common.{All, Bool, List, Ok, [], arith, false, length, negsuc, not, pos, refl, subst, sym, true, ℕ, ℤ, ◌&&◌, ◌<◌, ◌≡◌, ◌≤◌}
-use Rattle.period_arrays.proofs.Common.{each_step, some_give, Area}
+use Rattle.period_arrays.proofs.Common.{ok_gives_only, goes_on, if_clear, if_passed, then_, gives_only_less, GivesOnly, HasSize, int_at, is_int, layer_size, Grid, FileSet, words, IsArea, IsInForce}
+use Rattle.period_arrays.proofs.Common.{IsLayers, IsReals, area_at, array_or, arrays_of, flag_at, flag_if, flags_of, is_layer, is_negative, is_option, layer_step, layers_at, layers_tested}
+use Rattle.period_arrays.proofs.Common.{nothing_yet, option_at, InForce, Left, line_at, All, Bool, List, Ok, [], arith, false, length, negsuc, not, pos, refl, subst, sym, true, ℕ, ℤ, ◌&&◌, ◌<◌, ◌≡◌}
+use Rattle.period_arrays.proofs.Common.{◌≤◌, each_step, some_give, Area}
 use Rattle.array_text.specs.{IsShort}
 use Rattle.array_reader.specs.{integer, number_at, real_layer}
-use Rattle.array_text.proofs.ArrayForms.{array_files_have_form}
+use Rattle.array_text.proofs.{ArrayForms.array_files_have_form, LayerForms.layer_is}
 use Rattle.decimal_input.specs.declared.dec.Dec.{Dec}
-use Rattle.std.proofs.lemmas.Bool.{leb-true}
-use Rattle.std.proofs.lemmas.List.{get_or_default}
-use Rattle.array_text.proofs.LayerForms.{layer_is}
-use Rattle.period_arrays.specs.declared.flags.Contents.{Contents}
-use Rattle.period_arrays.specs.declared.flags.ArraysReadAnew.{ArraysReadAnew}
+use Rattle.std.proofs.{lemmas.Bool.leb-true, lemmas.List.get_or_default}
+use Rattle.period_arrays.specs.{declared.flags.Contents.Contents, declared.flags.ArraysReadAnew.ArraysReadAnew}
 
 -- What is read of the option and the flags of a package of arrays.
 reused : (a b : Bool) → (a && not b) ≡ false → not a ≡ false → b ≡ true

@@ -1,7 +1,6 @@
 -- What a file of a package of arrays gives.
-use Rattle.period_arrays.proofs.Common.{ok_gives_only, goes_on, then_, GivesOnly, HasSize, Grid, FileSet, words, ArrayKind, arrays_in, is_option, nothing_yet}
-use Rattle.period_arrays.proofs.Common.{option_line, tested_area, unit_if, with_area, period_at, periods_of, IsArea, IsInForce, InForce, Left, left_from}
-use Rattle.period_arrays.proofs.Common.{without_comments, All, List, Ok, map, refl, true, ℕ, ℤ, ◌≡◌, Area}
+use Rattle.period_arrays.proofs.Common.{ok_gives_only, goes_on, then_, GivesOnly, HasSize, Grid, FileSet, words, ArrayKind, arrays_in, is_option, nothing_yet, option_line, tested_area, unit_if}
+use Rattle.period_arrays.proofs.Common.{with_area, period_at, periods_of, IsArea, IsInForce, InForce, Left, left_from, without_comments, All, List, Ok, map, refl, true, ℕ, ℤ, ◌≡◌, Area}
 use Rattle.list_package.specs.{item_line}
 use Rattle.model_types.specs.declared.period.Period.{Period}
 use Rattle.list_package.proofs.ListForms.{steps, each_are}

@@ -1,6 +1,6 @@
 -- The line of the option leaves lines that it was given.
-use Rattle.period_arrays.proofs.Common.{◌≡◌, ℕ, ℤ, List, Ok, All, LineMay, LinesMay, rest_has_its_lines, ArrayKind, option_line, unit_if, Left, Numbered}
-use Rattle.period_arrays.proofs.Common.{GivesOnly, option_at, words, ok_gives_only, goes_on, then_}
+use Rattle.period_arrays.proofs.Common.{◌≡◌, ℕ, ℤ, List, Ok, All, LineMay, LinesMay, rest_has_its_lines, ArrayKind, option_line, unit_if, Left, Numbered, GivesOnly, option_at, words, ok_gives_only}
+use Rattle.period_arrays.proofs.Common.{goes_on, then_}
 use Rattle.list_package.proofs.Forward.{item_held}
 
 option_held : (P : Numbered → Type 0) (kind : ArrayKind) (file : List ℕ) (left : Left) → All P left.lines → GivesOnly (λ x. All P x.1.lines) (option_line kind file left)

@@ -1,19 +1,12 @@
 -- The arrays of RCH and EVT that are in force in a stress period (TM 6-A16, RCH and EVT).
 use Rattle.std.specs.Prelude.{ℕ, Bool, true, false, List, [], Result, Ok, if◌then◌else◌, ℤ, pos, negsuc, not, ◌&&◌, nat_lt, nat_le, Err, Some}
-use Rattle.outside.specs.{FileSet, words, refusal}
-use Rattle.outside.specs.declared.inputs.Refusal.{Refusal}
+use Rattle.outside.specs.{FileSet, words, refusal, declared.inputs.Refusal.Refusal, declared.codes.Code.TheVariants.OutOfProfile}
+use Rattle.outside.specs.{declared.codes.Code.TheVariants.NothingToReuse, declared.codes.Code.TheVariants.CellOutside, declared.codes.Code.Code}
 use Rattle.record_lines.specs.{line_at, Left, ◌>>=◌, each_number}
 use Rattle.array_reader.specs.{real_layer, integer_layer, number_at, integer}
-use Rattle.model_types.specs.declared.grid.Grid.{Grid}
-use Rattle.period_arrays.specs.declared.area.Area.{Area}
-use Rattle.period_arrays.specs.declared.area.InForce.{InForce}
-use Rattle.period_arrays.specs.declared.flags.Contents.{Contents}
-use Rattle.period_arrays.specs.declared.flags.ArraysReadAnew.{ArraysReadAnew}
-use Rattle.outside.specs.declared.codes.Code.TheVariants.{OutOfProfile, NothingToReuse, CellOutside}
-use Rattle.outside.specs.declared.codes.Code.{Code}
-use Rattle.model_types.specs.{layer_size, place, int_at, is_int}
-use Rattle.model_types.specs.declared.period.Period.{Period}
-use Rattle.model_types.specs.declared.period.Stresses.{Stresses}
+use Rattle.model_types.specs.{declared.grid.Grid.Grid, layer_size, place, int_at, is_int, declared.period.Period.Period, declared.period.Stresses.Stresses}
+use Rattle.period_arrays.specs.{declared.area.Area.Area, declared.area.InForce.InForce, declared.flags.Contents.Contents}
+use Rattle.period_arrays.specs.{declared.flags.ArraysReadAnew.ArraysReadAnew}
 
 -- Words of the lines before arrays (TM 6-A16, RCH and EVT).
 -- NRCHOP or NEVTOP, the option that chooses a cell in each column of layers: 1, 2 or 3

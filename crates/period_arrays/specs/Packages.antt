@@ -1,21 +1,13 @@
 -- A file of a package of arrays (TM 6-A16, RCH and EVT).
 use Rattle.std.specs.Prelude.{ℕ, ℤ, Bool, List, [], Result, Ok, if◌then◌else◌, ◌≡◌, ◌<◌, true, false, All, length}
-use Rattle.outside.specs.{FileSet, words}
-use Rattle.outside.specs.declared.inputs.Refusal.{Refusal}
+use Rattle.outside.specs.{FileSet, words, declared.inputs.Refusal.Refusal, declared.codes.Code.Code, declared.inputs.TextFault.TextFault}
 use Rattle.record_lines.specs.{Left, left_from, without_comments, ◌>>=◌, for_each}
 use Rattle.array_reader.specs.{number_at, integer}
-use Rattle.model_types.specs.declared.grid.Grid.{Grid}
-use Rattle.model_types.specs.declared.period.Period.{Period}
+use Rattle.model_types.specs.{declared.grid.Grid.Grid, declared.period.Period.Period, layer_size, int_at, is_int}
 use Rattle.list_package.specs.{item_line, without_state}
-use Rattle.period_arrays.specs.Areas.{area_at, nothing_yet, option_at, ArrayKind, contents, with_area, refusal_at, is_layer}
-use Rattle.period_arrays.specs.declared.area.Area.{Area}
-use Rattle.period_arrays.specs.declared.area.InForce.{InForce}
-use Rattle.period_arrays.specs.declared.read.ArrayFile.{ArrayFile}
-use Rattle.decimal_input.specs.declared.dec.Dec.{Dec}
-use Rattle.decimal_input.specs.{IsDec}
-use Rattle.outside.specs.declared.codes.Code.{Code}
-use Rattle.outside.specs.declared.inputs.TextFault.{TextFault}
-use Rattle.model_types.specs.{layer_size, int_at, is_int}
+use Rattle.period_arrays.specs.{Areas.area_at, Areas.nothing_yet, Areas.option_at, Areas.ArrayKind, Areas.contents, Areas.with_area, Areas.refusal_at}
+use Rattle.period_arrays.specs.{Areas.is_layer, declared.area.Area.Area, declared.area.InForce.InForce, declared.read.ArrayFile.ArrayFile}
+use Rattle.decimal_input.specs.{declared.dec.Dec.Dec, IsDec}
 use Rattle.array_text.specs.{IsShort}
 use Rattle.outside.specs.declared.inputs.TextFault.TheVariants as texts
 

@@ -1,7 +1,6 @@
 -- Bounds that are placed by cell number.
-use Rattle.plan_chain.proofs.Common.{◌≡◌, ◌<◌, ◌+◌, ◌≤◌, ℕ, ap, arith, inl, inr, subst, sym, ◌∙◌, List, length, replicate, set, cases_order, Bound, Entries}
-use Rattle.plan_chain.proofs.Common.{IsProblem, entries_at, no_bound, bound_at, AreByCell, cases_lt, get_or-replicate, get_or-set_other, get_or-set_same}
-use Rattle.plan_chain.proofs.Common.{get_or_past, length-replicate, length-set}
+use Rattle.plan_chain.proofs.Common.{◌≡◌, ◌<◌, ◌+◌, ◌≤◌, ℕ, ap, arith, inl, inr, subst, sym, ◌∙◌, List, length, replicate, set, cases_order, Bound, Entries, IsProblem, entries_at, no_bound, bound_at}
+use Rattle.plan_chain.proofs.Common.{AreByCell, cases_lt, get_or-replicate, get_or-set_other, get_or-set_same, get_or_past, length-replicate, length-set}
 
 -- the bounds of the first n variable cells are placed, all other cells have zeros
 pub record ArePlaced (count : ℕ) (p : List Entries) (bounds all : List Bound) (n : ℕ) : Type 0 where

@@ -1,13 +1,10 @@
 -- A step of two plans encloses both plans' heads, and their differences, in each weather.
-use Rattle.plan_chain.proofs.Common.{All, Contains, List, None, Option, Some, ap, arith, get_or, inl, inr, length, pos, refl, subst, sym, true, ℕ, ℤ, ◌*ℤ◌}
-use Rattle.plan_chain.proofs.Common.{◌-ℤ◌, ◌<◌, ◌^◌, ◌∙◌, ◌≡◌, ◌≤ℤ◌, cases_Bool, true≢false, ints, get_or-map, get_or_default, CellEncloses, EnclosesSolutions}
-use Rattle.plan_chain.proofs.Common.{ExactCell, LiesBetween, cell_at, no_cell, Fraction, IsOver, IsBefore, IsMember, IsOf, Decks, SolvesAt, exact_step}
-use Rattle.plan_chain.proofs.Common.{variable_heads, cell_count, constant_head, index_of, is_active, is_constant, is_variable, times, variable_cells, FlowModel}
-use Rattle.plan_chain.proofs.Common.{TimeStep, IsActive, bound_at, StepEncloses, edges_by, IsProblem, entries_at, lower_at, no_bound, no_entries, upper_at}
-use Rattle.plan_chain.proofs.Common.{Entries, Bound, IsWell, PlannedLieBetween, with_plan, MembersKeepWellsApart, PlannedSteps, plan_flows, ArePlanHeads}
-use Rattle.plan_chain.proofs.Common.{BoundsPair, IsBeforeStep, IsPlanStep, IsPlanTask, PlanStepEncloses, decks_with, heads_in, plan_pairs, PlanHeads}
-use Rattle.plan_chain.proofs.Common.{PlanSolved, PlanTask, not, option_map, ◌&&◌, ProblemFits, HasCellsOf, pair_words, cells_same, head_same, variable_same}
-use Rattle.plan_chain.proofs.Common.{IsPeriodBetween}
+use Rattle.plan_chain.proofs.Common.{All, Contains, List, None, Option, Some, ap, arith, get_or, inl, inr, length, pos, refl, subst, sym, true, ℕ, ℤ, ◌*ℤ◌, ◌-ℤ◌, ◌<◌, ◌^◌, ◌∙◌, ◌≡◌, ◌≤ℤ◌, cases_Bool}
+use Rattle.plan_chain.proofs.Common.{true≢false, ints, get_or-map, get_or_default, CellEncloses, EnclosesSolutions, ExactCell, LiesBetween, cell_at, no_cell, Fraction, IsOver, IsBefore, IsMember}
+use Rattle.plan_chain.proofs.Common.{IsOf, Decks, SolvesAt, exact_step, variable_heads, cell_count, constant_head, index_of, is_active, is_constant, is_variable, times, variable_cells, FlowModel}
+use Rattle.plan_chain.proofs.Common.{TimeStep, IsActive, bound_at, StepEncloses, edges_by, IsProblem, entries_at, lower_at, no_bound, no_entries, upper_at, Entries, Bound, IsWell, PlannedLieBetween}
+use Rattle.plan_chain.proofs.Common.{with_plan, MembersKeepWellsApart, PlannedSteps, plan_flows, ArePlanHeads, BoundsPair, IsBeforeStep, IsPlanStep, IsPlanTask, PlanStepEncloses, decks_with, heads_in}
+use Rattle.plan_chain.proofs.Common.{plan_pairs, PlanHeads, PlanSolved, PlanTask, not, option_map, ◌&&◌, ProblemFits, HasCellsOf, pair_words, cells_same, head_same, variable_same, IsPeriodBetween}
 use Rattle.model_types.specs.declared.entry.Entry.{Entry}
 use Rattle.std.proofs.Math.IntN.{zero-*ℤ}
 use Rattle.cell_balance.proofs.Zips.{AllZip-at, AllZip-length}
@@ -17,11 +14,9 @@ use Rattle.decimal_input.specs.Fractions.{den}
 use Rattle.deck_span.proofs.ThreeLists.{three_lengths}
 use Rattle.flow_equations.proofs.Links.{ids_are}
 use Rattle.problem_builder.proofs.Members.{In-Contains, variable-In, variable_active}
-use Rattle.step_chain.proofs.Assembled.{active_constant, constant_not_variable, count_of, index_below, number_of}
-use Rattle.step_chain.proofs.Limits.{held_by, uncut_by}
+use Rattle.step_chain.proofs.{Assembled.active_constant, Assembled.constant_not_variable, Assembled.count_of, Assembled.index_below, Assembled.number_of, Limits.held_by, Limits.uncut_by}
 use Rattle.plan_step.proofs.Fits.{is_problem}
-use Rattle.plan_chain.proofs.Members.{MemberMove, member_cells, member_move}
-use Rattle.plan_chain.proofs.Settling.{times_planned}
+use Rattle.plan_chain.proofs.{Members.MemberMove, Members.member_cells, Members.member_move, Settling.times_planned}
 use Rattle.plan_step.specs.{IsPlannedStep, SolutionsBoundPlans, AreTwoPlans}
 
 -- a member of the decks, with the plan's wells, is a member of the decks with them

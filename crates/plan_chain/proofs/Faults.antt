@@ -1,8 +1,6 @@
 -- Why a step has no differences, by the faults of the calls that make them.
-use Rattle.plan_chain.proofs.Common.{List, ℕ, inl, inr, Bound, Entries, Edges, Solved, FailBy, IsBarrierBy, StepFault, IsBarrierFault, SettlesNot, of_bound}
-use Rattle.plan_chain.proofs.Common.{IsTheirProblem, Limits}
-use Rattle.step_problem.specs.declared.place.NoBound.{NoBound}
-use Rattle.step_problem.specs.declared.refusal.BoundFault.{BoundFault}
+use Rattle.plan_chain.proofs.Common.{List, ℕ, inl, inr, Bound, Entries, Edges, Solved, FailBy, IsBarrierBy, StepFault, IsBarrierFault, SettlesNot, of_bound, IsTheirProblem, Limits}
+use Rattle.step_problem.specs.{declared.place.NoBound.NoBound, declared.refusal.BoundFault.BoundFault}
 use Rattle.step_problem.specs.declared.refusal.BoundFault.TheVariants as bound
 use Rattle.step_chain.specs.declared.solved.StepFault.TheVariants as fault
 

@@ -1,12 +1,10 @@
 -- What a member of decks, the model of one deck or one between two, has of the choices of the decks, and of the steps that enclose them.
-use Rattle.plan_chain.proofs.Common.{◌≡◌, ◌<◌, ◌≤◌, ℕ, ℤ, List, Option, Some, None, Contains, length, refl, sym, ap, subst, Fraction, EnclosesStep, ExactCell}
-use Rattle.plan_chain.proofs.Common.{LiesBetween, SolvesAt, exact_step, variable_heads, IsModel, period_at, start_head, times, Limits, FlowModel, TimeStep}
-use Rattle.plan_chain.proofs.Common.{HeadsEnclose, PairKind, lower_at, upper_at, Bound, SolvesChoiceAt, own_choice, step_from, Decks, IsBefore, IsChoiceOf}
-use Rattle.plan_chain.proofs.Common.{IsMember, IsOf, IsOwnChoice, IsStartOf, HasCellsOf, between_cells, cell_of_first, cell_of_member, own_choice_is}
-use Rattle.plan_chain.proofs.Common.{own_solves, IsStepBy, LiesWithin, StepEncloses, Solved}
+use Rattle.plan_chain.proofs.Common.{◌<◌, ◌≤◌, ℕ, ℤ, List, Option, Some, None, length, refl, sym, ap, subst, Fraction, EnclosesStep, ExactCell, LiesBetween, SolvesAt, exact_step, variable_heads}
+use Rattle.plan_chain.proofs.Common.{IsModel, period_at, start_head, Limits, FlowModel, TimeStep, HeadsEnclose, PairKind, lower_at, upper_at, Bound, SolvesChoiceAt, own_choice, Decks, IsBefore}
+use Rattle.plan_chain.proofs.Common.{IsChoiceOf, IsMember, IsOf, IsOwnChoice, IsStartOf, HasCellsOf, between_cells, cell_of_first, cell_of_member, own_choice_is, own_solves, IsStepBy, LiesWithin}
+use Rattle.plan_chain.proofs.Common.{StepEncloses, Solved}
 use Rattle.problem_builder.proofs.TimesOf.{time_of}
-use Rattle.deck_span.proofs.OwnChoices.{models_give, models_solve, own_step}
-use Rattle.deck_span.proofs.SameFrames.{starts_between}
+use Rattle.deck_span.proofs.{OwnChoices.models_give, OwnChoices.models_solve, OwnChoices.own_step, SameFrames.starts_between}
 
 cells_by : (a : FlowModel) (o : Option FlowModel) (m : FlowModel) → IsOf a o m → HasCellsOf a m
 cells_by a None m e =

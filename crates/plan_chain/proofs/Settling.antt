@@ -1,9 +1,8 @@
 -- A step of two plans, by the clauses of the calls that gave its parts.
-use Rattle.plan_chain.proofs.Common.{Contains, times, List, length, ℕ, ap, subst, sym, ◌∙◌, ◌≡◌, Decks, cell_count, variable_cells, TimeStep, Solved, PlanHeads}
-use Rattle.plan_chain.proofs.Common.{PlanTask, IsPlanTask, AreDifferencesBy, FailBy, PairKind, Bound, plan_pairs, FailsBy, IsStepBy, StepFault, times_same}
-use Rattle.plan_chain.proofs.Common.{cells_same, FailsInPart, IsBaseStep, IsPlannedDeckStep}
+use Rattle.plan_chain.proofs.Common.{Contains, times, List, length, ℕ, ap, subst, sym, ◌∙◌, ◌≡◌, Decks, cell_count, variable_cells, TimeStep, Solved, PlanHeads, PlanTask, IsPlanTask, AreDifferencesBy}
+use Rattle.plan_chain.proofs.Common.{FailBy, PairKind, Bound, plan_pairs, IsStepBy, StepFault, times_same, cells_same, FailsInPart, IsBaseStep, IsPlannedDeckStep}
 use Rattle.deck_problems.proofs.Counted.{problem_count}
-use Rattle.plan_chain.specs.declared.step.PlanPart.TheVariants.{Base, Planned, Differences}
+use Rattle.plan_chain.specs.declared.step.PlanPart.TheVariants.{Differences}
 use Rattle.step_chain.specs.declared.solved.StepFault.TheVariants as fault
 
 -- a time of the decks is one of the decks with the plan's wells
@@ -30,25 +29,6 @@ module _ (k : PlanTask) (at : TimeStep) (old : PlanHeads) where
       let Q : List Bound → Type 0 = λ xs. AreDifferencesBy k.limits x y xs (cell_count k.base.first.grid) kind v in
       let R : ℕ → Type 0 = λ n. AreDifferencesBy k.limits x y lent n kind v in
       subst P kinds (subst Q same (subst R many h))
-
-  pub base_fails : (rounds : ℕ) (lent : List Bound) → rounds ≡ k.rounds → lent ≡ old.base → (f : StepFault) → FailsBy k.limits k.base k.digits at lent rounds f → FailsInPart k at old Base f
-  base_fails rounds lent these same f h = cases f (let P : List Bound → Type 0 = λ xs. FailsBy k.limits k.base k.digits at xs k.rounds f in
-      subst P same (let Q : ℕ → Type 0 = λ n. FailsBy k.limits k.base k.digits at lent n f in subst Q these h))
-    where
-      cases : (f : StepFault) → FailsBy k.limits k.base k.digits at old.base k.rounds f → FailsInPart k at old Base f
-      cases (fault.NoBound n) h = h
-      cases (fault.Unfinished o) h = (o, h)
-      cases fault.Memory h = tt
-
-  pub planned_fails : (x : Solved) → IsBaseStep k at old x → (rounds : ℕ) (lent : List Bound) → rounds ≡ k.rounds → lent ≡ old.planned → (f : StepFault) →
-      FailsBy k.limits k.planned k.digits at lent rounds f → FailsInPart k at old Planned f
-  planned_fails x base rounds lent these same f h = cases f (let P : List Bound → Type 0 = λ xs. FailsBy k.limits k.planned k.digits at xs k.rounds f in
-      subst P same (let Q : ℕ → Type 0 = λ n. FailsBy k.limits k.planned k.digits at lent n f in subst Q these h))
-    where
-      cases : (f : StepFault) → FailsBy k.limits k.planned k.digits at old.planned k.rounds f → FailsInPart k at old Planned f
-      cases (fault.NoBound n) h = (x, base, h)
-      cases (fault.Unfinished o) h = (x, base, (o, h))
-      cases fault.Memory h = tt
 
   pub differences_fail : (x y : Solved) → IsBaseStep k at old x → IsPlannedDeckStep k at old y → (rounds : ℕ) (lent : List Bound) → rounds ≡ k.rounds → lent ≡ old.differences → (f : StepFault) →
       FailBy k.limits x y lent rounds f → FailsInPart k at old Differences f

@@ -1,7 +1,6 @@
 -- Why a walk stops, by the fault of its step.
 use Rattle.plan_chain.proofs.Common.{List, ◌∷◌, refl, TimeStep, PlanHeads, PlanTask, StepFault, FailsAt, FailsInPart, StopsAt, stop_by, stop_of}
-use Rattle.plan_chain.specs.declared.step.PlanFault.{PlanFault}
-use Rattle.plan_chain.specs.declared.step.PlanPart.{PlanPart}
+use Rattle.plan_chain.specs.{declared.step.PlanFault.PlanFault, declared.step.PlanPart.PlanPart}
 use Rattle.step_chain.specs.declared.solved.StepFault.TheVariants as fault
 
 module _ (k : PlanTask) (at : TimeStep) (old : PlanHeads) (rest : List TimeStep) where

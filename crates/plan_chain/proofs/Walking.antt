@@ -1,24 +1,16 @@
 -- Every pair of histories lies within the steps of a whole listing, by induction on the time steps; and there are such.
-use Rattle.plan_chain.proofs.Common.{All, Contains, List, [], ◌∷◌, ap, arith, inl, inr, length, map, pos, replicate, subst, sym, suc, zero, ℕ, ℤ, ◌*ℤ◌, ◌*◌}
-use Rattle.plan_chain.proofs.Common.{◌-ℤ◌, ◌<◌, ◌^◌, ◌∙◌, ◌≡◌, ◌≤ℤ◌, PlannedLieBetween, cases_order, get_or_default, minus, share, EnclosesSigned, Fraction}
-use Rattle.plan_chain.proofs.Common.{heads_of, start_head, times, FlowModel, TimeStep, AreGridHeads, HeadsEnclose, HeadsFit, LiesWithin, Solved, IsHead, ints}
-use Rattle.plan_chain.proofs.Common.{entries_at, lower_at, no_bound, upper_at, Entries, Bound, edges_by, bound_at, AreByCell, ArePlanHeads, AreStartsOf}
-use Rattle.plan_chain.proofs.Common.{BothHaveOne, BoundsPair, BoundsPairs, IsBeforeStep, IsPlanStep, IsPlanTask, PairsLieWithin, PlanStepEncloses, PlanSteps}
-use Rattle.plan_chain.proofs.Common.{heads_in, plan_pairs, with_plan, PlanHeads, PlanSolved, PlanTask, cell_count, Decks, length-replicate, ◌⊎◌}
-use Rattle.plan_chain.proofs.Common.{encloses_member, StartHeadsEnclose, StartHeadsFit, pair_words, AreSteps, times_same, nothing_apart, SolvesPairsFrom}
+use Rattle.plan_chain.proofs.Common.{All, Contains, List, [], ◌∷◌, ap, arith, inl, inr, length, map, pos, replicate, subst, sym, suc, zero, ℕ, ℤ, ◌*ℤ◌, ◌*◌, ◌-ℤ◌, ◌<◌, ◌^◌, ◌∙◌, ◌≡◌, ◌≤ℤ◌}
+use Rattle.plan_chain.proofs.Common.{PlannedLieBetween, cases_order, get_or_default, minus, share, EnclosesSigned, Fraction, heads_of, start_head, times, FlowModel, TimeStep, AreGridHeads}
+use Rattle.plan_chain.proofs.Common.{HeadsEnclose, HeadsFit, LiesWithin, Solved, IsHead, ints, entries_at, lower_at, no_bound, upper_at, Entries, Bound, edges_by, bound_at, AreByCell, ArePlanHeads}
+use Rattle.plan_chain.proofs.Common.{AreStartsOf, BothHaveOne, BoundsPair, BoundsPairs, IsBeforeStep, IsPlanStep, IsPlanTask, PairsLieWithin, PlanStepEncloses, PlanSteps, heads_in, plan_pairs}
+use Rattle.plan_chain.proofs.Common.{with_plan, PlanHeads, PlanSolved, PlanTask, cell_count, Decks, length-replicate, ◌⊎◌, encloses_member, StartHeadsEnclose, StartHeadsFit, pair_words, AreSteps}
+use Rattle.plan_chain.proofs.Common.{times_same, nothing_apart, SolvesPairsFrom}
 use Rattle.cell_relax.specs.{AreWords}
-use Rattle.cell_balance.proofs.Deep.{sub_mul}
-use Rattle.cell_balance.proofs.Encloses.{share_is}
-use Rattle.cell_balance.proofs.Enclosing.{enclosed_over}
-use Rattle.cell_balance.proofs.Scaling.{IsOver-minus}
+use Rattle.cell_balance.proofs.{Deep.sub_mul, Encloses.share_is, Enclosing.enclosed_over, Scaling.IsOver-minus}
 use Rattle.deck_problems.proofs.Starting.{starts_enclose_all, starts_fit_decks}
-use Rattle.exact_histories.proofs.HaveOne.{have_one_by}
-use Rattle.exact_histories.proofs.Turns.{heads_at, turns_of}
-use Rattle.plan_chain.proofs.Members.{encloses_first, lies_in_first, member_cells, member_starts}
+use Rattle.exact_histories.proofs.{HaveOne.have_one_by, Turns.heads_at, Turns.turns_of}
+use Rattle.plan_chain.proofs.{Members.encloses_first, Members.lies_in_first, Members.member_cells, Members.member_starts, ByCell.zeros_are_placed, Enclosing.planned_member, Settling.times_planned}
 use Rattle.step_chain.proofs.Histories.{first_in, lies_encloses, next_in}
-use Rattle.plan_chain.proofs.ByCell.{zeros_are_placed}
-use Rattle.plan_chain.proofs.Enclosing.{planned_member}
-use Rattle.plan_chain.proofs.Settling.{times_planned}
 use Rattle.plan_chain.specs.declared.walk.PlanEnd.TheVariants.{Whole}
 
 -- whether one of the first n cells of a problem has this number

@@ -1,15 +1,11 @@
 -- The differences of two plans' heads at a time step: their problem, its barrier, a pair over it, and the differences of all cells.
 use Rattle.std.specs.Prelude.{◌≡◌, ◌⊎◌, ℕ, ◌<◌, List, length}
-use Rattle.step_problem.specs.declared.heads.Bound.{Bound}
-use Rattle.step_problem.specs.declared.place.NoBound.{NoBound}
-use Rattle.step_problem.specs.Entries.{Entries}
-use Rattle.step_problem.specs.{Edges, IsCertificate, IsPairOf, PairKind, RoundsSettleBoth, entries_at, lower_at, no_bound, upper_at}
+use Rattle.step_problem.specs.{declared.heads.Bound.Bound, declared.place.NoBound.NoBound, Entries.Entries, Edges, IsCertificate, IsPairOf, PairKind}
+use Rattle.step_problem.specs.{RoundsSettleBoth, entries_at, lower_at, no_bound, upper_at}
 use Rattle.model_types.specs.declared.limits.Limits.{Limits}
 use Rattle.problem_builder.specs.{bound_at}
-use Rattle.step_chain.specs.declared.solved.Solved.{Solved}
-use Rattle.step_chain.specs.declared.solved.StepFault.{StepFault}
+use Rattle.step_chain.specs.{declared.solved.Solved.Solved, declared.solved.StepFault.StepFault, HasNoBarrier, IsBarrierBy, IsNoCertificate, edges_by}
 use Rattle.step_chain.specs.declared.solved.StepFault.TheVariants as fault
-use Rattle.step_chain.specs.{HasNoBarrier, IsBarrierBy, IsNoCertificate, edges_by}
 use Rattle.plan_step.specs.{IsDifferenceProblem}
 
 -- One bound for each of `count` cells, by cell number: a variable cell of the problem has that of its index, any other cell zeros.

@@ -2,9 +2,7 @@
 use Rattle.std.specs.Prelude.{ℕ, ◌<◌, ℤ, List, [], ◌∷◌, Contains}
 use Rattle.decimal_input.specs.{Fraction}
 use Rattle.cell_balance.specs.{minus}
-use Rattle.model_types.specs.declared.model.FlowModel.{FlowModel}
-use Rattle.model_types.specs.declared.time_steps.TimeStep.{TimeStep}
-use Rattle.model_types.specs.{times}
+use Rattle.model_types.specs.{declared.model.FlowModel.FlowModel, declared.time_steps.TimeStep.TimeStep, times}
 use Rattle.flow_equations.specs.{SolvesAt}
 use Rattle.problem_builder.specs.{HeadsEnclose}
 use Rattle.deck_problems.specs.{IsMember}
@@ -12,12 +10,8 @@ use Rattle.step_chain.specs.{LiesWithin}
 use Rattle.exact_histories.specs.{HaveOneHistory}
 use Rattle.plan_wells.specs.{with_plan}
 use Rattle.plan_histories.specs.{DifferLess, SolvesPairs}
-use Rattle.plan_chain.specs.Plans.{ArePlanHeads, IsPlanStep, IsPlanTask, heads_in}
-use Rattle.plan_chain.specs.Walks.{AllPlanSteps}
-use Rattle.plan_chain.specs.declared.step.PlanHeads.{PlanHeads}
-use Rattle.plan_chain.specs.declared.step.PlanSolved.{PlanSolved}
-use Rattle.plan_chain.specs.declared.step.PlanTask.{PlanTask}
-use Rattle.plan_chain.specs.declared.walk.PlanEnd.TheVariants.{Whole}
+use Rattle.plan_chain.specs.{Plans.ArePlanHeads, Plans.IsPlanStep, Plans.IsPlanTask, Plans.heads_in, Walks.AllPlanSteps, declared.step.PlanHeads.PlanHeads}
+use Rattle.plan_chain.specs.{declared.step.PlanSolved.PlanSolved, declared.step.PlanTask.PlanTask, declared.walk.PlanEnd.TheVariants.Whole}
 
 -- Exact heads before a step, without the plan's wells and with them, lie within these heads, and their differences within these differences.
 pub record IsBeforeStep (m : FlowModel) (old : PlanHeads) (before after : ℕ → Fraction) : Type 0 where

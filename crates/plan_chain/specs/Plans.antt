@@ -1,27 +1,18 @@
 -- What is listed of a plan, and a time step of it: three pairs of heads, each from those before the step.
-use Rattle.std.specs.Prelude.{◌≡◌, ℕ, ◌≤◌, if◌then◌else◌, List, All, length, option_map}
-use Rattle.step_problem.specs.declared.place.NoBound.{NoBound}
-use Rattle.step_problem.specs.{OpenHeads, PairKind, certified, settled}
-use Rattle.model_types.specs.declared.entry.Entry.{Entry}
-use Rattle.model_types.specs.declared.time_steps.TimeStep.{TimeStep}
-use Rattle.model_types.specs.{cell_count}
+use Rattle.std.specs.Prelude.{◌≡◌, ◌≤◌, if◌then◌else◌, List, All, length, option_map}
+use Rattle.step_problem.specs.{declared.place.NoBound.NoBound, OpenHeads, PairKind, certified, settled}
+use Rattle.model_types.specs.{declared.entry.Entry.Entry, declared.time_steps.TimeStep.TimeStep, cell_count}
 use Rattle.problem_builder.specs.{AreGridHeads}
-use Rattle.deck_problems.specs.declared.decks.Decks.{Decks}
-use Rattle.deck_problems.specs.{AreDecks}
+use Rattle.deck_problems.specs.{declared.decks.Decks.Decks, AreDecks}
 use Rattle.zone_pairs.specs.{AreZones}
-use Rattle.step_chain.specs.declared.solved.Solved.{Solved}
-use Rattle.step_chain.specs.declared.solved.StepFault.{StepFault}
+use Rattle.step_chain.specs.{declared.solved.Solved.Solved, declared.solved.StepFault.StepFault, HasNoHeads, IsStepBy, IsOpenStep}
 use Rattle.step_chain.specs.declared.solved.StepFault.TheVariants as fault
-use Rattle.step_chain.specs.{HasNoHeads, IsStepBy, IsOpenStep}
 use Rattle.plan_wells.specs.{IsWell, with_plan}
 use Rattle.plan_histories.specs.{KeepsWellsApart}
-use Rattle.plan_chain.specs.Differences.{AreDifferencesBy, AreOpen, HaveNoBound}
-use Rattle.plan_chain.specs.declared.step.PlanFault.{PlanFault}
-use Rattle.plan_chain.specs.declared.step.PlanHeads.{PlanHeads}
-use Rattle.plan_chain.specs.declared.step.PlanPart.{PlanPart}
-use Rattle.plan_chain.specs.declared.step.PlanPart.TheVariants.{Base, Planned, Differences}
-use Rattle.plan_chain.specs.declared.step.PlanSolved.{PlanSolved}
-use Rattle.plan_chain.specs.declared.step.PlanTask.{PlanTask}
+use Rattle.plan_chain.specs.{Differences.AreDifferencesBy, Differences.AreOpen, Differences.HaveNoBound, declared.step.PlanFault.PlanFault}
+use Rattle.plan_chain.specs.{declared.step.PlanHeads.PlanHeads, declared.step.PlanPart.PlanPart, declared.step.PlanPart.TheVariants.Base}
+use Rattle.plan_chain.specs.{declared.step.PlanPart.TheVariants.Planned, declared.step.PlanPart.TheVariants.Differences, declared.step.PlanSolved.PlanSolved}
+use Rattle.plan_chain.specs.{declared.step.PlanTask.PlanTask}
 
 -- decks with a plan's wells, the same in both
 abbrev pub decks_with : List (List Entry) → Decks → Decks

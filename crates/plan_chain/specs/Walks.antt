@@ -1,22 +1,16 @@
 -- The steps of a plan's listing in turn, how a listing of them ends, and a walk over them.
 use Rattle.std.specs.Prelude.{◌≡◌, ◌+◌, ◌<◌, ◌≤◌, List, [], ◌∷◌, drop, length, replicate}
 use Rattle.step_problem.specs.{no_bound}
-use Rattle.model_types.specs.declared.time_steps.TimeStep.{TimeStep}
-use Rattle.model_types.specs.{cell_count, times}
+use Rattle.model_types.specs.{declared.time_steps.TimeStep.TimeStep, cell_count, times}
 use Rattle.deck_problems.specs.{AreDeckTables, AreStartHeadsFor}
-use Rattle.plan_chain.specs.Plans.{ArePlanHeads, HasNoBoundAt, IsOpenAt, IsPlanStep, heads_in}
+use Rattle.plan_chain.specs.{Plans.ArePlanHeads, Plans.HasNoBoundAt, Plans.IsOpenAt, Plans.IsPlanStep, Plans.heads_in, declared.step.PlanFault.PlanFault}
+use Rattle.plan_chain.specs.{declared.step.PlanHeads.PlanHeads, declared.step.PlanPart.PlanPart, declared.step.PlanSolved.PlanSolved}
+use Rattle.plan_chain.specs.{declared.step.PlanTask.PlanTask, declared.walk.PlanEnd.PlanEnd, declared.walk.PlanEnd.TheVariants.Whole}
+use Rattle.plan_chain.specs.{declared.walk.PlanEnd.TheVariants.NoBound as IsNoBound, declared.walk.PlanEnd.TheVariants.Unfinished}
+use Rattle.plan_chain.specs.{declared.walk.PlanStop.PlanStop, declared.walk.PlanStop.TheVariants.End, declared.walk.PlanStop.TheVariants.Memory}
+use Rattle.plan_chain.specs.{declared.walk.PlanWalk.PlanWalk}
 use Rattle.step_chain.specs.declared.solved.StepFault.{StepFault}
 use Rattle.step_chain.specs.declared.solved.StepFault.TheVariants as fault
-use Rattle.plan_chain.specs.declared.step.PlanFault.{PlanFault}
-use Rattle.plan_chain.specs.declared.step.PlanHeads.{PlanHeads}
-use Rattle.plan_chain.specs.declared.step.PlanPart.{PlanPart}
-use Rattle.plan_chain.specs.declared.step.PlanSolved.{PlanSolved}
-use Rattle.plan_chain.specs.declared.step.PlanTask.{PlanTask}
-use Rattle.plan_chain.specs.declared.walk.PlanEnd.{PlanEnd}
-use Rattle.plan_chain.specs.declared.walk.PlanEnd.TheVariants.{Whole, NoBound as IsNoBound, Unfinished}
-use Rattle.plan_chain.specs.declared.walk.PlanStop.{PlanStop}
-use Rattle.plan_chain.specs.declared.walk.PlanStop.TheVariants.{End, Memory}
-use Rattle.plan_chain.specs.declared.walk.PlanWalk.{PlanWalk}
 
 -- STRT of both plans, which is the same, and differences of 0
 pub record AreStartsOf (k : PlanTask) (h : PlanHeads) : Type 0 where

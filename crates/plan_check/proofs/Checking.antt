@@ -1,8 +1,7 @@
 -- A check of a plan's listing, step by step.
-use Rattle.plan_check.proofs.Common.{All, Contains, List, ◌∷◌, [], ap, arith, drop, get_or, inl, inr, length, refl, subst, suc, sym, ℕ, ◌+◌, ◌<◌, ◌∙◌, ◌≡◌, ◌≤◌}
-use Rattle.plan_check.proofs.Common.{drop_all, drop_more, AllZip, AllZip-length, TimeStep, times, pairs_in, PlanHeads, PlanTask, ArePlanHeads, AreStartsOf}
-use Rattle.plan_check.proofs.Common.{IsPlanTask, ListedPlanStep, AreListedPlan, IsListedPlanStep, heads_listed, PlanCheckFault, PlanListingVerdict, Certified}
-use Rattle.plan_check.proofs.Common.{Checks, FailsBy, IsPlanVerdict, IsVerdictAt, Passes, StopsAt, heads_before, step_at}
+use Rattle.plan_check.proofs.Common.{All, Contains, List, ◌∷◌, [], ap, arith, drop, get_or, inl, inr, length, refl, subst, suc, sym, ℕ, ◌+◌, ◌<◌, ◌≡◌, ◌≤◌, drop_all, drop_more, AllZip, AllZip-length}
+use Rattle.plan_check.proofs.Common.{TimeStep, times, pairs_in, PlanHeads, PlanTask, ArePlanHeads, AreStartsOf, IsPlanTask, ListedPlanStep, AreListedPlan, IsListedPlanStep, PlanCheckFault}
+use Rattle.plan_check.proofs.Common.{PlanListingVerdict, Certified, Checks, FailsBy, IsPlanVerdict, IsVerdictAt, Passes, StopsAt, heads_before, step_at}
 use Rattle.std.proofs.lemmas.List.Elements.{All-contains_itself, All-head, All-tail}
 use Rattle.plan_check.proofs.Listed.{listed_fit}
 use Rattle.plan_check.specs.declared.fault.PlanCheckFault.TheVariants as fault

@@ -1,27 +1,17 @@
 -- Every two histories of two plans in one weather lie within a certified listing, by induction on the time steps; and there are such.
-use Rattle.plan_check.proofs.Common.{Contains, List, [], ◌∷◌, ap, inl, inr, map, refl, subst, sym, ℕ, ℤ, ◌-ℤ◌, ◌<◌, ◌∙◌, ◌≡◌, true, AllZip, EnclosesSigned}
-use Rattle.plan_check.proofs.Common.{Fraction, minus, Bound, certified, lower_at, no_bound, upper_at, Limits, FlowModel, TimeStep, cell_count, start_head}
-use Rattle.plan_check.proofs.Common.{times, IsActive, bound_at, Decks, IsBefore, IsMember, StartHeadsEnclose, StartHeadsFit, Solved, first_in, lies_encloses}
-use Rattle.plan_check.proofs.Common.{next_in, pairs_in, AreChecked, PlanHeads, PlanSolved, PlanTask, ArePlanHeads, AreStartsOf, BoundsPair, IsBeforeStep}
-use Rattle.plan_check.proofs.Common.{IsPlanTask, PlanStepEncloses, heads_in, times_planned, apart_within, starts_are_heads, PlanFlowsEnclose, ListedPlanStep}
-use Rattle.plan_check.proofs.Common.{IsListedPlanStep, BoundPairs, BoundsPairStep, heads_listed, Certified, CertifiedPlansEnclose, Checks, IsPlanVerdict}
-use Rattle.plan_check.proofs.Common.{Passes}
+use Rattle.plan_check.proofs.Common.{Contains, List, [], ◌∷◌, ap, inl, inr, map, subst, sym, ℕ, ℤ, ◌-ℤ◌, ◌<◌, ◌∙◌, ◌≡◌, true, AllZip, EnclosesSigned, Fraction, minus, Bound, certified, lower_at}
+use Rattle.plan_check.proofs.Common.{no_bound, upper_at, Limits, FlowModel, TimeStep, cell_count, start_head, times, IsActive, bound_at, Decks, IsBefore, IsMember, StartHeadsEnclose, StartHeadsFit}
+use Rattle.plan_check.proofs.Common.{Solved, first_in, lies_encloses, next_in, pairs_in, AreChecked, PlanHeads, PlanSolved, PlanTask, ArePlanHeads, BoundsPair, IsBeforeStep, IsPlanTask}
+use Rattle.plan_check.proofs.Common.{PlanStepEncloses, heads_in, times_planned, apart_within, starts_are_heads, PlanFlowsEnclose, ListedPlanStep, IsListedPlanStep, BoundPairs, BoundsPairStep}
+use Rattle.plan_check.proofs.Common.{heads_listed, Certified, CertifiedPlansEnclose, Checks, Passes}
 use Rattle.flow_equations.specs.{SolvesAt, heads_of}
-use Rattle.deck_problems.proofs.OneProblem.{encloses_member}
-use Rattle.deck_problems.proofs.Starting.{starts_enclose_all}
-use Rattle.exact_histories.proofs.OneTurn.{IsTurn, turn_of}
-use Rattle.exact_histories.proofs.Turns.{AreTurns}
-use Rattle.exact_histories.proofs.HaveOne.{have_one_by}
-use Rattle.exact_histories.specs.{HaveOneHistory}
+use Rattle.deck_problems.proofs.{OneProblem.encloses_member, Starting.starts_enclose_all}
+use Rattle.exact_histories.proofs.{OneTurn.IsTurn, OneTurn.turn_of, Turns.AreTurns, HaveOne.have_one_by}
 use Rattle.plan_wells.specs.{PlannedLieBetween, with_plan}
 use Rattle.plan_histories.specs.{SolvesPairsFrom}
-use Rattle.plan_histories.proofs.Pairs.{times_same}
-use Rattle.plan_histories.proofs.PlannedSteps.{nothing_apart}
-use Rattle.plan_chain.proofs.ByCell.{zeros_are_placed}
-use Rattle.plan_chain.proofs.Enclosing.{planned_member}
-use Rattle.plan_chain.proofs.Members.{encloses_first, lies_in_first, member_cells, member_starts}
-use Rattle.plan_check.proofs.Listed.{listed_fit}
-use Rattle.plan_check.proofs.Wider.{IsWide, differences_wide, encloses_wider, heads_wide, holds_step, more_wider, wider_lies}
+use Rattle.plan_histories.proofs.{Pairs.times_same, PlannedSteps.nothing_apart}
+use Rattle.plan_chain.proofs.{ByCell.zeros_are_placed, Enclosing.planned_member, Members.encloses_first, Members.lies_in_first, Members.member_cells, Members.member_starts}
+use Rattle.plan_check.proofs.{Listed.listed_fit, Wider.IsWide, Wider.differences_wide, Wider.encloses_wider, Wider.heads_wide, Wider.holds_step, Wider.more_wider, Wider.wider_lies}
 
 -- One step that passed.
 module _ (k : PlanTask) (task : IsPlanTask k) (quick : k.quick ≡ true) (at : TimeStep) (time : Contains (times k.base.first) at) (old : PlanHeads) (fit : ArePlanHeads k old)

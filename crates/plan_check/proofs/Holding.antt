@@ -1,14 +1,12 @@
 -- What holds, or fails, of a step, by what the calls of its check gave.
-use Rattle.plan_check.proofs.Common.{List, map, refl, subst, sym, ap, ℕ, ◌∙◌, ◌≡◌, true, Bound, Side, Entries, Edges, IsCertificate, entries_at, lower_at}
-use Rattle.plan_check.proofs.Common.{upper_at, AreWords, TimeStep, cell_count, variable_cells, bound_at, Solved, IsBarrierBy, IsBarrierFault, AllReach}
-use Rattle.plan_check.proofs.Common.{HeadsFailBy, IsFirstUnreached, failing, short, variable_bounds, edges_certify, bounds_are, IsDifferenceProblem, PlanHeads}
-use Rattle.plan_check.proofs.Common.{PlanSolved, PlanTask, AreByCell, ListedPlanStep, PlanCheckFault, ArePosed, BaseHolds, DifferencesFailBy, DifferencesHold}
-use Rattle.plan_check.proofs.Common.{FailsBy, FlowsFailBy, HeadsHold, PlannedHolds, ReachesZero, in_base, in_differences, in_flows, in_planned, of_base}
-use Rattle.plan_check.proofs.Common.{of_bound, of_check, of_differences, of_flows, of_planned, place_in, AllZip, ZoneFlow, AllReach, CoversFlow, HeadsFailBy}
-use Rattle.plan_check.proofs.Common.{IsFirstNarrow, IsFirstUnreached, failing, short, variable_bounds, edges_certify, bounds_are, IsDifferenceProblem}
-use Rattle.plan_check.proofs.Common.{PlanHeads, PlanFlows, ArePosed, AreWide, BaseHolds, DifferencesFailBy, DifferencesHold, FailsBy, FlowsFailBy, HeadsHold}
-use Rattle.plan_check.proofs.Common.{PlannedHolds, ReachesZero, SourcesHold, at_zones, in_base, in_differences, in_flows, in_planned, of_base, of_bound}
-use Rattle.plan_check.proofs.Common.{of_check, of_differences, of_flows, of_planned, place_in}
+use Rattle.plan_check.proofs.Common.{List, map, refl, subst, sym, ap, ℕ, ◌∙◌, ◌≡◌, Bound, Side, Entries, Edges, IsCertificate, entries_at, lower_at, upper_at, AreWords, TimeStep, cell_count}
+use Rattle.plan_check.proofs.Common.{variable_cells, bound_at, Solved, IsBarrierBy, IsBarrierFault, AllReach, HeadsFailBy, IsFirstUnreached, failing, short, variable_bounds, edges_certify, bounds_are}
+use Rattle.plan_check.proofs.Common.{IsDifferenceProblem, PlanHeads, PlanSolved, PlanTask, AreByCell, ListedPlanStep, PlanCheckFault, ArePosed, BaseHolds, DifferencesFailBy, DifferencesHold, FailsBy}
+use Rattle.plan_check.proofs.Common.{FlowsFailBy, HeadsHold, PlannedHolds, ReachesZero, in_base, in_differences, in_flows, in_planned, of_base, of_bound, of_check, of_differences, of_flows}
+use Rattle.plan_check.proofs.Common.{of_planned, place_in, AllZip, ZoneFlow, AllReach, CoversFlow, HeadsFailBy, IsFirstNarrow, IsFirstUnreached, failing, short, variable_bounds, edges_certify}
+use Rattle.plan_check.proofs.Common.{bounds_are, IsDifferenceProblem, PlanHeads, PlanFlows, ArePosed, AreWide, BaseHolds, DifferencesFailBy, DifferencesHold, FailsBy, FlowsFailBy, HeadsHold}
+use Rattle.plan_check.proofs.Common.{PlannedHolds, ReachesZero, SourcesHold, at_zones, in_base, in_differences, in_flows, in_planned, of_base, of_bound, of_check, of_differences, of_flows, of_planned}
+use Rattle.plan_check.proofs.Common.{place_in}
 use Rattle.step_problem.specs.declared.refusal.BoundFault.{BoundFault}
 use Rattle.certificate_check.specs.{IsFirstFailing}
 use Rattle.check_run.specs.declared.listing.CheckFault.{CheckFault}

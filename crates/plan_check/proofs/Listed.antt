@@ -1,6 +1,6 @@
 -- The heads and the differences of a listed step are those of all cells, in range.
-use Rattle.plan_check.proofs.Common.{List, subst, sym, ℕ, Bound, FlowModel, TimeStep, AreGridHeads, Decks, ZonePair, in_range, PlanTask, ArePlanHeads}
-use Rattle.plan_check.proofs.Common.{IsPlanTask, ListedPlanStep, AreBoundsOf, IsListedPlanStep, heads_listed}
+use Rattle.plan_check.proofs.Common.{List, subst, sym, Bound, FlowModel, TimeStep, AreGridHeads, Decks, ZonePair, in_range, PlanTask, ArePlanHeads, IsPlanTask, ListedPlanStep, AreBoundsOf}
+use Rattle.plan_check.proofs.Common.{IsListedPlanStep, heads_listed}
 
 bounds_fit : (m : FlowModel) (bs : List Bound) → AreBoundsOf m bs → AreGridHeads m bs
 bounds_fit m bs h = record { whole = h.whole; range = in_range m 0 bs h.bounds }

@@ -1,26 +1,18 @@
 -- A plan's listing has one verdict.
-use Rattle.plan_check.proofs.Common.{List, [], ◌∷◌, Ok, Err, Result, Contains, ap, inl, inr, refl, subst, sym, ℕ, ◌∙◌, ◌≡◌, ◌≢◌, ◌⊎◌, AllZip, Bound, Side}
-use Rattle.plan_check.proofs.Common.{Entries, Edges, IsCertificate, IsProblem, lower_at, upper_at, Covers, IsFirstUncovered, Limits, TimeStep, cell_count}
-use Rattle.plan_check.proofs.Common.{times, ConstantPairIsOne, IsBefore, Solved, HasNoBarrier, HasNoPose, IsBarrierBy, first_in, cut_by, pairs_in, CoversFlow}
-use Rattle.plan_check.proofs.Common.{FailAt, IsFirstNarrow, a_problem, cells_fail_once, certified_never_fail, checked_never_fails, checked_never_refused}
-use Rattle.plan_check.proofs.Common.{checked_one, fails_never_refused, fails_one, refusals_one, PlanHeads, PlanSolved, PlanTask, AreByCell, ArePlanHeads}
-use Rattle.plan_check.proofs.Common.{IsPlanTask, IsTheirProblem, times_planned, starts_are_heads, PlanFlows, ListedPlanStep, IsListedPlanStep, heads_listed}
-use Rattle.plan_check.proofs.Common.{PlanListingVerdict, Certified, Fails, Refused, ArePosed, BaseHolds, Checks, DifferenceFailsAt, DifferencesHold, FailsAt}
-use Rattle.plan_check.proofs.Common.{FlowFailsAt, HaveNoBarrier, HeadsHold, IsRefused, Passes, PlanVerdictIsOne, PlannedHolds, ReachesZero, StopsAt, as_budget}
-use Rattle.plan_check.proofs.Common.{at_source, at_zones, in_base, in_differences, in_flows, in_planned, of_base, of_differences, of_flows, of_planned}
-use Rattle.plan_check.proofs.Common.{place_in}
-use Rattle.step_problem.specs.declared.place.Dir.{Dir}
-use Rattle.step_problem.specs.declared.place.NoBound.{NoBound}
-use Rattle.step_problem.specs.declared.place.Place.{Place}
-use Rattle.step_problem.specs.declared.place.Term.{Term}
+use Rattle.plan_check.proofs.Common.{List, [], ◌∷◌, Ok, Err, Result, Contains, ap, inl, inr, refl, subst, sym, ℕ, ◌∙◌, ◌≡◌, ◌≢◌, ◌⊎◌, AllZip, Bound, Side, Entries, Edges, IsCertificate, IsProblem}
+use Rattle.plan_check.proofs.Common.{lower_at, upper_at, Covers, IsFirstUncovered, Limits, TimeStep, cell_count, times, ConstantPairIsOne, IsBefore, Solved, HasNoBarrier, HasNoPose, IsBarrierBy}
+use Rattle.plan_check.proofs.Common.{first_in, cut_by, pairs_in, CoversFlow, FailAt, IsFirstNarrow, a_problem, cells_fail_once, certified_never_fail, checked_never_fails, checked_never_refused}
+use Rattle.plan_check.proofs.Common.{checked_one, fails_never_refused, fails_one, refusals_one, PlanHeads, PlanSolved, PlanTask, AreByCell, ArePlanHeads, IsPlanTask, IsTheirProblem, times_planned}
+use Rattle.plan_check.proofs.Common.{starts_are_heads, PlanFlows, ListedPlanStep, IsListedPlanStep, heads_listed, PlanListingVerdict, Certified, Fails, Refused, ArePosed, BaseHolds, Checks}
+use Rattle.plan_check.proofs.Common.{DifferenceFailsAt, DifferencesHold, FailsAt, FlowFailsAt, HaveNoBarrier, HeadsHold, IsRefused, Passes, PlanVerdictIsOne, PlannedHolds, ReachesZero, StopsAt}
+use Rattle.plan_check.proofs.Common.{as_budget, at_source, at_zones, in_base, in_differences, in_flows, in_planned, of_base, of_differences, of_flows, of_planned, place_in}
+use Rattle.step_problem.specs.{declared.place.Dir.Dir, declared.place.NoBound.NoBound, declared.place.Place.Place, declared.place.Term.Term}
 use Rattle.model_types.specs.declared.limits.Limits.TheVariants.{Plain, Wide}
 use Rattle.listing_run.proofs.Unique.{IsRest, rest_more, rest_whole}
-use Rattle.check_run.proofs.Firsts.{narrow_one, never_narrow, term_one}
-use Rattle.check_run.proofs.OneVerdict.{Laws}
-use Rattle.plan_run.proofs.OneListing.{starts_once}
+use Rattle.check_run.proofs.{Firsts.narrow_one, Firsts.never_narrow, Firsts.term_one, OneVerdict.Laws}
+use Rattle.plan_run.proofs.{OneListing.starts_once, OneStep.by_cell_one, OneStep.one_problem, OneStep.their_problem_fits}
 use Rattle.plan_chain.specs.declared.step.PlanPart.{PlanPart}
 use Rattle.plan_listing.specs.declared.last_lines.PlanPlace.{PlanPlace}
-use Rattle.plan_run.proofs.OneStep.{by_cell_one, one_problem, their_problem_fits}
 use Rattle.plan_check.proofs.Listed.{listed_fit}
 use Rattle.plan_chain.specs.declared.step.PlanPart.TheVariants as parts
 unfoldable use Rattle.plan_sources.specs.{flows_of}

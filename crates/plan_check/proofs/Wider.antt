@@ -1,17 +1,13 @@
 -- A step that holds is a plan's step, and its listed heads, differences and flows are at least as wide as the step's.
-use Rattle.plan_check.proofs.Common.{All, List, Option, Some, None, ap, arith, inl, inr, length, refl, subst, sym, ℕ, ℤ, ◌+◌, ◌-ℤ◌, ◌<◌, ◌∙◌, ◌≡◌, ◌≤ℤ◌, true}
-use Rattle.plan_check.proofs.Common.{ext_get_or, get_or-map, length-map, AllZip, Bool, IfSome, false, if◌then◌else◌, EnclosesSigned, Fraction, Bound, Entries}
-use Rattle.plan_check.proofs.Common.{certified, entries_at, lower_at, no_bound, no_entries, settled, upper_at, ExactCell, AllZip-at, AllZip-length, Covers}
-use Rattle.plan_check.proofs.Common.{Limits, FlowModel, TimeStep, cell_count, index_of, is_variable, variable_cells, ZonePair, HeadsEnclose, IsActive, bound_at}
-use Rattle.plan_check.proofs.Common.{Decks, AreDecks, IsProblemFor, Solved, LiesWithin, AreChecked, CoversFlow, IsConstantCell, variable_bounds, id_is}
-use Rattle.plan_check.proofs.Common.{variable_listed, IsDifferenceProblem, PlanHeads, PlanSolved, PlanTask, IsPlanStep, IsPlanTask, plan_pairs, base_is}
-use Rattle.plan_check.proofs.Common.{differences_are, planned_is, PlanFlows, EncloseMore, ListedPlanStep, DifferencesHold, HeadsHold, as_budget, ZoneFlow}
-use Rattle.std.proofs.lemmas.Bool.{cases_Bool, true≢false}
-use Rattle.std.proofs.lemmas.Int.{ints}
+use Rattle.plan_check.proofs.Common.{All, List, Option, Some, None, ap, arith, inl, inr, length, refl, subst, sym, ℕ, ℤ, ◌+◌, ◌<◌, ◌∙◌, ◌≡◌, ◌≤ℤ◌, true, ext_get_or, get_or-map, length-map, AllZip}
+use Rattle.plan_check.proofs.Common.{Bool, IfSome, false, if◌then◌else◌, EnclosesSigned, Fraction, Bound, Entries, certified, entries_at, lower_at, no_bound, no_entries, settled, upper_at, ExactCell}
+use Rattle.plan_check.proofs.Common.{AllZip-at, AllZip-length, Covers, Limits, FlowModel, TimeStep, cell_count, index_of, is_variable, variable_cells, ZonePair, HeadsEnclose, IsActive, bound_at}
+use Rattle.plan_check.proofs.Common.{Decks, AreDecks, IsProblemFor, Solved, LiesWithin, AreChecked, CoversFlow, IsConstantCell, id_is, variable_listed, IsDifferenceProblem, PlanHeads, PlanSolved}
+use Rattle.plan_check.proofs.Common.{PlanTask, IsPlanStep, IsPlanTask, plan_pairs, base_is, differences_are, planned_is, PlanFlows, EncloseMore, ListedPlanStep, HeadsHold, as_budget, ZoneFlow}
+use Rattle.std.proofs.{lemmas.Bool.cases_Bool, lemmas.Bool.true≢false, lemmas.Int.ints}
 use Rattle.std.specs.Prelude.{get_or, map}
 use Rattle.decimal_input.proofs.FloorLaws.{mul_mono_right}
-use Rattle.step_problem.specs.declared.heads.Side.TheVariants.{Low, High}
-use Rattle.step_problem.specs.declared.place.Dir.TheVariants.{In}
+use Rattle.step_problem.specs.{declared.heads.Side.TheVariants.Low, declared.heads.Side.TheVariants.High, declared.place.Dir.TheVariants.In}
 use Rattle.cell_balance.proofs.Deep.{le_trans_z}
 use Rattle.model_types.proofs.Ranks.{at_rank, is_at, passing}
 use Rattle.flow_equations.proofs.Links.{below_is, index_is}

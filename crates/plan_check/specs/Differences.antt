@@ -1,18 +1,12 @@
 -- Whether the listed differences of a step are those of its certificate, and the first cell where they aren't.
 use Rattle.std.specs.Prelude.{◌≡◌, ℕ, List}
-use Rattle.step_problem.specs.declared.heads.Bound.{Bound}
-use Rattle.step_problem.specs.declared.heads.Side.{Side}
-use Rattle.step_problem.specs.declared.place.NoBound.{NoBound}
-use Rattle.step_problem.specs.Entries.{Entries}
-use Rattle.step_problem.specs.{Edges, certified, no_bound}
-use Rattle.model_types.specs.declared.time_steps.TimeStep.{TimeStep}
-use Rattle.model_types.specs.{cell_count}
+use Rattle.step_problem.specs.{declared.heads.Bound.Bound, declared.heads.Side.Side, declared.place.NoBound.NoBound, Entries.Entries, Edges, certified}
+use Rattle.step_problem.specs.{no_bound}
+use Rattle.model_types.specs.{declared.time_steps.TimeStep.TimeStep, cell_count}
 use Rattle.problem_builder.specs.{bound_at}
-use Rattle.step_chain.specs.declared.solved.Solved.{Solved}
-use Rattle.step_chain.specs.{HasNoBarrier, IsBarrierBy}
+use Rattle.step_chain.specs.{declared.solved.Solved.Solved, HasNoBarrier, IsBarrierBy}
 use Rattle.check_run.specs.{AllReach, CellFails, ReachesOn, variable_bounds}
-use Rattle.plan_chain.specs.declared.step.PlanTask.{PlanTask}
-use Rattle.plan_chain.specs.{AreDifferencesBy, IsTheirProblem}
+use Rattle.plan_chain.specs.{declared.step.PlanTask.PlanTask, AreDifferencesBy, IsTheirProblem}
 
 -- A constant head is the same in both plans: the listed difference of a cell is as wide as 0 on a side.
 abbrev pub ReachesZero : List Bound → ℕ → Side → Type 0

@@ -1,33 +1,24 @@
 -- Facts that the calls of a check pass to each other.
 use Rattle.std.specs.Prelude.{◌≡◌, ℕ, zero, suc, List, [], Err, slice_index_or}
-use Rattle.step_problem.specs.declared.heads.Bound.{Bound}
-use Rattle.step_problem.specs.declared.heads.Side.{Side}
-use Rattle.step_problem.specs.declared.place.Place.{Place}
+use Rattle.step_problem.specs.{declared.heads.Bound.Bound, declared.heads.Side.Side, declared.place.Place.Place, declared.refusal.BoundFault.BoundFault}
 use Rattle.step_problem.specs.declared.place.Place.TheVariants as place
-use Rattle.step_problem.specs.declared.refusal.BoundFault.{BoundFault}
 use Rattle.step_problem.specs.declared.refusal.BoundFault.TheVariants as bound
 use Rattle.model_types.specs.declared.time_steps.TimeStep.{TimeStep}
 use Rattle.step_chain.specs.declared.solved.Solved.{Solved}
 use Rattle.check_run.specs.declared.listing.CheckFault.{CheckFault}
 use Rattle.check_run.specs.declared.listing.CheckFault.TheVariants as check
-use Rattle.plan_chain.specs.declared.step.PlanHeads.{PlanHeads}
-use Rattle.plan_chain.specs.declared.step.PlanPart.{PlanPart}
-use Rattle.plan_chain.specs.declared.step.PlanPart.TheVariants.{Differences}
-use Rattle.plan_chain.specs.declared.step.PlanSolved.{PlanSolved}
-use Rattle.plan_chain.specs.declared.step.PlanTask.{PlanTask}
+use Rattle.plan_chain.specs.{declared.step.PlanHeads.PlanHeads, declared.step.PlanPart.PlanPart, declared.step.PlanPart.TheVariants.Differences}
+use Rattle.plan_chain.specs.{declared.step.PlanSolved.PlanSolved, declared.step.PlanTask.PlanTask}
 use Rattle.plan_sources.specs.declared.flows.PlanFlows.{PlanFlows}
 unfoldable use Rattle.plan_sources.specs.{flows_of}
-use Rattle.plan_listing.specs.declared.last_lines.PlanPlace.{PlanPlace}
+use Rattle.plan_listing.specs.{declared.last_lines.PlanPlace.PlanPlace, declared.listing.ListedPlanStep.ListedPlanStep}
 use Rattle.plan_listing.specs.declared.last_lines.PlanPlace.TheVariants as places
-use Rattle.plan_listing.specs.declared.listing.ListedPlanStep.{ListedPlanStep}
 use Rattle.plan_run.specs.{heads_listed}
-use Rattle.plan_check.specs.declared.before.HeadsBefore.{HeadsBefore}
-use Rattle.plan_check.specs.declared.fault.PlanCheckFault.{PlanCheckFault}
+use Rattle.plan_check.specs.{declared.before.HeadsBefore.HeadsBefore, declared.fault.PlanCheckFault.PlanCheckFault}
+use Rattle.plan_check.specs.{declared.verdict.PlanListingVerdict.PlanListingVerdict, Differences.DifferenceFailsAt, Differences.HaveNoBarrier, Steps.FailsAt}
+use Rattle.plan_check.specs.{Steps.FlowFailsAt, Steps.IsRefused}
 use Rattle.plan_check.specs.declared.fault.PlanCheckFault.TheVariants as fault
-use Rattle.plan_check.specs.declared.verdict.PlanListingVerdict.{PlanListingVerdict}
 use Rattle.plan_check.specs.declared.verdict.PlanListingVerdict.TheVariants as verdict
-use Rattle.plan_check.specs.Differences.{DifferenceFailsAt, HaveNoBarrier}
-use Rattle.plan_check.specs.Steps.{FailsAt, FlowFailsAt, IsRefused}
 
 -- the place of a part's step in a plan's listing
 abbrev pub place_in : PlanPart → Place → PlanPlace

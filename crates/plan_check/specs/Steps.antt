@@ -1,27 +1,18 @@
 -- Whether a step of a plan's listing is certified, and the first place where it isn't.
 use Rattle.std.specs.Prelude.{◌≡◌, ℕ, Ok, Err}
 use Rattle.std.specs.List.{AllZip}
-use Rattle.step_problem.specs.declared.heads.Side.{Side}
-use Rattle.step_problem.specs.declared.place.Dir.{Dir}
-use Rattle.step_problem.specs.declared.place.NoBound.{NoBound}
-use Rattle.step_problem.specs.declared.place.Term.{Term}
-use Rattle.budget_bounds.specs.declared.pair.Budget.{Budget}
-use Rattle.budget_bounds.specs.{Covers, IsFirstUncovered}
+use Rattle.step_problem.specs.{declared.heads.Side.Side, declared.place.Dir.Dir, declared.place.NoBound.NoBound, declared.place.Term.Term}
+use Rattle.budget_bounds.specs.{declared.pair.Budget.Budget, Covers, IsFirstUncovered}
 use Rattle.model_types.specs.declared.time_steps.TimeStep.{TimeStep}
-use Rattle.step_chain.specs.declared.solved.Solved.{Solved}
-use Rattle.step_chain.specs.{HasNoPose}
+use Rattle.step_chain.specs.{declared.solved.Solved.Solved, HasNoPose}
 use Rattle.check_run.specs.{AreChecked, CoversFlow, FailAt, IsFirstNarrow}
-use Rattle.plan_chain.specs.declared.step.PlanHeads.{PlanHeads}
-use Rattle.plan_chain.specs.declared.step.PlanPart.{PlanPart}
+use Rattle.plan_chain.specs.{declared.step.PlanHeads.PlanHeads, declared.step.PlanPart.PlanPart, declared.step.PlanSolved.PlanSolved}
+use Rattle.plan_chain.specs.{declared.step.PlanTask.PlanTask}
 use Rattle.plan_chain.specs.declared.step.PlanPart.TheVariants as parts
-use Rattle.plan_chain.specs.declared.step.PlanSolved.{PlanSolved}
-use Rattle.plan_chain.specs.declared.step.PlanTask.{PlanTask}
-use Rattle.plan_sources.specs.declared.flows.PlanFlows.{PlanFlows}
-use Rattle.plan_sources.specs.declared.flows.Sources.{Sources}
+use Rattle.plan_sources.specs.{declared.flows.PlanFlows.PlanFlows, declared.flows.Sources.Sources}
 unfoldable use Rattle.plan_sources.specs.{flows_of}
-use Rattle.plan_listing.specs.declared.last_lines.PlanPlace.{PlanPlace}
+use Rattle.plan_listing.specs.{declared.last_lines.PlanPlace.PlanPlace, declared.listing.ListedPlanStep.ListedPlanStep}
 use Rattle.plan_listing.specs.declared.last_lines.PlanPlace.TheVariants as places
-use Rattle.plan_listing.specs.declared.listing.ListedPlanStep.{ListedPlanStep}
 use Rattle.plan_check.specs.Differences.{DifferenceFailsAt, DifferencesHold, HaveNoBarrier}
 
 -- the sources of a step as a budget, on both of its sides

@@ -1,14 +1,10 @@
 -- The verdict on a plan's listing, and its laws.
 use Rattle.std.specs.Prelude.{◌≡◌, ◌⊎◌, List, [], ◌∷◌, true}
-use Rattle.model_types.specs.declared.time_steps.TimeStep.{TimeStep}
-use Rattle.model_types.specs.{times}
+use Rattle.model_types.specs.{declared.time_steps.TimeStep.TimeStep, times}
 use Rattle.zone_pairs.specs.{pairs_in}
 use Rattle.exact_histories.specs.{HaveOneHistory}
-use Rattle.plan_chain.specs.declared.step.PlanHeads.{PlanHeads}
-use Rattle.plan_chain.specs.declared.step.PlanTask.{PlanTask}
-use Rattle.plan_chain.specs.{AreStartsOf, IsPlanTask}
-use Rattle.plan_listing.specs.{AreListedPlan}
-use Rattle.plan_listing.specs.declared.listing.ListedPlanStep.{ListedPlanStep}
+use Rattle.plan_chain.specs.{declared.step.PlanHeads.PlanHeads, declared.step.PlanTask.PlanTask, AreStartsOf, IsPlanTask}
+use Rattle.plan_listing.specs.{AreListedPlan, declared.listing.ListedPlanStep.ListedPlanStep}
 use Rattle.plan_run.specs.{EnclosesPairs, heads_listed}
 use Rattle.plan_check.specs.declared.verdict.PlanListingVerdict.{PlanListingVerdict}
 use Rattle.plan_check.specs.declared.verdict.PlanListingVerdict.TheVariants.{Certified, Fails, Refused}

@@ -1,16 +1,12 @@
 -- A problem that bounds the differences encloses their exact step, so what encloses its solutions bounds the differences of two plans' solutions.
-use Rattle.plan_difference.proofs.Common.{◌≡◌, ℕ, suc, ◌*◌, ◌<◌, ◌≤◌, ◌^◌, ◌∙◌, ap, sym, subst, arith, ℤ, pos, ◌*ℤ◌, ◌-ℤ◌, ◌≤ℤ◌, List, [], ◌∷◌, ◌++◌, length}
-use Rattle.plan_difference.proofs.Common.{get_or, inl, inr, All, Contains, zero-*ℤ, le_of_mul-le-mul_right, mul-le-mul_right, ints, AllZip, Encloses, Fraction}
-use Rattle.plan_difference.proofs.Common.{Ratio, AtMost, entries_at, no_entries, CellEncloses, ExactCell, ExactFixed, ExactLink, FixedEncloses, HasEqualEnds}
-use Rattle.plan_difference.proofs.Common.{HasLinkBack, cell_at, no_cell, BoundsDifferences, SolutionsBoundDifferences, EnclosesDifferences, IsDifferenceCell}
+use Rattle.plan_difference.proofs.Common.{◌≡◌, ℕ, suc, ◌*◌, ◌<◌, ◌≤◌, ◌^◌, ◌∙◌, ap, sym, subst, arith, ℤ, pos, ◌*ℤ◌, ◌-ℤ◌, ◌≤ℤ◌, List, [], ◌∷◌, ◌++◌, length, get_or, inl, inr, All, Contains, zero-*ℤ}
+use Rattle.plan_difference.proofs.Common.{le_of_mul-le-mul_right, mul-le-mul_right, ints, AllZip, Encloses, Fraction, Ratio, AtMost, entries_at, no_entries, CellEncloses, ExactCell, ExactFixed}
+use Rattle.plan_difference.proofs.Common.{ExactLink, FixedEncloses, HasEqualEnds, HasLinkBack, cell_at, no_cell, BoundsDifferences, SolutionsBoundDifferences, EnclosesDifferences, IsDifferenceCell}
 use Rattle.plan_difference.proofs.Common.{IsDifferenceStep, IsOpenBranch, IsRampBranch, ExactFlow, All-cons, All-head, All-nil, All-tail}
-use Rattle.std.proofs.lemmas.Bool.{cases_lt}
-use Rattle.std.proofs.lemmas.List.{get_or_past}
+use Rattle.std.proofs.{lemmas.Bool.cases_lt, lemmas.List.get_or_past}
 use Rattle.decimal_input.specs.Ratios.{den}
-use Rattle.step_problem.specs.Entries.{Entries}
-use Rattle.step_problem.specs.declared.entry.Fixed.{Fixed}
-use Rattle.plan_difference.proofs.DifferenceBalance.{difference_solves_it}
-use Rattle.plan_difference.proofs.DifferenceExists.{difference_step_exists}
+use Rattle.step_problem.specs.{Entries.Entries, declared.entry.Fixed.Fixed}
+use Rattle.plan_difference.proofs.{DifferenceBalance.difference_solves_it, DifferenceExists.difference_step_exists}
 
 -- lists that are related place by place: from the places, one after the other, and by what both are related to
 pub related_at : {X Y : Type 0} (R : X → Y → Type 0) (d : X) (e : Y) (xs : List X) (ys : List Y) → length xs ≡ length ys →

@@ -1,10 +1,9 @@
 -- The balance of a difference's cell is the difference of the two plans' balances.
-use Rattle.plan_difference.proofs.Common.{◌≡◌, ℕ, ◌*◌, ◌<◌, ◌∙◌, ap, sym, refl, subst, arith, mul-pos, ℤ, pos, ◌*ℤ◌, ◌+ℤ◌, ◌-ℤ◌, neg_ℤ, List, [], ◌∷◌, ◌++◌}
-use Rattle.plan_difference.proofs.Common.{length, AllZip, Same-sym, Same-trans, Fraction, IsOver, Ratio, as_fraction, fraction_total, Same, den, plus, times}
-use Rattle.plan_difference.proofs.Common.{as_diff, diffs, same_diff, sub_mul, Goes-first, Goes-second, fraction_over, same_over, heads_over, IsOver-minus}
-use Rattle.plan_difference.proofs.Common.{IsOver-signed, IsOver-times, over_zero, ExactCell, ExactFixed, ExactLink, balance, cell_at, drain_flow, evap_flow}
-use Rattle.plan_difference.proofs.Common.{fixed_flow, link_flow, minus, river_flow, share, AreInOneWeather, DifferenceSolvesIt, IsDifferenceCell}
-use Rattle.plan_difference.proofs.Common.{known_difference, known_differences, zero-*ℤ, ExactFlow, AreFlowsApart}
+use Rattle.plan_difference.proofs.Common.{◌≡◌, ℕ, ◌*◌, ◌<◌, ◌∙◌, ap, sym, refl, subst, arith, mul-pos, ℤ, pos, ◌*ℤ◌, ◌+ℤ◌, ◌-ℤ◌, neg_ℤ, List, [], ◌∷◌, ◌++◌, length, AllZip, Same-sym, Same-trans}
+use Rattle.plan_difference.proofs.Common.{Fraction, IsOver, Ratio, as_fraction, fraction_total, Same, den, plus, times, as_diff, diffs, same_diff, sub_mul, Goes-first, Goes-second, fraction_over}
+use Rattle.plan_difference.proofs.Common.{same_over, heads_over, IsOver-minus, IsOver-signed, IsOver-times, over_zero, ExactCell, ExactFixed, ExactLink, balance, cell_at, drain_flow, evap_flow}
+use Rattle.plan_difference.proofs.Common.{fixed_flow, link_flow, minus, river_flow, share, AreInOneWeather, DifferenceSolvesIt, IsDifferenceCell, known_difference, known_differences, zero-*ℤ}
+use Rattle.plan_difference.proofs.Common.{ExactFlow, AreFlowsApart}
 use Rattle.decimal_input.specs.Ratios.{den as ratio_den}
 use Rattle.plan_difference.proofs.Sames.{difference_of_sums, difference_of_totals, nothing_after, same_is_over, same_self, sums_same, total_of_both}
 

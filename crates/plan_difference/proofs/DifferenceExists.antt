@@ -1,6 +1,6 @@
 -- At any heads of two plans there is a step of their differences.
-use Rattle.plan_difference.proofs.Common.{◌≡◌, ℕ, suc, ◌<◌, ap, refl, arith, ℤ, ◌-ℤ◌, List, [], ◌∷◌, ◌++◌, length, zero, AllZip, ExactCell, cell_at, drain_flow}
-use Rattle.plan_difference.proofs.Common.{evap_flow, river_flow, share, DifferenceStepExists, IsDifferenceCell, IsRampBranch, ExactFlow, known_differences}
+use Rattle.plan_difference.proofs.Common.{◌≡◌, ℕ, suc, ◌<◌, ap, refl, arith, ℤ, ◌-ℤ◌, List, [], ◌∷◌, ◌++◌, length, zero, AllZip, ExactCell, cell_at, drain_flow, evap_flow, river_flow, share}
+use Rattle.plan_difference.proofs.Common.{DifferenceStepExists, IsDifferenceCell, IsRampBranch, ExactFlow, known_differences}
 use Rattle.plan_difference.proofs.RampBranches.{river_branch, drain_branch, evap_branch}
 
 -- what each element has, a list has

@@ -1,12 +1,9 @@
 -- The base plan's heads compared with the other plan's, moved by a difference: what the base plan's balance is there at most and at least.
-use Rattle.plan_difference.proofs.Common.{[], ◌*ℤ◌, ◌+ℤ◌, ◌-ℤ◌, ◌∷◌, ◌∙◌, ◌≡◌, ◌≤ℤ◌, Bool, List, None, Option, Some, arith, cond, false, inl, inr, nat_eq}
-use Rattle.plan_difference.proofs.Common.{neg_ℤ, negsuc, pos, suc, true, zero, ℕ, ℤ, clamps, ints, as_diff, diffs, mul_add, mul_mono, same_diff, Ramp, rise}
-use Rattle.plan_difference.proofs.Common.{ramp_flow, net_flow, rise_grows, most_of_ramp, least_of_ramp, greatest_balance, least_balance, DifferencesLieBelow}
-use Rattle.plan_difference.proofs.Common.{DifferencesLieAbove, least, most, total}
-use Rattle.cell_balance.proofs.Ramps.{link_flow}
+use Rattle.plan_difference.proofs.Common.{[], ◌*ℤ◌, ◌+ℤ◌, ◌-ℤ◌, ◌∷◌, ◌∙◌, ◌≡◌, ◌≤ℤ◌, Bool, List, None, Option, Some, arith, cond, false, inl, inr, nat_eq, neg_ℤ, negsuc, pos, suc, true, zero, ℕ, ℤ}
+use Rattle.plan_difference.proofs.Common.{clamps, ints, as_diff, diffs, mul_add, mul_mono, same_diff, Ramp, rise, ramp_flow, net_flow, rise_grows, most_of_ramp, least_of_ramp, greatest_balance}
+use Rattle.plan_difference.proofs.Common.{least_balance, DifferencesLieBelow, DifferencesLieAbove, least, most, total}
+use Rattle.cell_balance.proofs.{Ramps.link_flow, Sums.sum-same, Sums.sum-add, Comparison.heads_compare}
 use Rattle.step_problem.proofs.Falls.{loss_falls}
-use Rattle.cell_balance.proofs.Sums.{sum-same, sum-add}
-use Rattle.cell_balance.proofs.Comparison.{heads_compare}
 
 -- a head that is higher by k stands higher on a ramp by k at most
 rise_lipschitz : (t : ℤ) (top : Option ℤ) (d : ℕ) (x y : ℤ) (k : ℕ) → y ≤ℤ (x +ℤ pos k) → rise t top d y ≤ℤ (rise t top d x +ℤ pos k)

@@ -1,9 +1,8 @@
 -- The worked example meets the premises of the laws.
-use Rattle.plan_difference.proofs.Common.{◌≡◌, ℕ, zero, suc, ◌<◌, refl, arith, pos, ◌-ℤ◌, All, [], ◌∷◌, ints, All-cons, All-nil, Encloses, whole, Constant}
-use Rattle.plan_difference.proofs.Common.{General, Storage, entries_at, HasEqualEnds, HasLinkBack, SolvesStep, balance, cell_at, share, one, AreFlowsApart}
-use Rattle.plan_difference.proofs.Common.{AreInOneWeather, AreStepsInOneWeather, BoundsDifferences, BoundsDifferencesOf, IsDifferenceCell, IsDifferenceStep}
-use Rattle.plan_difference.proofs.Common.{IsMetByExample, added, base_heads, base_step, planned_heads, planned_step, problem_of_differences}
-use Rattle.plan_difference.proofs.Common.{step_of_differences, half}
+use Rattle.plan_difference.proofs.Common.{◌≡◌, ℕ, zero, suc, ◌<◌, refl, arith, pos, ◌-ℤ◌, All, [], ◌∷◌, ints, All-cons, All-nil, Encloses, whole, Constant, General, Storage, entries_at, HasEqualEnds}
+use Rattle.plan_difference.proofs.Common.{HasLinkBack, SolvesStep, balance, cell_at, share, one, AreFlowsApart, AreInOneWeather, AreStepsInOneWeather, BoundsDifferences, BoundsDifferencesOf}
+use Rattle.plan_difference.proofs.Common.{IsDifferenceCell, IsDifferenceStep, IsMetByExample, added, base_heads, base_step, planned_heads, planned_step, problem_of_differences, step_of_differences}
+use Rattle.plan_difference.proofs.Common.{half}
 
 -- what holds of each of two cells
 of_two : (P : ℕ → Type 0) → P 0 → P 1 → (c : ℕ) → c < 2 → P c

@@ -1,13 +1,11 @@
 -- What a river, a drain or an evapotranspiration gives more at one head than at another is a branch to a known head of 0.
-use Rattle.plan_difference.proofs.Common.{◌≡◌, ℕ, suc, ◌-◌, ◌*◌, ◌<◌, ◌≤◌, ◌∙◌, ap, sym, refl, subst, arith, mul-pos, ℤ, pos, neg_ℤ, ◌*ℤ◌, ◌-ℤ◌}
-use Rattle.plan_difference.proofs.Common.{mul-le-mul_left, clamps, ints, Fraction, IsOver, Ratio, as_fraction, whole, den, as_diff, diffs, mul_assoc, mul_neg}
-use Rattle.plan_difference.proofs.Common.{same_diff, sub_mul, Goes-first, Goes-second, fraction_over, same_over, heads_over, IsOver-minus, IsOver-none}
-use Rattle.plan_difference.proofs.Common.{IsOver-signed, IsOver-times, ExactDrain, ExactEvap, ExactFixed, ExactRiver, drain_flow, evap_flow, fixed_flow, minus}
-use Rattle.plan_difference.proofs.Common.{river_flow, share, IsRampBranch, General}
+use Rattle.plan_difference.proofs.Common.{◌≡◌, ℕ, suc, ◌-◌, ◌*◌, ◌<◌, ◌≤◌, ◌∙◌, ap, sym, refl, subst, arith, mul-pos, ℤ, pos, neg_ℤ, ◌*ℤ◌, ◌-ℤ◌, mul-le-mul_left, clamps, ints, Fraction, IsOver, Ratio}
+use Rattle.plan_difference.proofs.Common.{as_fraction, whole, den, as_diff, diffs, mul_assoc, mul_neg, same_diff, sub_mul, Goes-first, Goes-second, fraction_over, same_over, heads_over, IsOver-minus}
+use Rattle.plan_difference.proofs.Common.{IsOver-none, IsOver-signed, IsOver-times, ExactDrain, ExactEvap, ExactFixed, ExactRiver, drain_flow, evap_flow, fixed_flow, minus, river_flow, share}
+use Rattle.plan_difference.proofs.Common.{IsRampBranch, General}
 use Rattle.std.specs.Int.{int_max, int_min}
 use Rattle.decimal_input.specs.Ratios.{den as ratio_den}
-use Rattle.cell_balance.proofs.Over.{EntryOver, drain_over, evap_over, river_over}
-use Rattle.cell_balance.proofs.Zips.{WholeEntry, whole_drain, whole_evap, whole_river}
+use Rattle.cell_balance.proofs.{Over.EntryOver, Over.drain_over, Over.evap_over, Over.river_over, Zips.WholeEntry, Zips.whole_drain, Zips.whole_evap, Zips.whole_river}
 use Rattle.plan_difference.proofs.Shares.{IsOnTheWay, IsPart, part_of_way}
 
 -- A kind of ramp, by its whole numbers: what it gives falls by its conductance times how far the head rises on it.

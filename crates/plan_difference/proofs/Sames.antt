@@ -1,7 +1,7 @@
 -- Fractions that are the same number: differences of sums are sums of differences.
-use Rattle.plan_difference.proofs.Common.{◌≡◌, ℕ, ◌*◌, ◌<◌, ◌∙◌, ap, sym, refl, arith, mul-pos, ℤ, pos, ◌*ℤ◌, ◌+ℤ◌, List, [], ◌∷◌, ◌++◌, ints, AllZip}
-use Rattle.plan_difference.proofs.Common.{Same-trans, cancel_right, le-antisym, le-of, last_factors_swap, Fraction, IsOver, fraction_total, whole, Same, den}
-use Rattle.plan_difference.proofs.Common.{plus, Goes, fraction_over, left_goes, right_goes, same_over, IsOver-minus, IsOver-none, IsOver-plus, minus}
+use Rattle.plan_difference.proofs.Common.{◌≡◌, ℕ, ◌*◌, ◌<◌, ◌∙◌, ap, sym, refl, arith, mul-pos, ℤ, pos, ◌*ℤ◌, ◌+ℤ◌, List, [], ◌∷◌, ◌++◌, ints, AllZip, Same-trans, cancel_right, le-antisym, le-of}
+use Rattle.plan_difference.proofs.Common.{last_factors_swap, Fraction, IsOver, fraction_total, whole, Same, den, plus, Goes, fraction_over, left_goes, right_goes, same_over, IsOver-minus, IsOver-none}
+use Rattle.plan_difference.proofs.Common.{IsOver-plus, minus}
 
 -- four fractions over one denominator
 record FourOver (a b c d : Fraction) : Type 0 where

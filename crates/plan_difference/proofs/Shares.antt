@@ -1,6 +1,6 @@
 -- The share of the way between two heads that lies on a ramp.
-use Rattle.plan_difference.proofs.Common.{◌≡◌, ℕ, ◌*◌, ◌<◌, ◌≤◌, ◌∙◌, ap, sym, refl, arith, ℤ, pos, negsuc, neg_ℤ, ◌*ℤ◌, ◌-ℤ◌, ◌≤ℤ◌, mul-le-mul_left, by_lt_z}
-use Rattle.plan_difference.proofs.Common.{clamps, ints, as_diff, diffs, mul_assoc, mul_neg, same_diff, positive_natural, Option, Some, None, RampsShare, rise}
+use Rattle.plan_difference.proofs.Common.{◌≡◌, ℕ, ◌*◌, ◌<◌, ◌≤◌, ◌∙◌, ap, sym, refl, arith, ℤ, pos, negsuc, neg_ℤ, ◌*ℤ◌, ◌-ℤ◌, ◌≤ℤ◌, mul-le-mul_left, by_lt_z, clamps, ints, as_diff, diffs, mul_assoc}
+use Rattle.plan_difference.proofs.Common.{mul_neg, same_diff, positive_natural, Option, Some, None, RampsShare, rise}
 
 -- p and q stand apart in the order of x and y, and no further
 pub record IsOnTheWay (x y p q : ℤ) : Type 0 where

@@ -2,10 +2,7 @@
 use Rattle.std.specs.Prelude.{ℕ, ℤ, pos, ◌-ℤ◌, ◌<◌, ◌≡◌, List, [], ◌++◌, length}
 use Rattle.std.specs.List.{AllZip}
 use Rattle.decimal_input.specs.{Encloses, Ratio}
-use Rattle.step_problem.specs.declared.entry.Fixed.{Fixed}
-use Rattle.step_problem.specs.declared.entry.FixedKind.TheVariants.{General}
-use Rattle.step_problem.specs.Entries.{Entries}
-use Rattle.step_problem.specs.{entries_at}
+use Rattle.step_problem.specs.{declared.entry.Fixed.Fixed, declared.entry.FixedKind.TheVariants.General, Entries.Entries, entries_at}
 use Rattle.cell_balance.specs.{ExactCell, FixedEncloses, FlowEncloses, ExactFlow, HasEqualEnds, LiesBetween, LinkEncloses, SolvesStep, cell_at, EnclosesStep}
 use Rattle.cell_balance.specs.{EnclosesSolutions}
 use Rattle.plan_difference.specs.DifferenceStep.{AreStepsInOneWeather, IsDifferenceStep, AreFlowsApart, known_differences}

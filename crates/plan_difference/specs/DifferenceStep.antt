@@ -3,9 +3,7 @@
 -- step of the same kind, in which these are branches to a known head of 0. All values are fractions.
 use Rattle.std.specs.Prelude.{ℕ, ℤ, pos, ◌-ℤ◌, ◌<◌, ◌≡◌, List, [], ◌∷◌, ◌++◌, length}
 use Rattle.std.specs.List.{AllZip}
-use Rattle.decimal_input.specs.{Fraction, Ratio, fraction_total, whole}
-use Rattle.decimal_input.specs.Fractions.{Same}
-use Rattle.decimal_input.specs.Ratios.{AtMost}
+use Rattle.decimal_input.specs.{Fraction, Ratio, fraction_total, whole, Fractions.Same, Ratios.AtMost}
 use Rattle.step_problem.specs.declared.entry.FixedKind.TheVariants.{General}
 use Rattle.cell_balance.specs.{ExactCell, ExactFixed, ExactFlow, SolvesStep, cell_at, drain_flow, evap_flow, fixed_flow, minus, river_flow, share}
 

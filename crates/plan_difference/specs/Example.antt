@@ -9,10 +9,8 @@
 --   difference   (0 - 2) + (4 - 2) = 0      (2 - 4) + (2 - 4) + (0 - 4) / 2 + 6 = 0
 use Rattle.std.specs.Prelude.{ℕ, ◌<◌, List, [], ◌∷◌, ℤ, pos, neg_ℤ}
 use Rattle.decimal_input.specs.{Ratio, whole}
-use Rattle.step_problem.specs.declared.entry.FixedKind.TheVariants.{Constant, General, Storage}
-use Rattle.step_problem.specs.declared.entry.FlowKind.TheVariants.{Wells}
-use Rattle.step_problem.specs.Entries.{Entries}
-use Rattle.step_problem.specs.{head_at}
+use Rattle.step_problem.specs.{declared.entry.FixedKind.TheVariants.Constant, declared.entry.FixedKind.TheVariants.General}
+use Rattle.step_problem.specs.{declared.entry.FixedKind.TheVariants.Storage, declared.entry.FlowKind.TheVariants.Wells, Entries.Entries, head_at}
 use Rattle.cell_balance.specs.{ExactCell, ExactFlow, SolvesStep, cell_at, one}
 use Rattle.plan_difference.specs.DifferenceStep.{AreFlowsApart, AreStepsInOneWeather, IsDifferenceStep}
 use Rattle.plan_difference.specs.AnyWeather.{BoundsDifferencesOf}

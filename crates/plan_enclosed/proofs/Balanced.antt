@@ -1,14 +1,11 @@
 -- What all terms give more sums to 0: over all cells the flows over links cancel, and the balance of each cell of the differences is zero.
-use Rattle.plan_enclosed.proofs.Common.{All, AllZip, AllZip-at, AllZip-length, AreLinked, Bool, ConstantHead, Drains, Et, ExactCell, ExactFixed, ExactFlow}
-use Rattle.plan_enclosed.proofs.Common.{FixedKind, Fraction, HeadDepBounds, IsOver, List, Recharge, RiverLeakage, SolvesStep, Storage, Term, Wells, []}
-use Rattle.plan_enclosed.proofs.Common.{all_terms, ap, arith, cell_at, cond, drop, exact_fixed_of, false, filter, fixed_flow, fixed_term, fraction_total, ints}
-use Rattle.plan_enclosed.proofs.Common.{is_term, length, link_flow, map, mul-pos, neg_ℤ, no_cell, opposite, pos, refl, share, suc, sym, take, total}
-use Rattle.plan_enclosed.proofs.Common.{total_below, true, zero, ℕ, ℤ, ◌*ℤ◌, ◌*◌, ◌+ℤ◌, ◌-ℤ◌, ◌<◌, ◌∙◌, ◌∷◌, ◌≡◌, ◌++◌, subst, step_common, IsOver-negated}
-use Rattle.plan_enclosed.proofs.Common.{IsOver-none, IsOver-plus, IsOver-total, zero_over, WholeCell, WholeEntry, no_whole, whole_at, whole_balance}
-use Rattle.plan_enclosed.proofs.Common.{whole_fixed, whole_link, no_link, take-append-drop, All-from_get_or, total_neg}
-use Rattle.cell_balance.proofs.Encloses.{whole_solves, whole_step}
-use Rattle.cell_balance.proofs.ExactLaws.{heads_over, links_cancel}
-use Rattle.cell_balance.proofs.Over.{CellOver, FixedOver, FlowOver, LinkOver, fixed_over, link_over}
+use Rattle.plan_enclosed.proofs.Common.{All, AllZip, AllZip-at, AllZip-length, AreLinked, Bool, ConstantHead, Drains, Et, ExactCell, ExactFixed, ExactFlow, FixedKind, Fraction, HeadDepBounds, IsOver}
+use Rattle.plan_enclosed.proofs.Common.{List, Recharge, RiverLeakage, SolvesStep, Storage, Term, Wells, [], all_terms, ap, arith, cell_at, cond, drop, exact_fixed_of, false, filter, fixed_flow}
+use Rattle.plan_enclosed.proofs.Common.{fixed_term, fraction_total, ints, is_term, length, link_flow, map, mul-pos, neg_ℤ, no_cell, opposite, pos, refl, share, suc, sym, take, total, total_below}
+use Rattle.plan_enclosed.proofs.Common.{true, zero, ℕ, ℤ, ◌*ℤ◌, ◌*◌, ◌+ℤ◌, ◌<◌, ◌∙◌, ◌∷◌, ◌≡◌, step_common, IsOver-negated, IsOver-none, IsOver-plus, IsOver-total, zero_over, WholeCell, WholeEntry}
+use Rattle.plan_enclosed.proofs.Common.{no_whole, whole_at, whole_balance, whole_fixed, whole_link, no_link, All-from_get_or, total_neg}
+use Rattle.cell_balance.proofs.{Encloses.whole_solves, Encloses.whole_step, ExactLaws.heads_over, ExactLaws.links_cancel, Over.CellOver, Over.FixedOver, Over.FlowOver, Over.LinkOver, Over.fixed_over}
+use Rattle.cell_balance.proofs.{Over.link_over}
 use Rattle.plan_enclosed.proofs.Gains.{after_rivers, exact_drains, exact_evaps, exact_known, exact_ramps, exact_rivers, gain, exact_gains}
 use Rattle.plan_enclosed.proofs.Lists.{AllZip-drop, AllZip-take, total_map}
 use Rattle.step_problem.specs.declared.entry.FixedKind.TheVariants as kinds

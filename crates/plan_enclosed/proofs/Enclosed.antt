@@ -1,23 +1,18 @@
 -- The sources of a plan enclose what each term gives more: by the sum of its branches, and by what the sum of all, which is 0, leaves it.
-use Rattle.plan_enclosed.proofs.Common.{AllZip, AllZip-length, AreLinked, AreWithin, CellEncloses, ConstantHead, Drains, EnclosesSigned, EnclosesStep, Entries}
-use Rattle.plan_enclosed.proofs.Common.{Et, ExactCell, ExactFixed, ExactFlow, Fraction, AreTwoSolutions, HeadDepBounds, IsSameBranch, IsDifferenceStep, IsOver}
-use Rattle.plan_enclosed.proofs.Common.{List, Recharge, RiverLeakage, Same, Same-sym, SolvesStep, SourcesEnclose, ZonesEnclose, Storage, Term, TermPair, Wells}
-use Rattle.plan_enclosed.proofs.Common.{[], all_terms, ap, arith, cell_at, clamps, den, enclosed_over, fraction_total, ints, is_listed, length, minus, more_net}
-use Rattle.plan_enclosed.proofs.Common.{pos, refl, share, source, subst, sum_by_branches, sym, total, total_below, true, All, ℕ, ℤ, ◌*ℤ◌, ◌*◌, ◌+ℤ◌, ◌+◌, ◌-ℤ◌}
-use Rattle.plan_enclosed.proofs.Common.{◌<◌, ◌^◌, ◌∙◌, ◌∷◌, ◌≡◌, ◌≤ℤ◌, exact_singles, heads_within, add_mul, sub_mul, max_times, min_times, ExactLink}
-use Rattle.plan_enclosed.proofs.Common.{LiesBetween, no_link, cross_trans_signed, last_factors_swap, AreFlowsApart, DifferenceSolvesIt, by_balance}
-use Rattle.plan_enclosed.proofs.Common.{DifferencesHaveAStep, IsDifferenceProblem, are_turned, AreTwoPlans, slice_index_or, tighter}
+use Rattle.plan_enclosed.proofs.Common.{AllZip, AllZip-length, AreLinked, AreWithin, CellEncloses, ConstantHead, Drains, EnclosesSigned, EnclosesStep, Entries, Et, ExactCell, ExactFixed, ExactFlow}
+use Rattle.plan_enclosed.proofs.Common.{Fraction, AreTwoSolutions, HeadDepBounds, IsSameBranch, IsDifferenceStep, IsOver, List, Recharge, RiverLeakage, Same, SolvesStep, SourcesEnclose, ZonesEnclose}
+use Rattle.plan_enclosed.proofs.Common.{Storage, Term, TermPair, Wells, [], all_terms, ap, arith, cell_at, clamps, den, enclosed_over, fraction_total, ints, is_listed, length, more_net, pos, refl}
+use Rattle.plan_enclosed.proofs.Common.{share, source, subst, sum_by_branches, sym, total, total_below, true, All, ℕ, ℤ, ◌*ℤ◌, ◌*◌, ◌+ℤ◌, ◌+◌, ◌-ℤ◌, ◌<◌, ◌^◌, ◌∙◌, ◌∷◌, ◌≡◌, ◌≤ℤ◌, exact_singles}
+use Rattle.plan_enclosed.proofs.Common.{heads_within, add_mul, sub_mul, max_times, min_times, ExactLink, LiesBetween, no_link, cross_trans_signed, last_factors_swap, AreFlowsApart, DifferenceSolvesIt}
+use Rattle.plan_enclosed.proofs.Common.{by_balance, slice_index_or, tighter}
+use Rattle.plan_step.specs.{DifferencesHaveAStep, IsDifferenceProblem, are_turned, AreTwoPlans}
 use Rattle.std.proofs.Math.IntN.{zero-*ℤ}
 use Rattle.cell_balance.proofs.Enclosed.{between_over}
 use Rattle.plan_step.proofs.Enclosing.{flows_apart}
 use Rattle.std.specs.Int.{int_max, int_min}
 use Rattle.step_problem.proofs.Leasts.{mul_assoc}
 use Rattle.step_problem.specs.declared.heads.Bound.{Bound}
-use Rattle.plan_enclosed.proofs.Balanced.{GainsOver, gains_none}
-use Rattle.plan_enclosed.proofs.Gains.{exact_gains}
-use Rattle.plan_enclosed.proofs.Faces.{faces_differ}
-use Rattle.plan_enclosed.proofs.Nets.{singles_differ, totals_differ}
-use Rattle.plan_enclosed.proofs.Sums.{sums_within}
+use Rattle.plan_enclosed.proofs.{Balanced.GainsOver, Balanced.gains_none, Gains.exact_gains, Faces.faces_differ, Nets.singles_differ, Nets.totals_differ, Sums.sums_within}
 
 -- bounds of a fraction are bounds of the same number
 same_within : (lo hi : ℤ) (s : ℕ) (f g : Fraction) → Same g f → EnclosesSigned lo hi s f → EnclosesSigned lo hi s g

@@ -1,13 +1,10 @@
 -- What flows more between zones in the other plan's step is what flows in the step of the differences, where each head rises by its difference turned round.
-use Rattle.plan_enclosed.proofs.Common.{All, AllZip, AreInOneWeather, Bool, ExactCell, ExactFixed, ExactFlow, FixedKind, Fraction, IsDifferenceCell}
-use Rattle.plan_enclosed.proofs.Common.{IsDifferenceStep, IsOver, List, Same, [], ap, arith, cell_at, false, filter, fraction_total, known_differences, length}
-use Rattle.plan_enclosed.proofs.Common.{minus, refl, share, subst, suc, sym, true, ℕ, ℤ, ◌*ℤ◌, ◌++◌, ◌-ℤ◌, ◌<◌, ◌∙◌, ◌∷◌, ◌≡◌, pos, append-nil, All-head}
-use Rattle.plan_enclosed.proofs.Common.{All-tail, flat_map, ◌&&◌, ◌==◌, slice_index, AreLinked, ExactLink, Ratio, as_fraction, times, branch_difference}
-use Rattle.plan_enclosed.proofs.Common.{difference_of_sums, AreOneNetwork, IsSameBranch, are_turned}
-use Rattle.std.proofs.lemmas.Grind.{flat_map-append}
+use Rattle.plan_enclosed.proofs.Common.{All, AllZip, AreInOneWeather, Bool, ExactCell, ExactFixed, ExactFlow, FixedKind, Fraction, IsDifferenceStep, IsOver, List, Same, [], ap, arith, cell_at, false}
+use Rattle.plan_enclosed.proofs.Common.{known_differences, length, minus, refl, share, suc, true, ℕ, ℤ, ◌*ℤ◌, ◌++◌, ◌-ℤ◌, ◌<◌, ◌∙◌, ◌∷◌, ◌≡◌, pos, All-head, All-tail, flat_map, ◌&&◌, ◌==◌}
+use Rattle.plan_enclosed.proofs.Common.{slice_index, AreLinked, ExactLink, Ratio, as_fraction, times, branch_difference, difference_of_sums, AreOneNetwork, IsSameBranch}
+use Rattle.std.proofs.{lemmas.List.append-nil, lemmas.Grind.flat_map-append}
 use Rattle.std.specs.Prelude.{cond}
-use Rattle.zone_flows.specs.{ExactFace, exact_by_kind, exact_fixed, exact_flow, exact_link, is_exact_between, is_lower_zone, exact_cell, exact_faces}
-use Rattle.zone_flows.specs.{exact_from}
+use Rattle.zone_flows.specs.{ExactFace, exact_by_kind, exact_fixed, exact_flow, exact_link, is_exact_between, is_lower_zone, exact_cell, exact_faces, exact_from}
 use Rattle.step_problem.specs.declared.entry.FixedKind.TheVariants as kinds
 
 -- a face of the base plan's step, of the other plan's and of the differences'

@@ -1,15 +1,10 @@
 -- What each branch of the exact step of the differences gives more, term by term, and that the bounds of the problem's branches enclose it.
-use Rattle.plan_enclosed.proofs.Common.{AllZip, AllZip-filter, AllZip-length, AllZip-map, CellEncloses, ConstantHead, Drains, EnclosesSigned, Entries, Et}
-use Rattle.plan_enclosed.proofs.Common.{ExactCell, ExactFixed, ExactFlow, FixedEncloses, FixedKind, FlowEncloses, Fraction, HeadDepBounds, List, PairEncloses}
-use Rattle.plan_enclosed.proofs.Common.{Recharge, RiverLeakage, Storage, Term, TermPair, Wells, [], ap, branch_gain, drop, exact_fixed_of, fixed_flow}
-use Rattle.plan_enclosed.proofs.Common.{fixed_term, is_term, known, length, map, negated_enclosed, of_drains, of_evaps, of_rivers, opposite, ramps, sym, take}
-use Rattle.plan_enclosed.proofs.Common.{well_gain, ℕ, ℤ, ◌+◌, ◌≡◌, gains, fixed_of}
-use Rattle.step_problem.specs.declared.entry.Fixed.{Fixed}
-use Rattle.step_problem.specs.declared.entry.Flow.{Flow}
-use Rattle.step_problem.specs.declared.heads.Side.TheVariants.{High, Low}
+use Rattle.plan_enclosed.proofs.Common.{AllZip, AllZip-filter, AllZip-length, AllZip-map, CellEncloses, ConstantHead, Drains, EnclosesSigned, Entries, Et, ExactCell, ExactFixed, ExactFlow}
+use Rattle.plan_enclosed.proofs.Common.{FixedEncloses, FixedKind, FlowEncloses, Fraction, HeadDepBounds, List, PairEncloses, Recharge, RiverLeakage, Storage, Term, Wells, [], ap, branch_gain, drop}
+use Rattle.plan_enclosed.proofs.Common.{exact_fixed_of, fixed_flow, fixed_term, is_term, known, length, map, negated_enclosed, opposite, ramps, take, well_gain, ℕ, ℤ, ◌+◌, gains, fixed_of}
+use Rattle.step_problem.specs.{declared.entry.Fixed.Fixed, declared.heads.Side.TheVariants.High, declared.heads.Side.TheVariants.Low, fixed_flow as fixed_bound}
 use Rattle.cell_balance.proofs.EntryBounds.{bounds_hold}
 use Rattle.plan_enclosed.proofs.Lists.{AllZip-drop, AllZip-take}
-use Rattle.step_problem.specs.{fixed_flow as fixed_bound}
 
 -- the branches of the exact cell g of the differences, by the base plan's cell x, as those of the problem
 module _ (x g : ExactCell) where

@@ -1,6 +1,5 @@
 -- Lists that are related place by place, their parts, and sums over them.
-use Rattle.plan_enclosed.proofs.Common.{AllZip, Fraction, List, [], ap, drop, fraction_total, length, map, plus, refl, suc, sym, take, zero, ℕ, ◌++◌, ◌∙◌, ◌∷◌}
-use Rattle.plan_enclosed.proofs.Common.{◌≡◌}
+use Rattle.plan_enclosed.proofs.Common.{AllZip, Fraction, List, [], ap, drop, fraction_total, length, map, plus, refl, suc, sym, take, zero, ℕ, ◌++◌, ◌∙◌, ◌∷◌, ◌≡◌}
 use Rattle.std.proofs.Math.Seq.{drop-append_seam, take-append_seam}
 
 pub AllZip-take : {X Y : Type 0} (R : X → Y → Type 0) (n : ℕ) (xs : List X) (ys : List Y) → AllZip R xs ys → AllZip R (take n xs) (take n ys)

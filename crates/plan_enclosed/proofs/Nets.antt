@@ -1,11 +1,9 @@
 -- What a listed term gives more in the other plan's step is the sum of what its branches give more.
-use Rattle.plan_enclosed.proofs.Common.{AllZip, AllZip-length, AreInOneWeather, Bool, ConstantHead, Drains, Et, ExactCell, ExactFixed, ExactFlow, FixedKind}
-use Rattle.plan_enclosed.proofs.Common.{Fraction, HeadDepBounds, IsDifferenceCell, IsOver, List, Recharge, RiverLeakage, Same, Same-sym, Storage, Term, Wells}
-use Rattle.plan_enclosed.proofs.Common.{[], ap, arith, den, drain_flow, evap_flow, exact_fixed_of, false, filter, fixed_flow, fixed_term, fraction_total, ints}
-use Rattle.plan_enclosed.proofs.Common.{is_listed, is_term, known_difference, known_differences, length, map, minus, mul-pos, neg_ℤ, opposite, refl, river_flow}
-use Rattle.plan_enclosed.proofs.Common.{same_over, share, suc, sym, total_below, true, zero, ℕ, ℤ, ◌*◌, ◌++◌, ◌-ℤ◌, ◌<◌, ◌∙◌, ◌∷◌, ◌≡◌, exact_singles}
-use Rattle.plan_enclosed.proofs.Common.{Goes-first, Goes-second, fraction_over, IsOver-minus, IsOver-negated, known_differ, difference_of_sums}
-use Rattle.plan_enclosed.proofs.Common.{difference_of_totals, same_is_over}
+use Rattle.plan_enclosed.proofs.Common.{AllZip, AllZip-length, AreInOneWeather, Bool, ConstantHead, Drains, Et, ExactCell, ExactFixed, ExactFlow, FixedKind, Fraction, HeadDepBounds, IsDifferenceCell}
+use Rattle.plan_enclosed.proofs.Common.{List, Recharge, RiverLeakage, Same, Same-sym, Storage, Term, Wells, [], ap, arith, den, drain_flow, evap_flow, exact_fixed_of, false, filter, fixed_flow}
+use Rattle.plan_enclosed.proofs.Common.{fixed_term, fraction_total, ints, is_listed, is_term, known_difference, known_differences, length, map, minus, mul-pos, neg_ℤ, opposite, refl, river_flow}
+use Rattle.plan_enclosed.proofs.Common.{same_over, share, suc, sym, total_below, true, zero, ℕ, ℤ, ◌*◌, ◌++◌, ◌-ℤ◌, ◌<◌, ◌∷◌, ◌≡◌, exact_singles, Goes-first, Goes-second, fraction_over, IsOver-minus}
+use Rattle.plan_enclosed.proofs.Common.{IsOver-negated, known_differ, difference_of_sums, difference_of_totals, same_is_over}
 use Rattle.plan_enclosed.proofs.Gains.{after_rivers, exact_drains, exact_evaps, exact_known, exact_ramps, exact_rivers, gain, exact_gains}
 use Rattle.plan_enclosed.proofs.Lists.{back_is, front_is, total_map}
 

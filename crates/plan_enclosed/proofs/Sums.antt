@@ -1,8 +1,7 @@
 -- The sums of a term's branches over all cells enclose the exact sums.
-use Rattle.plan_enclosed.proofs.Common.{AllZip, AllZip-at, AreWithin, CellEncloses, EnclosesSigned, Entries, ExactCell, Fraction, List, PairEncloses, Term}
-use Rattle.plan_enclosed.proofs.Common.{TermPair, [], ap, arith, below_encloses, cell_at, clamps, entries_at, fraction_total, ints, length, no_cell, no_entries}
-use Rattle.plan_enclosed.proofs.Common.{pos, refl, subst, suc, sum_below, sum_by_branches, sym, total, total_below, total_encloses, zero, ℕ, ℤ, ◌+◌, ◌-ℤ◌, ◌<◌}
-use Rattle.plan_enclosed.proofs.Common.{◌+ℤ◌, ◌∙◌, ◌∷◌, ◌≡◌, gains, parts, term_gain, net_of}
+use Rattle.plan_enclosed.proofs.Common.{AllZip, AllZip-at, AreWithin, CellEncloses, EnclosesSigned, Entries, ExactCell, Fraction, List, PairEncloses, Term, TermPair, [], ap, arith, below_encloses}
+use Rattle.plan_enclosed.proofs.Common.{cell_at, clamps, entries_at, fraction_total, ints, length, no_cell, no_entries, refl, subst, suc, sum_below, sum_by_branches, sym, total, total_below}
+use Rattle.plan_enclosed.proofs.Common.{total_encloses, zero, ℕ, ℤ, ◌+◌, ◌-ℤ◌, ◌<◌, ◌+ℤ◌, ◌∷◌, ◌≡◌, gains, parts, term_gain, net_of}
 use Rattle.step_problem.specs.declared.place.Dir.TheVariants.{In, Out}
 use Rattle.plan_enclosed.proofs.Gains.{gains_within, exact_gains}
 

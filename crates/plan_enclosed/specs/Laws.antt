@@ -2,15 +2,11 @@
 use Rattle.std.specs.Prelude.{◌≡◌, ℕ, ◌+◌, ◌<◌, ℤ, ◌-ℤ◌, All, Bool, true, false, List, length}
 use Rattle.std.specs.List.{AllZip}
 use Rattle.decimal_input.specs.{EnclosesSigned, Fraction, fraction_total}
-use Rattle.step_problem.specs.declared.heads.Bound.{Bound}
-use Rattle.step_problem.specs.declared.place.Dir.TheVariants.{In, Out}
-use Rattle.step_problem.specs.declared.place.Term.{Term}
-use Rattle.step_problem.specs.declared.place.Term.TheVariants.{Storage, ConstantHead, Wells, Drains, RiverLeakage, HeadDepBounds, Recharge, Et}
-use Rattle.step_problem.specs.declared.place.ZoneFlow.{ZoneFlow}
-use Rattle.step_problem.specs.Entries.{Entries}
+use Rattle.step_problem.specs.{declared.heads.Bound.Bound, declared.place.Dir.TheVariants.In, declared.place.Dir.TheVariants.Out, declared.place.Term.Term}
+use Rattle.step_problem.specs.{declared.place.Term.TheVariants.Wells, declared.place.Term.TheVariants.Recharge, declared.place.ZoneFlow.ZoneFlow}
+use Rattle.step_problem.specs.{Entries.Entries}
 use Rattle.cell_balance.specs.{AreLinked, ExactCell, ExactFixed, ExactFlow, LiesBetween, SolvesStep, cell_at, minus, share, total_below}
-use Rattle.budget_bounds.specs.declared.pair.TermPair.{TermPair}
-use Rattle.budget_bounds.specs.{exact_singles}
+use Rattle.budget_bounds.specs.{declared.pair.TermPair.TermPair, exact_singles}
 use Rattle.plan_step.specs.{IsDifferenceProblem, AreTwoPlans}
 use Rattle.plan_gains.specs.{net_of, source, term_gain}
 use Rattle.zone_flows.specs.{EncloseEveryStep, HeadsLieWithin, exact_flow, exact_faces}

@@ -1,8 +1,6 @@
 -- Tests of sums that stop at 2^126 tell what tests of the whole sums do; and sources by all sums.
-use Rattle.plan_gains.proofs.Common.{Bool, Term, TermPair, arith, capped_term, clamps, false, gain_limit, ints, net_of, net_or_large, refl, sym, term_limit}
-use Rattle.plan_gains.proofs.Common.{true, ℤ, ◌<ℤ◌, ◌≡◌, ◌≤ℤ◌, Ok}
-use Rattle.std.specs.Int.{int_min}
-use Rattle.std.specs.Int.Signed.{lt_z}
+use Rattle.plan_gains.proofs.Common.{Bool, Term, TermPair, arith, capped_term, clamps, false, gain_limit, ints, net_of, net_or_large, refl, sym, term_limit, true, ℤ, ◌<ℤ◌, ◌≡◌, ◌≤ℤ◌, Ok}
+use Rattle.std.specs.{Int.int_min, Int.Signed.lt_z}
 
 module _ (cap limit : ℤ) (less : limit ≤ℤ cap) where
   alike : (a : ℤ) (s t : Bool) → lt_z (int_min a cap) limit ≡ s → lt_z a limit ≡ t → s ≡ t

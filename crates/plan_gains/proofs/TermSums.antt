@@ -1,7 +1,6 @@
 -- The sum of a term over the first cells.
-use Rattle.plan_gains.proofs.Common.{Entries, List, Term, TermPair, ap, capped_term, cell_more, entries_at, length, parts_hi, parts_lo, plus_pair, ℕ, ℤ, ◌+◌}
-use Rattle.plan_gains.proofs.Common.{◌∙◌, ◌≡◌, Fixed, Flow, IsSum, branch_gain, counts, drop, filter, map, true, well_gain, ◌≤◌, gains, term_gain, parts, sym}
-use Rattle.plan_gains.proofs.Common.{nothing_more}
+use Rattle.plan_gains.proofs.Common.{Entries, List, Term, TermPair, ap, capped_term, cell_more, entries_at, length, parts_hi, parts_lo, plus_pair, ℕ, ℤ, ◌+◌, ◌∙◌, ◌≡◌, Fixed, Flow, IsSum, branch_gain}
+use Rattle.plan_gains.proofs.Common.{counts, drop, filter, map, true, well_gain, ◌≤◌, gains, term_gain, parts, sym, nothing_more}
 use Rattle.step_problem.specs.declared.place.Dir.{Dir}
 use Rattle.cell_balance.specs.{sum_below}
 use Rattle.std.proofs.lemmas.List.{drop_all}

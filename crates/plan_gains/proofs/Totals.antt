@@ -1,6 +1,5 @@
 -- The sources by the sum of all eight terms.
-use Rattle.plan_gains.proofs.Common.{TermPair, all_terms, arith, ints, listed, map, no_pair, pos, refl, source, sum_of, tighter_of, total_of, ℤ, ◌+ℤ◌, ◌∷◌, []}
-use Rattle.plan_gains.proofs.Common.{◌≡◌}
+use Rattle.plan_gains.proofs.Common.{TermPair, all_terms, arith, ints, listed, map, no_pair, pos, refl, source, sum_of, tighter_of, total_of, ℤ, ◌+ℤ◌, ◌∷◌, [], ◌≡◌}
 use Rattle.plan_gains.specs.declared.terms.TermSums.{TermSums}
 
 eight : (a b c d e f g h : ℤ) → ((a +ℤ b) +ℤ (c +ℤ d)) +ℤ ((e +ℤ f) +ℤ (g +ℤ h)) ≡ a +ℤ (b +ℤ (c +ℤ (d +ℤ (e +ℤ (f +ℤ (g +ℤ (h +ℤ pos 0)))))))

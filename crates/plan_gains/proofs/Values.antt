@@ -1,8 +1,7 @@
 -- The sources of a step that has them: by the sum of each term.
-use Rattle.plan_gains.proofs.Common.{Entries, List, Term, TermPair, all_terms, ap, arith, get_or, length, map, net_of, net_or_large, no_pair, refl, source, suc}
-use Rattle.plan_gains.proofs.Common.{sum_of, sym, zero, ℕ, ℤ, ◌<◌, ◌∙◌, ◌∷◌, ◌≡◌, Bool, true, false, [], sum_or_large, term_gain, In, Out, Ok, Result, Err}
-use Rattle.plan_gains.proofs.Common.{if◌then◌else◌, subst, is_small, sources_or_large, sums_or_large, place_of, too_large, ◌>>=◌, ConstantHead, Drains, Et}
-use Rattle.plan_gains.proofs.Common.{HeadDepBounds, Recharge, RiverLeakage, Storage, Wells}
+use Rattle.plan_gains.proofs.Common.{Entries, List, Term, TermPair, all_terms, ap, arith, get_or, length, map, net_of, no_pair, refl, source, suc, sum_of, sym, zero, ℕ, ℤ, ◌<◌, ◌∙◌, ◌∷◌, ◌≡◌, Bool}
+use Rattle.plan_gains.proofs.Common.{true, false, [], sum_or_large, term_gain, In, Out, Ok, Result, Err, if◌then◌else◌, subst, is_small, sources_or_large, sums_or_large, place_of, too_large, ◌>>=◌}
+use Rattle.plan_gains.proofs.Common.{ConstantHead, Drains, Et, HeadDepBounds, Recharge, RiverLeakage, Storage, Wells}
 use Rattle.budget_bounds.proofs.Enclosed.{at_place, place_within}
 use Rattle.step_problem.specs.declared.place.NoBound.{NoBound}
 

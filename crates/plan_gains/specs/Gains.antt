@@ -2,18 +2,13 @@
 -- other plan. What a branch gives the base plan more, turned round, it gives more under the plan.
 use Rattle.std.specs.Prelude.{◌≡◌, ℕ, ◌+◌, ◌^◌, ◌<◌, Bool, true, ◌&&◌, if◌then◌else◌, List, [], ◌∷◌, drop, length, map, take, ℤ, pos, neg_ℤ, ◌+ℤ◌, ◌-ℤ◌, ◌<ℤ◌}
 use Rattle.std.specs.Prelude.{Result, Ok, Err}
-use Rattle.std.specs.Int.{int_max, int_min}
-use Rattle.std.specs.Int.Signed.{lt_z}
-use Rattle.step_problem.specs.declared.entry.Fixed.{Fixed}
-use Rattle.step_problem.specs.declared.entry.Flow.{Flow}
-use Rattle.step_problem.specs.declared.heads.Side.TheVariants.{Low, High}
-use Rattle.step_problem.specs.declared.place.Dir.{Dir}
-use Rattle.step_problem.specs.declared.place.Dir.TheVariants.{In, Out}
-use Rattle.step_problem.specs.declared.place.NoBound.{NoBound}
-use Rattle.step_problem.specs.declared.place.Term.{Term}
-use Rattle.step_problem.specs.declared.place.Term.TheVariants.{Storage, ConstantHead, Wells, Drains, RiverLeakage, HeadDepBounds, Recharge, Et}
-use Rattle.step_problem.specs.Entries.{Entries}
-use Rattle.step_problem.specs.{entries_at, fixed_flow, total}
+use Rattle.std.specs.{Int.int_max, Int.int_min, Int.Signed.lt_z}
+use Rattle.step_problem.specs.{declared.entry.Fixed.Fixed, declared.entry.Flow.Flow, declared.heads.Side.TheVariants.Low, declared.heads.Side.TheVariants.High}
+use Rattle.step_problem.specs.{declared.place.Dir.Dir, declared.place.Dir.TheVariants.In, declared.place.Dir.TheVariants.Out, declared.place.NoBound.NoBound}
+use Rattle.step_problem.specs.{declared.place.Term.Term, declared.place.Term.TheVariants.Storage, declared.place.Term.TheVariants.ConstantHead}
+use Rattle.step_problem.specs.{declared.place.Term.TheVariants.Wells, declared.place.Term.TheVariants.Drains, declared.place.Term.TheVariants.RiverLeakage}
+use Rattle.step_problem.specs.{declared.place.Term.TheVariants.HeadDepBounds, declared.place.Term.TheVariants.Recharge, declared.place.Term.TheVariants.Et}
+use Rattle.step_problem.specs.{Entries.Entries, entries_at, fixed_flow, total}
 use Rattle.cell_balance.specs.{sum_below}
 use Rattle.budget_bounds.specs.declared.pair.TermPair.{TermPair}
 use Rattle.budget_bounds.specs.{IsFlow, all_terms, fixed_of, fixed_term, is_term, no_pair, sum_of, too_large, ◌>>=◌, parts}

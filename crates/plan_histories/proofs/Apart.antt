@@ -1,16 +1,12 @@
 -- The lists of rivers, drains and general heads hold no wells.
-use Rattle.plan_histories.proofs.Common.{◌≡◌, ◌-◌, ℕ, All, List, None, Option, length, refl, subst, sym, get_or, get_or_past, inl, inr, All-nil, All-weaker}
-use Rattle.plan_histories.proofs.Common.{Some, All-cons, All-head, All-tail, as_well, Entry, FlowModel, KeepsWellsApart, MembersKeepWellsApart}
-use Rattle.plan_histories.proofs.Common.{ReadersKeepWellsApart, cases_lt, no_period, Period, AllThree, IsEntryBetween, IsPeriodBetween, none, next, wells}
-use Rattle.plan_histories.proofs.Common.{rivers, drains, generals}
+use Rattle.plan_histories.proofs.Common.{◌≡◌, ◌-◌, ℕ, All, List, None, Option, length, refl, subst, sym, get_or, get_or_past, inl, inr, All-nil, All-weaker, Some, All-cons, All-head, All-tail}
+use Rattle.plan_histories.proofs.Common.{as_well, Entry, FlowModel, KeepsWellsApart, MembersKeepWellsApart, ReadersKeepWellsApart, cases_lt, no_period, Period, AllThree, IsEntryBetween}
+use Rattle.plan_histories.proofs.Common.{IsPeriodBetween, none, next, wells, rivers, drains, generals}
 use Rattle.decimal_input.specs.declared.dec.Dec.{Dec}
-use Rattle.model_types.specs.declared.grid.CellId.{CellId}
-use Rattle.model_types.specs.declared.limits.Limits.{Limits}
-use Rattle.list_package.specs.{IsEntry, IsListOf, kind_of}
-use Rattle.list_package.specs.declared.entries.ListKind.{ListKind}
-use Rattle.list_package.specs.declared.entries.ListKind.TheVariants.{Rivers, Drains, Generals}
-use Rattle.model_reader.proofs.PeriodForms.{IsKnown}
-use Rattle.model_reader.proofs.ReadForms.{read_is}
+use Rattle.model_types.specs.{declared.grid.CellId.CellId, declared.limits.Limits.Limits}
+use Rattle.list_package.specs.{IsEntry, IsListOf, kind_of, declared.entries.ListKind.ListKind, declared.entries.ListKind.TheVariants.Rivers, declared.entries.ListKind.TheVariants.Drains}
+use Rattle.list_package.specs.{declared.entries.ListKind.TheVariants.Generals}
+use Rattle.model_reader.proofs.{PeriodForms.IsKnown, ReadForms.read_is}
 use Rattle.deck_problems.specs.{IsOf}
 
 abbrev IsNoWell : Entry → Type 0

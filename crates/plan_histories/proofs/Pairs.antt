@@ -1,10 +1,9 @@
 -- Two plans' histories are histories between two decks, and each choice of weathers has one of each.
-use Rattle.plan_histories.proofs.Common.{◌≡◌, ℕ, subst, sym, List, [], ◌∷◌, length, map, ℤ, flat_map, range_with_len, Fraction, Entry, FlowModel, start_head}
-use Rattle.plan_histories.proofs.Common.{times, heads_of, as_many, period_is, with_plan, PairsAreHistories, PairsHaveOne, SolvesPairsFrom, AllZip, Contains}
-use Rattle.plan_histories.proofs.Common.{IsModel, SolvesAt, Choice, IsBetween, IsChoiceBetween, SolvesChoicesFrom, own_choice}
+use Rattle.plan_histories.proofs.Common.{◌≡◌, ℕ, subst, sym, List, [], ◌∷◌, length, map, ℤ, flat_map, range_with_len, Fraction, Entry, FlowModel, start_head, times, heads_of, as_many, period_is}
+use Rattle.plan_histories.proofs.Common.{with_plan, PairsAreHistories, PairsHaveOne, SolvesPairsFrom, AllZip, Contains, IsModel, SolvesAt, Choice, IsBetween, IsChoiceBetween, SolvesChoicesFrom}
+use Rattle.plan_histories.proofs.Common.{own_choice}
 use Rattle.model_types.specs.declared.time_steps.TimeStep.{TimeStep}
-use Rattle.deck_span.proofs.OwnChoices.{models_give, models_solve}
-use Rattle.deck_span.proofs.SameFrames.{starts_between}
+use Rattle.deck_span.proofs.{OwnChoices.models_give, OwnChoices.models_solve, SameFrames.starts_between}
 use Rattle.problem_builder.proofs.TimesOf.{time_of}
 use Rattle.step_chain.proofs.Histories.{first_in, next_in}
 use Rattle.step_chain.specs.{two}

@@ -1,6 +1,6 @@
 -- The entries of one cell, of lists one after the other.
-use Rattle.plan_histories.proofs.Common.{◌≡◌, ◌∙◌, ℕ, ap, refl, sym, All, List, [], ◌∷◌, ◌++◌, None, Option, cons_option, filter, filter_map, append-nil}
-use Rattle.plan_histories.proofs.Common.{All-filter, All-head, All-tail, filter-append, filter_map-append, ◌==◌, cell_of, entries_of, Entry}
+use Rattle.plan_histories.proofs.Common.{◌≡◌, ◌∙◌, ℕ, ap, refl, sym, All, List, [], ◌∷◌, ◌++◌, None, Option, cons_option, filter, filter_map, append-nil, All-filter, All-head, All-tail, filter-append}
+use Rattle.plan_histories.proofs.Common.{filter_map-append, ◌==◌, cell_of, entries_of, Entry}
 
 module _ {X : Type 0} (f : Entry → Option X) (c : ℕ) where
   abbrev pub picked : List Entry → List X

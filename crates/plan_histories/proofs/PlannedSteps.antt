@@ -1,29 +1,20 @@
 -- The exact step of a model with a plan's wells.
-use Rattle.plan_histories.proofs.Common.{◌≡◌, ◌-◌, ◌*◌, ◌<◌, ◌^◌, ◌∙◌, ℕ, ap, arith, refl, subst, sym, ℤ, pos, ◌-ℤ◌, ◌*ℤ◌, ◌≤ℤ◌, All, List, [], ◌∷◌, ◌++◌, None}
-use Rattle.plan_histories.proofs.Common.{Option, Some, cond, get_or, length, map, not, take, AllZip, filter, filter_map, range_with_len, int_lt, is_some, ◌&&◌}
-use Rattle.plan_histories.proofs.Common.{◌==◌, inl, inr, append_assoc, get_or-map, get_or_default, get_or_past, length-map, map-append, All-append, All-nil}
-use Rattle.plan_histories.proofs.Common.{All-weaker, EnclosesSigned, Fraction, Ratio, as_fraction, number, size, over, exact_cell, exact_drain, exact_evap}
-use Rattle.plan_histories.proofs.Common.{exact_fixed, exact_flow, exact_link, exact_river, exact_step, Entry, FlowModel, DrainSource, EvapSource, FixedSource}
-use Rattle.plan_histories.proofs.Common.{FlowSource, FromStorage, Pumped, Received, RiverSource, ToConstant, ToGeneral, as_drain, as_general, as_river, as_well}
-use Rattle.plan_histories.proofs.Common.{between_heads, cell_count, conductance, constant_faces, dec_at, entries, evap_sources, faces, fixed_sources}
-use Rattle.plan_histories.proofs.Common.{head_or_kept, int_at, is_active, is_chosen, is_variable, kept_head, last_given, period_at, place_in_layer, recharge_at}
-use Rattle.plan_histories.proofs.Common.{through, variable_cells, variable_faces, constant_head, given_in, variable_below, area, column_conductance}
-use Rattle.plan_histories.proofs.Common.{row_conductance, vertical_conductance, vertical_half, storage, part_passed, lists_kept, period_is, IsWell, with_plan}
-use Rattle.plan_histories.proofs.Common.{with_wells, KeepsWellsApart, PlannedSteps, plan_flows, cases_lt, Period}
+use Rattle.plan_histories.proofs.Common.{◌≡◌, ◌-◌, ◌*◌, ◌<◌, ◌^◌, ◌∙◌, ℕ, ap, arith, refl, subst, sym, ℤ, pos, ◌-ℤ◌, ◌*ℤ◌, ◌≤ℤ◌, All, List, [], ◌∷◌, ◌++◌, None, Option, Some, cond, get_or, length}
+use Rattle.plan_histories.proofs.Common.{map, not, take, AllZip, filter, filter_map, range_with_len, int_lt, is_some, ◌&&◌, ◌==◌, inl, inr, append_assoc, get_or-map, get_or_default, get_or_past}
+use Rattle.plan_histories.proofs.Common.{length-map, map-append, All-append, All-nil, All-weaker, EnclosesSigned, Fraction, Ratio, as_fraction, number, size, over, exact_cell, exact_drain, exact_evap}
+use Rattle.plan_histories.proofs.Common.{exact_fixed, exact_flow, exact_link, exact_river, exact_step, Entry, FlowModel, DrainSource, EvapSource, FixedSource, FlowSource, FromStorage, Pumped}
+use Rattle.plan_histories.proofs.Common.{Received, RiverSource, ToConstant, ToGeneral, as_drain, as_general, as_river, as_well, between_heads, cell_count, conductance, constant_faces, dec_at, entries}
+use Rattle.plan_histories.proofs.Common.{evap_sources, faces, fixed_sources, head_or_kept, int_at, is_active, is_chosen, is_variable, kept_head, last_given, period_at, place_in_layer, recharge_at}
+use Rattle.plan_histories.proofs.Common.{through, variable_cells, variable_faces, constant_head, given_in, variable_below, area, column_conductance, row_conductance, vertical_conductance}
+use Rattle.plan_histories.proofs.Common.{vertical_half, storage, part_passed, lists_kept, period_is, IsWell, with_plan, with_wells, KeepsWellsApart, PlannedSteps, plan_flows, cases_lt, Period}
 use Rattle.std.specs.Option.{option_to_list}
-use Rattle.std.proofs.Math.IntN.{zero-*ℤ}
-use Rattle.std.proofs.lemmas.Int.{ints}
-use Rattle.decimal_input.specs.Fractions.{den, times as product}
-use Rattle.decimal_input.specs.Ratios.{times}
-use Rattle.cell_balance.proofs.Denominators.{fraction_over}
-use Rattle.cell_balance.proofs.Enclosing.{enclosed_over}
-use Rattle.cell_balance.proofs.Scaling.{IsOver-minus}
+use Rattle.std.proofs.{Math.IntN.zero-*ℤ, lemmas.Int.ints}
+use Rattle.decimal_input.specs.{Fractions.den, Fractions.times as product, Ratios.times}
+use Rattle.cell_balance.proofs.{Denominators.fraction_over, Enclosing.enclosed_over, Scaling.IsOver-minus}
 use Rattle.cell_balance.specs.{ExactCell, ExactFixed, cell_at, minus, no_cell}
-use Rattle.model_types.specs.declared.entry.Entry.TheVariants.{Well, River, Drain, General}
+use Rattle.model_types.specs.{declared.entry.Entry.TheVariants.Well, declared.entry.Entry.TheVariants.River, declared.entry.Entry.TheVariants.Drain, declared.entry.Entry.TheVariants.General}
+use Rattle.model_types.specs.{declared.face.Axis.Axis, declared.face.Axis.TheVariants.Column, declared.face.Axis.TheVariants.Row, declared.face.Axis.TheVariants.Vertical, declared.face.Face.Face}
 use Rattle.model_types.specs.declared.entry.Given.{Given}
-use Rattle.model_types.specs.declared.face.Axis.{Axis}
-use Rattle.model_types.specs.declared.face.Axis.TheVariants.{Column, Row, Vertical}
-use Rattle.model_types.specs.declared.face.Face.{Face}
 use Rattle.step_problem.specs.declared.heads.Bound.{Bound}
 use Rattle.plan_step.specs.{IsApartBy, IsPlannedCell, bound_at}
 use Rattle.plan_histories.proofs.Picked.{added, kept, picked}

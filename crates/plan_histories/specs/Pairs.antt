@@ -2,19 +2,13 @@
 -- anew at each step, and is the same for both plans.
 use Rattle.std.specs.Prelude.{◌≡◌, ℕ, ◌<◌, ℤ, ◌-ℤ◌, List, [], ◌∷◌, length}
 use Rattle.decimal_input.specs.{Fraction}
-use Rattle.step_problem.specs.{PairKind}
-use Rattle.step_problem.specs.declared.heads.Bound.{Bound}
-use Rattle.model_types.specs.declared.entry.Entry.{Entry}
-use Rattle.model_types.specs.declared.limits.Limits.{Limits}
-use Rattle.model_types.specs.declared.model.FlowModel.{FlowModel}
-use Rattle.model_types.specs.declared.time_steps.TimeStep.{TimeStep}
-use Rattle.model_types.specs.{start_head, times, IsModel}
+use Rattle.step_problem.specs.{PairKind, declared.heads.Bound.Bound}
+use Rattle.model_types.specs.{declared.entry.Entry.Entry, declared.limits.Limits.Limits, declared.model.FlowModel.FlowModel}
+use Rattle.model_types.specs.{declared.time_steps.TimeStep.TimeStep, start_head, times, IsModel}
 use Rattle.flow_equations.specs.{SolvesAt, heads_of}
 use Rattle.deck_span.specs.{AreChoices, Choice, SolvesChoices}
-use Rattle.deck_problems.specs.declared.decks.Decks.{Decks}
-use Rattle.deck_problems.specs.{IsMember}
-use Rattle.step_chain.specs.declared.solved.Solved.{Solved}
-use Rattle.step_chain.specs.{AreAllSteps, LiesWithin, two}
+use Rattle.deck_problems.specs.{declared.decks.Decks.Decks, IsMember}
+use Rattle.step_chain.specs.{declared.solved.Solved.Solved, AreAllSteps, LiesWithin, two}
 use Rattle.exact_histories.specs.{ChoicesHaveOne}
 use Rattle.plan_wells.specs.{with_plan}
 

@@ -4,16 +4,12 @@ use Rattle.std.specs.List.{filter_map}
 use Rattle.decimal_input.specs.{EnclosesSigned, Fraction}
 use Rattle.outside.specs.{FileSet}
 use Rattle.step_problem.specs.declared.heads.Bound.{Bound}
-use Rattle.model_types.specs.declared.entry.Entry.{Entry}
-use Rattle.model_types.specs.declared.limits.Limits.{Limits}
-use Rattle.model_types.specs.declared.model.FlowModel.{FlowModel}
-use Rattle.model_types.specs.declared.period.Period.{Period}
+use Rattle.model_types.specs.{declared.entry.Entry.Entry, declared.limits.Limits.Limits, declared.model.FlowModel.FlowModel, declared.period.Period.Period}
 use Rattle.model_types.specs.{as_well, cell_count, entries_of, period_at, variable_cells}
 use Rattle.flow_equations.specs.{exact_flow, exact_step}
 use Rattle.cell_balance.specs.{ExactFlow, minus}
 use Rattle.model_reader.specs.{reads}
-use Rattle.deck_problems.specs.declared.decks.Decks.{Decks}
-use Rattle.deck_problems.specs.{IsMember}
+use Rattle.deck_problems.specs.{declared.decks.Decks.Decks, IsMember}
 use Rattle.plan_wells.specs.{IsWell, with_plan}
 use Rattle.plan_step.specs.{IsPlannedStep, bound_at}
 

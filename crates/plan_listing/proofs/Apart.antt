@@ -1,7 +1,6 @@
 -- The first line of a plan's listing tells which listing it is.
-use Rattle.plan_listing.proofs.Common.{◌≡◌, inl, inr, ℕ, Bool, true, false, List, [], refl, ap, drop, get_or, arith, FlowModel, IsListing, IsWritable, Line}
-use Rattle.plan_listing.proofs.Common.{first_line, first_line_before, listings_were_written, not_without, one_deck_apart, same_first, ListedPlanStep}
-use Rattle.plan_listing.proofs.Common.{PlanListingsAreApart, PlanListingsAreNoListings, plan_first_line}
+use Rattle.plan_listing.proofs.Common.{◌≡◌, inl, inr, ℕ, Bool, true, false, List, [], refl, ap, drop, get_or, arith, FlowModel, IsListing, IsWritable, Line, first_line, first_line_before}
+use Rattle.plan_listing.proofs.Common.{listings_were_written, not_without, one_deck_apart, same_first, ListedPlanStep, PlanListingsAreApart, PlanListingsAreNoListings, plan_first_line}
 use Rattle.listing_io.specs.declared.listing.ListedStep.{ListedStep}
 use Rattle.plan_listing.proofs.Steps.{plan_listings_were_written}
 unfoldable use Rattle.outside.specs.{lines}

@@ -1,16 +1,13 @@
 -- No line of a plan's listing has a line feed, so the lines of its text are the listing's.
-use Rattle.plan_listing.proofs.Common.{ℕ, ◌+◌, ◌≤◌, ◌<◌, Bool, List, [], ◌∷◌, ◌++◌, All, codes, map, refl, subst, sym, arith, AllByRecursion, AllZip, flat_map}
-use Rattle.plan_listing.proofs.Common.{range_with_len, all_terms, FlowModel, TimeStep, cell_count, most_cells, ZonePair, Base, Plan, Drawdown, AreZonePairs}
-use Rattle.plan_listing.proofs.Common.{IsTime, IsWritable, end_line, has_evt, source_front, zone_line, left_of, Sources, ListedPlanStep, PlanCell}
-use Rattle.plan_listing.proofs.Common.{AreListedPlan, AreSources, IsListedPlanStep, PlanListingsAreReadAgain, is_source, line_of, plan_cell_lines}
+use Rattle.plan_listing.proofs.Common.{ℕ, ◌+◌, ◌≤◌, ◌<◌, Bool, List, [], ◌∷◌, ◌++◌, All, codes, map, refl, subst, sym, arith, AllByRecursion, AllZip, flat_map, range_with_len, all_terms, FlowModel}
+use Rattle.plan_listing.proofs.Common.{TimeStep, cell_count, most_cells, ZonePair, Base, Plan, Drawdown, AreZonePairs, IsTime, IsWritable, end_line, has_evt, source_front, zone_line, left_of, Sources}
+use Rattle.plan_listing.proofs.Common.{ListedPlanStep, PlanCell, AreListedPlan, AreSources, IsListedPlanStep, PlanListingsAreReadAgain, is_source, line_of, plan_cell_lines}
 use Rattle.std.proofs.lemmas.List.Elements.{recursion_from_All}
 use Rattle.model_types.specs.declared.limits.Limits.TheVariants.{Wide}
 use Rattle.listing_io.proofs.Exactly.{by_test}
-use Rattle.listing_io.proofs.Feeds.{NoFeed, all_appended, cell_without, cells_below, each_without, first_without, flows_without, lines_of, step_title_without}
-use Rattle.listing_io.proofs.Feeds.{term_without}
-use Rattle.plan_listing.proofs.Cells.{IsPlanCell}
-use Rattle.plan_listing.proofs.Readers.{IsSourcePair, lines_of_sources, source_rows}
-use Rattle.plan_listing.proofs.Steps.{IsListedPlanAt, by_times, cells_of_step, rows_again, step_cells}
+use Rattle.listing_io.proofs.Feeds.{NoFeed, all_appended, cell_without, cells_below, each_without, first_without, flows_without, lines_of, step_title_without, term_without}
+use Rattle.plan_listing.proofs.{Cells.IsPlanCell, Readers.IsSourcePair, Readers.lines_of_sources, Readers.source_rows, Steps.IsListedPlanAt, Steps.by_times, Steps.cells_of_step, Steps.rows_again}
+use Rattle.plan_listing.proofs.{Steps.step_cells}
 unfoldable use Rattle.model_types.specs.{times}
 unfoldable use Rattle.plan_listing.specs.{cells_lines, plan_listing_lines, plan_step_lines, source_lines}
 

@@ -1,8 +1,7 @@
 -- The parts of a plan's step are read as they are written: the cells, and the lines SOURCE of the terms.
-use Rattle.plan_listing.proofs.Common.{◌≡◌, ℕ, Bool, true, false, cond, List, [], ◌∷◌, ◌++◌, length, map, refl, sym, ap, ◌∙◌, subst, arith, slice_index_or}
-use Rattle.plan_listing.proofs.Common.{append_assoc, AllZip, range_with_len, Term, all_terms, no_pair, place_of, AllZip-length, FlowModel, cell_count}
-use Rattle.plan_listing.proofs.Common.{is_active, Base, Plan, Drawdown, IsPairIf, Left, Line, cell_front, each_lines, has_evt, head_if, pair_if, source_front}
-use Rattle.plan_listing.proofs.Common.{source_line, term_form, IsReader, all_read, bind_goes_through, left_of, same_ok, cell_read, term_read, Sources, PlanCell}
+use Rattle.plan_listing.proofs.Common.{◌≡◌, ℕ, Bool, true, false, cond, List, [], ◌∷◌, ◌++◌, length, map, refl, sym, ap, ◌∙◌, subst, arith, slice_index_or, append_assoc, AllZip, range_with_len, Term}
+use Rattle.plan_listing.proofs.Common.{all_terms, no_pair, place_of, AllZip-length, FlowModel, cell_count, is_active, Base, Plan, Drawdown, IsPairIf, Left, Line, cell_front, each_lines, has_evt}
+use Rattle.plan_listing.proofs.Common.{head_if, pair_if, source_front, source_line, term_form, IsReader, all_read, bind_goes_through, left_of, same_ok, cell_read, term_read, Sources, PlanCell}
 use Rattle.plan_listing.proofs.Common.{AreSources, is_source, line_of, plan_cell_lines, source_terms}
 use Rattle.budget_bounds.specs.declared.pair.TermPair.{TermPair}
 use Rattle.plan_listing.proofs.Cells.{IsPlanCell}

@@ -1,9 +1,8 @@
 -- The steps of a plan's listing, and a whole listing, are read as they are written.
-use Rattle.plan_listing.proofs.Common.{◌≡◌, ℕ, ◌≤◌, Bool, List, [], ◌∷◌, ◌++◌, length, map, refl, sym, ap, ◌∙◌, subst, Ok, append_assoc, AllZip, flat_map}
-use Rattle.plan_listing.proofs.Common.{range_with_len, Bound, AllZip-length, FlowModel, TimeStep, cell_count, ZonePair, IsCellBound, Left, Line, all_lines}
-use Rattle.plan_listing.proofs.Common.{each_lines, end_line, has_evt, step_line, zone_line, IsReader, all_read, bind_goes_through, left_of, same_ok, flows_read}
-use Rattle.plan_listing.proofs.Common.{text_again, text_row, whole_was, are_flows, flow_lines, flows_of, ListedPlanStep, PlanCell, AreBoundsOf, AreListedPlan}
-use Rattle.plan_listing.proofs.Common.{IsListedPlanStep, PlanListingsWereWritten, plan_cells, plan_first_line, plan_step_at, plan_step_of}
+use Rattle.plan_listing.proofs.Common.{◌≡◌, ℕ, ◌≤◌, Bool, List, [], ◌∷◌, ◌++◌, length, map, refl, sym, ap, ◌∙◌, subst, Ok, append_assoc, AllZip, flat_map, range_with_len, Bound, AllZip-length}
+use Rattle.plan_listing.proofs.Common.{FlowModel, TimeStep, cell_count, ZonePair, IsCellBound, Left, Line, all_lines, each_lines, end_line, has_evt, step_line, zone_line, IsReader, all_read}
+use Rattle.plan_listing.proofs.Common.{bind_goes_through, left_of, same_ok, flows_read, text_again, text_row, whole_was, are_flows, flow_lines, flows_of, ListedPlanStep, PlanCell, AreBoundsOf}
+use Rattle.plan_listing.proofs.Common.{AreListedPlan, IsListedPlanStep, PlanListingsWereWritten, plan_cells, plan_first_line, plan_step_at, plan_step_of}
 use Rattle.std.proofs.lemmas.List.FromFn.{length-range_with_len}
 use Rattle.record_lines.specs.{next_number}
 use Rattle.plan_listing.proofs.Cells.{IsPlanCell, bases, bounds_are, cells_are, differences, lists_of, planneds, same_cells}
@@ -12,8 +11,7 @@ unfoldable use Rattle.outside.specs.{lines}
 unfoldable use Rattle.record_lines.specs.{for_each}
 unfoldable use Rattle.model_types.specs.{times}
 unfoldable use Rattle.listing_io.specs.{flow_at, text_at}
-unfoldable use Rattle.plan_listing.specs.{cells_lines, plan_cells_at, plan_listing_at, plan_listing_lines, plan_step_lines, plan_step_with, source_lines}
-unfoldable use Rattle.plan_listing.specs.{sources_at}
+unfoldable use Rattle.plan_listing.specs.{cells_lines, plan_cells_at, plan_listing_at, plan_listing_lines, plan_step_lines, plan_step_with, source_lines, sources_at}
 
 abbrev cells : FlowModel → List ℕ
 cells m = range_with_len 0 (cell_count m.grid)

@@ -1,13 +1,9 @@
 -- The last lines of a plan's run or check that name a part of a step, or a place in it.
 use Rattle.std.specs.Prelude.{ℕ, List, [], ◌∷◌, ◌++◌, codes}
-use Rattle.step_problem.specs.declared.place.NoBound.{NoBound}
-use Rattle.step_problem.specs.{side_name, term_name}
-use Rattle.model_types.specs.declared.grid.Grid.{Grid}
-use Rattle.model_types.specs.declared.time_steps.TimeStep.{TimeStep}
-use Rattle.model_types.specs.{place}
-use Rattle.listing_io.specs.declared.pair_lines.CellWord.{CellWord}
+use Rattle.step_problem.specs.{declared.place.NoBound.NoBound, side_name, term_name}
+use Rattle.model_types.specs.{declared.grid.Grid.Grid, declared.time_steps.TimeStep.TimeStep, place}
+use Rattle.listing_io.specs.{declared.pair_lines.CellWord.CellWord, cell_word, ended_line, numbers_text, time_text}
 use Rattle.listing_io.specs.declared.pair_lines.CellWord.TheVariants as word
-use Rattle.listing_io.specs.{cell_word, ended_line, numbers_text, time_text}
 unfoldable use Rattle.listing_io.specs.{no_bound_text}
 use Rattle.plan_chain.specs.declared.step.PlanPart.{PlanPart}
 use Rattle.plan_chain.specs.declared.step.PlanPart.TheVariants as part

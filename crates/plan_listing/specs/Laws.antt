@@ -1,22 +1,16 @@
 -- Laws of a plan's text: the text written for a plan's steps is read as these steps, a text that is read is the one written for them, and no text is read
 -- as two kinds of listing.
-use Rattle.std.specs.Prelude.{◌≡◌, ℕ, Bool, false, true, List, ◌++◌, ◌∷◌, [], Ok, length}
+use Rattle.std.specs.Prelude.{◌≡◌, ℕ, Bool, false, true, List, Ok, length}
 use Rattle.std.specs.List.{AllZip}
 unfoldable use Rattle.outside.specs.{lines}
 use Rattle.step_problem.specs.declared.heads.Bound.{Bound}
-use Rattle.budget_bounds.specs.declared.pair.TermPair.{TermPair}
-use Rattle.budget_bounds.specs.{all_terms}
-use Rattle.model_types.specs.declared.model.FlowModel.{FlowModel}
-use Rattle.model_types.specs.declared.time_steps.TimeStep.{TimeStep}
-use Rattle.model_types.specs.{cell_count}
+use Rattle.budget_bounds.specs.{declared.pair.TermPair.TermPair, all_terms}
+use Rattle.model_types.specs.{declared.model.FlowModel.FlowModel, declared.time_steps.TimeStep.TimeStep, cell_count}
 unfoldable use Rattle.model_types.specs.{times}
 use Rattle.zone_pairs.specs.declared.pair.ZonePair.{ZonePair}
-use Rattle.listing_io.specs.{AreCellBounds, AreFlows, AreZonePairs, IsPairIf, IsWritable, all_lines, has_evt, text_of}
+use Rattle.listing_io.specs.{AreCellBounds, AreFlows, AreZonePairs, IsPairIf, IsWritable, all_lines, has_evt, text_of, declared.listing.ListedStep.ListedStep}
 unfoldable use Rattle.listing_io.specs.{listing_at}
-use Rattle.listing_io.specs.declared.listing.ListedStep.{ListedStep}
-use Rattle.plan_listing.specs.declared.listing.ListedPlanStep.{ListedPlanStep}
-use Rattle.plan_listing.specs.Lines.{plan_listing_lines}
-use Rattle.plan_listing.specs.Reading.{is_source, plan_listing_at}
+use Rattle.plan_listing.specs.{declared.listing.ListedPlanStep.ListedPlanStep, Lines.plan_listing_lines, Reading.is_source, Reading.plan_listing_at}
 
 -- one bound for each cell of the grid: from -4000000000 to 4000000000 length units, and zeros where there is no flow
 pub record AreBoundsOf (m : FlowModel) (bs : List Bound) : Type 0 where

@@ -6,14 +6,12 @@ use Rattle.step_problem.specs.declared.heads.Bound.{Bound}
 use Rattle.step_problem.specs.declared.place.Term.{Term}
 use Rattle.step_problem.specs.declared.place.Term.TheVariants.{Storage, ConstantHead, Drains, RiverLeakage, HeadDepBounds, Et}
 use Rattle.budget_bounds.specs.{no_pair, place_of}
-use Rattle.model_types.specs.declared.model.FlowModel.{FlowModel}
-use Rattle.model_types.specs.{cell_count, is_active}
+use Rattle.model_types.specs.{declared.model.FlowModel.FlowModel, cell_count, is_active}
 use Rattle.listing_io.specs.declared.pair_lines.CellWord.{CellWord}
 use Rattle.listing_io.specs.declared.pair_lines.CellWord.TheVariants.{Base, Plan, Drawdown}
 use Rattle.listing_io.specs.{Line, cell_line, each_lines, end_line, has_evt, source_line, step_line, text_of, titled_line, zone_line}
 use Rattle.plan_sources.specs.declared.flows.Sources.{Sources}
-use Rattle.plan_listing.specs.declared.listing.ListedPlanStep.{ListedPlanStep}
-use Rattle.plan_listing.specs.declared.listing.PlanCell.{PlanCell}
+use Rattle.plan_listing.specs.{declared.listing.ListedPlanStep.ListedPlanStep, declared.listing.PlanCell.PlanCell}
 
 -- the first line: of two decks it ends with TO
 abbrev pub plan_first_line : Bool → FlowModel → ℕ → Line

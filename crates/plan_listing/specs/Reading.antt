@@ -1,27 +1,19 @@
 -- Reading a plan's listing: the lines that are due, one after another. A refusal is the number of the first line of another form than the one due.
-use Rattle.std.specs.Prelude.{ℕ, Bool, true, false, List, map, Option, Result, Ok, Err}
+use Rattle.std.specs.Prelude.{ℕ, Bool, true, false, List, map, Result, Ok, Err}
 use Rattle.std.specs.List.{range_with_len}
-use Rattle.outside.specs.declared.codes.Code.TheVariants.{BadListing}
-use Rattle.outside.specs.declared.inputs.Refusal.{Refusal}
-use Rattle.outside.specs.{refusal}
+use Rattle.outside.specs.{declared.codes.Code.TheVariants.BadListing, declared.inputs.Refusal.Refusal, refusal}
 use Rattle.record_lines.specs.{◌>>=◌}
 unfoldable use Rattle.record_lines.specs.{for_each}
-use Rattle.step_problem.specs.declared.place.Term.{Term}
-use Rattle.step_problem.specs.declared.place.Term.TheVariants.{Wells, Recharge, Et}
-use Rattle.step_problem.specs.declared.place.ZoneFlow.{ZoneFlow}
-use Rattle.budget_bounds.specs.declared.pair.TermPair.{TermPair}
-use Rattle.budget_bounds.specs.{all_terms}
-use Rattle.model_types.specs.declared.model.FlowModel.{FlowModel}
-use Rattle.model_types.specs.declared.time_steps.TimeStep.{TimeStep}
-use Rattle.model_types.specs.{cell_count, is_active}
+use Rattle.step_problem.specs.{declared.place.Term.Term, declared.place.Term.TheVariants.Wells, declared.place.Term.TheVariants.Recharge}
+use Rattle.step_problem.specs.{declared.place.Term.TheVariants.Et, declared.place.ZoneFlow.ZoneFlow}
+use Rattle.budget_bounds.specs.{declared.pair.TermPair.TermPair, all_terms}
+use Rattle.model_types.specs.{declared.model.FlowModel.FlowModel, declared.time_steps.TimeStep.TimeStep, cell_count, is_active}
 unfoldable use Rattle.model_types.specs.{times}
 use Rattle.zone_pairs.specs.declared.pair.ZonePair.{ZonePair}
 use Rattle.listing_io.specs.declared.pair_lines.CellWord.TheVariants.{Base, Plan, Drawdown}
 use Rattle.listing_io.specs.{Left, all_lines, cell_front, end_line, has_evt, head_if, over_at, pair_if, source_front, step_line, term_form}
 unfoldable use Rattle.listing_io.specs.{flow_at, text_at}
-use Rattle.plan_listing.specs.declared.listing.ListedPlanStep.{ListedPlanStep}
-use Rattle.plan_listing.specs.declared.listing.PlanCell.{PlanCell}
-use Rattle.plan_listing.specs.Lines.{plan_first_line}
+use Rattle.plan_listing.specs.{declared.listing.ListedPlanStep.ListedPlanStep, declared.listing.PlanCell.PlanCell, Lines.plan_first_line}
 
 -- the three pairs of a cell: no lines where there is no flow
 unfoldable pub plan_cell_at : FlowModel → ℕ → Left → Result (PlanCell × Left) ℕ

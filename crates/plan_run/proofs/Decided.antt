@@ -1,8 +1,7 @@
 -- What is decided by the files: at most one value, or at most one refusal. A problem decides its settled pair.
-use Rattle.plan_run.proofs.Common.{List, subst, ◌≡◌, ◌⊎◌, inl, inr, Bound, NoBound, Entries, AreSettled, Edges, IsCertificate, IsProblem, SettledPairIsOne}
-use Rattle.plan_run.proofs.Common.{lower_at, upper_at, Limits, BarrierExcludesRefusal, CutBarrierExcludesRefusal, CutBarrierIsOne, CutRefusalIsOne}
-use Rattle.plan_run.proofs.Common.{CertificateExcludesRefusal, IsRangeRefusal, RangeRefusalIsOne, HasNoBarrier, IsBarrierBy, IsNoCertificate, edges_by}
-use Rattle.plan_run.proofs.Common.{settled_one}
+use Rattle.plan_run.proofs.Common.{List, subst, ◌≡◌, ◌⊎◌, inl, inr, Bound, NoBound, Entries, AreSettled, Edges, IsCertificate, IsProblem, SettledPairIsOne, lower_at, upper_at, Limits}
+use Rattle.plan_run.proofs.Common.{BarrierExcludesRefusal, CutBarrierExcludesRefusal, CutBarrierIsOne, CutRefusalIsOne, CertificateExcludesRefusal, IsRangeRefusal, RangeRefusalIsOne, HasNoBarrier}
+use Rattle.plan_run.proofs.Common.{IsBarrierBy, IsNoCertificate, edges_by, settled_one}
 use Rattle.model_types.specs.declared.limits.Limits.TheVariants.{Plain, Wide}
 use Rattle.barrier_vector.specs.{RefusalIsOne as BarrierRefusalIsOne}
 

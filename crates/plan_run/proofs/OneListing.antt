@@ -1,16 +1,13 @@
 -- A plan has one listing without --quick: one listed step at each time, or one refusal.
-use Rattle.plan_run.proofs.Common.{List, Ok, Err, Result, [], ap, inl, inr, refl, subst, sym, ◌∙◌, ◌∷◌, ◌≡◌, ◌⊎◌, Contains, false, NoBound, SettledPairIsOne}
-use Rattle.plan_run.proofs.Common.{TimeStep, times, BarrierExcludesRefusal, CutBarrierExcludesRefusal, CutBarrierIsOne, CutRefusalIsOne}
-use Rattle.plan_run.proofs.Common.{CertificateExcludesRefusal, RangeRefusalIsOne, ProblemFits, StartHeadsAreOne, StartHeadsFit, HeadsFit, RefusalIsOne}
-use Rattle.plan_run.proofs.Common.{StepExcludesRefusal, StepIsOne, first_in, next_in, PlanHeads, PlanPart, Base, Planned, Differences, PlanSolved, PlanTask}
-use Rattle.plan_run.proofs.Common.{PlanEnd, Whole, Unfinished, ArePlanHeads, AreStartsOf, HasNoBoundAt, IsPlanStep, IsPlanTask, PlanStepEncloses}
-use Rattle.plan_run.proofs.Common.{starts_are_heads, step_fits, PlanFlows, ListedPlanStep, IsDefinedEnd, IsListedStep, HasRefusal, ListingEndsAt}
-use Rattle.plan_run.proofs.Common.{PlanListingIsOne, StepsThen, heads_listed, listed_of}
+use Rattle.plan_run.proofs.Common.{List, Ok, Err, Result, [], ap, inl, inr, refl, subst, sym, ◌∙◌, ◌∷◌, ◌≡◌, ◌⊎◌, Contains, false, NoBound, SettledPairIsOne, TimeStep, times, BarrierExcludesRefusal}
+use Rattle.plan_run.proofs.Common.{CutBarrierExcludesRefusal, CutBarrierIsOne, CutRefusalIsOne, CertificateExcludesRefusal, RangeRefusalIsOne, ProblemFits, StartHeadsAreOne, StartHeadsFit, HeadsFit}
+use Rattle.plan_run.proofs.Common.{RefusalIsOne, StepExcludesRefusal, StepIsOne, first_in, next_in, PlanHeads, PlanPart, Base, Planned, Differences, PlanSolved, PlanTask, PlanEnd, Whole, Unfinished}
+use Rattle.plan_run.proofs.Common.{ArePlanHeads, AreStartsOf, HasNoBoundAt, IsPlanStep, IsPlanTask, PlanStepEncloses, starts_are_heads, step_fits, PlanFlows, ListedPlanStep, IsDefinedEnd}
+use Rattle.plan_run.proofs.Common.{IsListedStep, HasRefusal, ListingEndsAt, PlanListingIsOne, StepsThen, heads_listed, listed_of}
 use Rattle.barrier_vector.specs.{RefusalIsOne as BarrierRefusalIsOne}
 use Rattle.plan_chain.specs.declared.walk.PlanEnd.TheVariants.{NoBound as IsNoBound}
 use Rattle.plan_run.specs.{flows_of}
-use Rattle.plan_run.proofs.Decided.{PairLaws}
-use Rattle.plan_run.proofs.OneStep.{StepLaws, refusal_one, step_apart, step_one}
+use Rattle.plan_run.proofs.{Decided.PairLaws, OneStep.StepLaws, OneStep.refusal_one, OneStep.step_apart, OneStep.step_one}
 
 abbrev flows_or : PlanFlows → Result PlanFlows NoBound → PlanFlows
 flows_or d (Ok x) = x

@@ -1,10 +1,9 @@
 -- A step of a plan is decided: its two decks' steps, and then their differences.
-use Rattle.plan_run.proofs.Common.{List, ap, arith, inl, inr, length, refl, subst, suc, sym, zero, ℕ, ◌<◌, ◌∙◌, ◌≡◌, ◌⊎◌, Contains, cases_order, ext_get_or}
-use Rattle.plan_run.proofs.Common.{false, if◌then◌else◌, Bound, NoBound, Entries, IsProblem, PairKind, certified, entries_at, no_entries, settled, Limits}
-use Rattle.plan_run.proofs.Common.{TimeStep, cell_count, times, variable_cells, bound_at, Decks, IsBefore, IsProblemFor, ProblemFits, HasNoHeads, IsStepBy}
-use Rattle.plan_run.proofs.Common.{RefusalIsOne, StepExcludesRefusal, StepIsOne, same_bounds, IsDifferenceProblem, PlanHeads, PlanPart, Base, Planned}
-use Rattle.plan_run.proofs.Common.{Differences, PlanSolved, PlanTask, AreByCell, AreDifferencesBy, ArePlanHeads, HasNoBoundAt, IsBaseStep, IsPlanStep}
-use Rattle.plan_run.proofs.Common.{IsPlanTask, IsPlannedDeckStep, plan_pairs, cells_same, FailBy}
+use Rattle.plan_run.proofs.Common.{List, ap, arith, inl, inr, length, refl, subst, suc, sym, zero, ℕ, ◌<◌, ◌∙◌, ◌≡◌, ◌⊎◌, Contains, cases_order, ext_get_or, false, if◌then◌else◌, Bound, NoBound}
+use Rattle.plan_run.proofs.Common.{Entries, IsProblem, PairKind, certified, entries_at, no_entries, settled, Limits, TimeStep, cell_count, times, variable_cells, bound_at, Decks, IsBefore}
+use Rattle.plan_run.proofs.Common.{IsProblemFor, ProblemFits, HasNoHeads, IsStepBy, RefusalIsOne, StepExcludesRefusal, StepIsOne, same_bounds, IsDifferenceProblem, PlanHeads, PlanPart, Base, Planned}
+use Rattle.plan_run.proofs.Common.{Differences, PlanSolved, PlanTask, AreByCell, AreDifferencesBy, ArePlanHeads, HasNoBoundAt, IsBaseStep, IsPlanStep, IsPlanTask, IsPlannedDeckStep, plan_pairs}
+use Rattle.plan_run.proofs.Common.{cells_same, FailBy}
 use Rattle.deck_problems.proofs.Counted.{problem_count}
 use Rattle.step_chain.specs.declared.solved.Solved.{Solved}
 use Rattle.plan_step.proofs.Fits.{is_problem}

@@ -1,8 +1,7 @@
 -- The pieces of a plan's listing so far, and how it ends.
-use Rattle.plan_run.proofs.Common.{◌≡◌, ◌∙◌, ◌∷◌, ◌++◌, List, [], Some, ap, is_some, map-append, refl, subst, sym, ListingEndsAt, EndsOutOfMemory, IsAt}
-use Rattle.plan_run.proofs.Common.{IsAtFirst, IsCutPlanListing, IsEnd, IsNextText, IsPlanListing, IsPlanWalk, IsPut, IsRun, ListedPlanStep, PlanEnd, PlanTask}
-use Rattle.plan_run.proofs.Common.{PlanWalk, Put, Status, Text, at_more, ends_or_lacks, first_pieces, plan_first_text, lacks_after, last_line, status_of}
-use Rattle.plan_run.proofs.Common.{stops_at, text_of, times_left, whole_put}
+use Rattle.plan_run.proofs.Common.{◌≡◌, ◌∙◌, ◌∷◌, ◌++◌, List, [], Some, ap, is_some, map-append, refl, subst, sym, ListingEndsAt, EndsOutOfMemory, IsAt, IsAtFirst, IsCutPlanListing, IsEnd, IsNextText}
+use Rattle.plan_run.proofs.Common.{IsPlanListing, IsPlanWalk, IsPut, IsRun, ListedPlanStep, PlanEnd, PlanTask, PlanWalk, Put, Status, Text, at_more, ends_or_lacks, first_pieces, plan_first_text}
+use Rattle.plan_run.proofs.Common.{lacks_after, last_line, status_of, stops_at, text_of, times_left, whole_put}
 use Rattle.plan_run.proofs.Walking.{IsSolved, cut_listing, is_listing, none_solved, one_more_solved}
 
 -- the pieces of one step more

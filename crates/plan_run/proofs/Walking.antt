@@ -1,13 +1,8 @@
 -- The steps so far, from one to the next, and the end of a listing after them.
-use Rattle.plan_run.proofs.Common.{◌≡◌, ◌∙◌, ◌+◌, ◌<◌, ◌∷◌, ◌++◌, ℕ, List, [], ap, arith, drop, inl, inr, length, refl, subst, sym, TimeStep, times}
-use Rattle.plan_run.proofs.Common.{AreStartsOf, ListingEndsAt, FirstSteps, HasNoFlowsBy, IsAtFirst, IsCutPlanListing, IsListedStep, IsNext, IsNextText}
-use Rattle.plan_run.proofs.Common.{IsPlanListing, IsPlanStep, IsPlanWalk, IsStepText, ListedPlanStep, PlanEnd, PlanHeads, PlanSolved, PlanTask, PlanWalk}
-use Rattle.plan_run.proofs.Common.{StepsThen, ListingStopsAt, Text, first_pieces, heads_in, heads_listed, last_line, listed_of, plan_listing, status_of}
-use Rattle.plan_run.proofs.Common.{times_left, Whole, Unfinished, StopsAt, Base, Planned, Differences}
+use Rattle.plan_run.proofs.Common.{◌≡◌, ◌∙◌, ◌+◌, ◌<◌, ◌∷◌, ◌++◌, ℕ, List, [], ap, arith, drop, length, refl, subst, sym, TimeStep, times, AreStartsOf, ListingEndsAt, FirstSteps, IsAtFirst}
+use Rattle.plan_run.proofs.Common.{IsCutPlanListing, IsListedStep, IsNext, IsNextText, IsPlanListing, IsPlanStep, IsPlanWalk, ListedPlanStep, PlanEnd, PlanHeads, PlanSolved, PlanTask, PlanWalk}
+use Rattle.plan_run.proofs.Common.{StepsThen, Text, first_pieces, heads_listed, last_line, plan_listing, status_of, times_left}
 use Rattle.listing_run.proofs.UnderWay.{first_same}
-use Rattle.plan_chain.specs.declared.walk.PlanStop.{PlanStop}
-use Rattle.plan_chain.specs.declared.walk.PlanEnd.TheVariants.{NoBound as IsNoBound}
-use Rattle.plan_chain.specs.declared.walk.PlanStop.TheVariants.{End, Memory}
 
 module _ (k : PlanTask) where
   -- these heads and times are left
@@ -75,32 +70,6 @@ module _ (k : PlanTask) where
 pub fewer_left : (k : PlanTask) (s t : PlanWalk) (text : Text) → IsNextText k s t text → length (times_left t) < length (times_left s)
 fewer_left k s t text n = let left = ap (λ (ts : List TimeStep). length ts) n.time in omega (arith, left)
 
--- a walk whose heads stop it stops the listing
-pub chain_stops : (k : PlanTask) (old : PlanHeads) (ats : List TimeStep) (stop : PlanStop) → StopsAt k old ats stop → ListingStopsAt k old ats stop
-chain_stops k old [] (End Whole) h = h
-chain_stops k old (at ∷ ats) (End Whole) h = absurd h
-chain_stops k old [] (End (IsNoBound t part n)) h = absurd h
-chain_stops k old (at ∷ ats) (End (IsNoBound t Base n)) h = h
-chain_stops k old (at ∷ ats) (End (IsNoBound t Planned n)) h = h
-chain_stops k old (at ∷ ats) (End (IsNoBound t Differences n)) h = (h.0, inl h.1)
-chain_stops k old [] (End (Unfinished t part)) h = absurd h
-chain_stops k old (at ∷ ats) (End (Unfinished t part)) h = h
-chain_stops k old ats Memory h = tt
-
--- so does a step whose flows are too large
-pub flows_stop : (k : PlanTask) (old : PlanHeads) (at : TimeStep) (ats : List TimeStep) (v : PlanSolved) (stop : PlanStop) → IsPlanStep k at old v →
-    HasNoFlowsBy k at v stop → ListingStopsAt k old (at ∷ ats) stop
-flows_stop k old at ats v (End Whole) step h = absurd h
-flows_stop k old at ats v (End (IsNoBound t Base n)) step h = absurd h
-flows_stop k old at ats v (End (IsNoBound t Planned n)) step h = absurd h
-flows_stop k old at ats v (End (IsNoBound t Differences n)) step h = (h.0, inr (v, step, h.1))
-flows_stop k old at ats v (End (Unfinished t part)) step h = absurd h
-flows_stop k old at ats v Memory step h = tt
-
--- no time is left
-pub whole_stops : (k : PlanTask) (old : PlanHeads) (ats : List TimeStep) → ats ≡ [] → ListingStopsAt k old ats (End Whole)
-whole_stops k old ats e = let P : List TimeStep → Type 0 = λ ts. ListingStopsAt k old ts (End Whole) in subst P (sym e) tt
-
 -- The step at hand of a walk: of its time.
 module _ (k : PlanTask) (s : PlanWalk) (at : TimeStep) (left : times_left s ≡ at ∷ drop (s.done + 1) s.times) (v : PlanSolved) (n : IsNext k s v) where
   same_time : n.at ≡ at
@@ -108,14 +77,3 @@ module _ (k : PlanTask) (s : PlanWalk) (at : TimeStep) (left : times_left s ≡ 
 
   pub step_at : IsPlanStep k at s.heads v
   step_at = let P : TimeStep → Type 0 = λ t. IsPlanStep k t s.heads v in subst P same_time n.is
-
-  -- and the walk past it
-  pub next_is : (t : PlanWalk) (text : Text) → t.times ≡ s.times → t.done ≡ s.done + 1 → t.heads ≡ heads_in v → IsStepText k at v text → IsNextText k s t text
-  next_is t text same done heads is = record {
-    at = at;
-    time = left ∙ ap (λ (ts : List TimeStep). at ∷ ts) (sym ((λ i. drop (done i) (same i))));
-    value = listed_of at v is.flows;
-    is = record { solved = v; solves = step_at; flows = is.flows; are = is.are; is = refl };
-    heads = heads;
-    written = is.is;
-  }

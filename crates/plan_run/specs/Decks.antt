@@ -2,11 +2,8 @@
 use Rattle.std.specs.Prelude.{◌≡◌, ℕ, List, Option, Some, None, Result, Ok, length}
 use Rattle.outside.specs.declared.inputs.Refusal.{Refusal}
 use Rattle.record_lines.specs.{◌>>=◌}
-use Rattle.model_types.specs.declared.entry.Entry.{Entry}
-use Rattle.model_types.specs.declared.model.FlowModel.{FlowModel}
-use Rattle.deck_problems.specs.declared.decks.Decks.{Decks}
-use Rattle.deck_problems.specs.{AreDecks}
-use Rattle.model_types.specs.declared.limits.Limits.{Limits}
+use Rattle.model_types.specs.{declared.entry.Entry.Entry, declared.model.FlowModel.FlowModel, declared.limits.Limits.Limits}
+use Rattle.deck_problems.specs.{declared.decks.Decks.Decks, AreDecks}
 use Rattle.plan_chain.specs.{decks_with}
 use Rattle.plan_wells.specs.{IsPlan, plan_of, planned}
 use Rattle.plan_run.specs.declared.decks.PlannedDecks.{PlannedDecks}

@@ -1,8 +1,7 @@
 -- What a plan's listing encloses: every two histories of two plans in one weather.
 use Rattle.std.specs.Prelude.{◌≡◌, ℕ, ℤ, All, false, List, [], ◌∷◌, map, Option}
 use Rattle.decimal_input.specs.{Fraction}
-use Rattle.model_types.specs.declared.model.FlowModel.{FlowModel}
-use Rattle.model_types.specs.{start_head}
+use Rattle.model_types.specs.{declared.model.FlowModel.FlowModel, start_head}
 use Rattle.flow_equations.specs.{SolvesAt, exact_step, heads_of}
 use Rattle.deck_problems.specs.{IsMember}
 use Rattle.step_chain.specs.{LiesWithin}
@@ -10,10 +9,8 @@ use Rattle.zone_pairs.specs.{pairs_in, zones_of_flow}
 use Rattle.exact_histories.specs.{HaveOneHistory}
 use Rattle.plan_wells.specs.{with_plan}
 use Rattle.plan_histories.specs.{DifferLess, SolvesPairs}
-use Rattle.plan_chain.specs.{IsPlanTask}
-use Rattle.plan_chain.specs.declared.step.PlanTask.{PlanTask}
-use Rattle.plan_chain.specs.declared.walk.PlanEnd.{PlanEnd}
-use Rattle.plan_chain.specs.declared.walk.PlanEnd.TheVariants.{Unfinished, Whole}
+use Rattle.plan_chain.specs.{IsPlanTask, declared.step.PlanTask.PlanTask, declared.walk.PlanEnd.PlanEnd, declared.walk.PlanEnd.TheVariants.Unfinished}
+use Rattle.plan_chain.specs.{declared.walk.PlanEnd.TheVariants.Whole}
 use Rattle.plan_sources.specs.{EncloseMore}
 use Rattle.plan_listing.specs.declared.listing.ListedPlanStep.{ListedPlanStep}
 use Rattle.plan_run.specs.Steps.{AllListedSteps}

@@ -3,14 +3,11 @@ use Rattle.std.specs.Prelude.{◌≡◌, is_some, List, [], ◌∷◌, ◌++◌,
 use Rattle.model_types.specs.declared.grid.Grid.{Grid}
 unfoldable use Rattle.plan_listing.specs.{plan_first_text, plan_no_bound_line, plan_unfinished_line}
 use Rattle.plan_listing.specs.declared.listing.ListedPlanStep.{ListedPlanStep}
-use Rattle.plan_chain.specs.declared.step.PlanTask.{PlanTask}
-use Rattle.plan_chain.specs.declared.walk.PlanEnd.{PlanEnd}
-use Rattle.plan_chain.specs.declared.walk.PlanEnd.TheVariants.{Whole, NoBound as IsNoBound, Unfinished}
-use Rattle.run_puts.specs.{Text, end_line}
-use Rattle.run_puts.specs.declared.puts.Status.{Status}
+use Rattle.plan_chain.specs.{declared.step.PlanTask.PlanTask, declared.walk.PlanEnd.PlanEnd, declared.walk.PlanEnd.TheVariants.Whole}
+use Rattle.plan_chain.specs.{declared.walk.PlanEnd.TheVariants.NoBound as IsNoBound, declared.walk.PlanEnd.TheVariants.Unfinished}
+use Rattle.run_puts.specs.{Text, end_line, declared.puts.Status.Status}
 use Rattle.run_puts.specs.declared.puts.Status.TheVariants as status
-use Rattle.plan_run.specs.Steps.{AllListedSteps, FirstSteps}
-use Rattle.plan_run.specs.Walks.{text_of}
+use Rattle.plan_run.specs.{Steps.AllListedSteps, Steps.FirstSteps, Walks.text_of}
 
 -- the first line, and a piece for each step
 abbrev pub first_pieces : PlanTask → List ListedPlanStep → List Text

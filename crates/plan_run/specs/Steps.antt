@@ -1,16 +1,11 @@
 -- The steps that a plan's listing has, and how it ends.
 use Rattle.std.specs.Prelude.{◌≡◌, ◌⊎◌, List, [], ◌∷◌, Result, Ok, Err}
 use Rattle.step_problem.specs.declared.place.NoBound.{NoBound}
-use Rattle.model_types.specs.declared.time_steps.TimeStep.{TimeStep}
-use Rattle.model_types.specs.{times}
-use Rattle.plan_chain.specs.{AreStartsOf, IsPlanStep, HasNoBoundAt, IsOpenAt}
-use Rattle.plan_chain.specs.declared.step.PlanHeads.{PlanHeads}
-use Rattle.plan_chain.specs.declared.step.PlanPart.{PlanPart}
-use Rattle.plan_chain.specs.declared.step.PlanPart.TheVariants.{Differences}
-use Rattle.plan_chain.specs.declared.step.PlanSolved.{PlanSolved}
-use Rattle.plan_chain.specs.declared.step.PlanTask.{PlanTask}
-use Rattle.plan_chain.specs.declared.walk.PlanEnd.{PlanEnd}
-use Rattle.plan_chain.specs.declared.walk.PlanEnd.TheVariants.{Whole, NoBound as IsNoBound, Unfinished}
+use Rattle.model_types.specs.{declared.time_steps.TimeStep.TimeStep, times}
+use Rattle.plan_chain.specs.{AreStartsOf, IsPlanStep, HasNoBoundAt, IsOpenAt, declared.step.PlanHeads.PlanHeads, declared.step.PlanPart.PlanPart}
+use Rattle.plan_chain.specs.{declared.step.PlanPart.TheVariants.Differences, declared.step.PlanSolved.PlanSolved, declared.step.PlanTask.PlanTask}
+use Rattle.plan_chain.specs.{declared.walk.PlanEnd.PlanEnd, declared.walk.PlanEnd.TheVariants.Whole, declared.walk.PlanEnd.TheVariants.NoBound as IsNoBound}
+use Rattle.plan_chain.specs.{declared.walk.PlanEnd.TheVariants.Unfinished}
 unfoldable use Rattle.plan_sources.specs.{flows_of as flows_or_large}
 use Rattle.plan_sources.specs.declared.flows.PlanFlows.{PlanFlows}
 use Rattle.plan_listing.specs.declared.listing.ListedPlanStep.{ListedPlanStep}

@@ -1,15 +1,9 @@
 -- Facts that the calls of a walk pass to each other.
-use Rattle.std.specs.Prelude.{◌≡◌, ◌<◌, ℕ, List, [], ◌∷◌, length, Ok, Err}
+use Rattle.std.specs.Prelude.{◌≡◌, List, ◌∷◌, Ok, Err}
 use Rattle.model_types.specs.declared.time_steps.TimeStep.{TimeStep}
-use Rattle.plan_chain.specs.{times_left}
-use Rattle.plan_chain.specs.declared.step.PlanHeads.{PlanHeads}
-use Rattle.plan_chain.specs.declared.step.PlanPart.TheVariants.{Differences}
-use Rattle.plan_chain.specs.declared.step.PlanSolved.{PlanSolved}
-use Rattle.plan_chain.specs.declared.step.PlanTask.{PlanTask}
-use Rattle.plan_chain.specs.declared.walk.PlanEnd.TheVariants.{Whole, NoBound as IsNoBound, Unfinished}
-use Rattle.plan_chain.specs.declared.walk.PlanStop.{PlanStop}
-use Rattle.plan_chain.specs.declared.walk.PlanStop.TheVariants.{End, Memory}
-use Rattle.plan_chain.specs.declared.walk.PlanWalk.{PlanWalk}
+use Rattle.plan_chain.specs.{times_left, declared.step.PlanHeads.PlanHeads, declared.step.PlanPart.TheVariants.Differences, declared.step.PlanSolved.PlanSolved}
+use Rattle.plan_chain.specs.{declared.step.PlanTask.PlanTask, declared.walk.PlanEnd.TheVariants.NoBound as IsNoBound, declared.walk.PlanStop.PlanStop}
+use Rattle.plan_chain.specs.{declared.walk.PlanStop.TheVariants.End, declared.walk.PlanStop.TheVariants.Memory, declared.walk.PlanWalk.PlanWalk}
 use Rattle.plan_sources.specs.declared.flows.PlanFlows.{PlanFlows}
 unfoldable use Rattle.plan_listing.specs.{plan_step_text}
 use Rattle.plan_listing.specs.declared.listing.ListedPlanStep.{ListedPlanStep}

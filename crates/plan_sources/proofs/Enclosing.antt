@@ -1,14 +1,11 @@
 -- The flows of a plan's step enclose what each term, and each flow between zones, has more.
-use Rattle.plan_sources.proofs.Common.{All, ArePlanHeads, Bound, Contains, FlowModel, IsPlanStep, IsPlanTask, List, None, Option, PlanHeads, PlanSolved}
-use Rattle.plan_sources.proofs.Common.{PlanTask, Some, TimeStep, get_or, IsActive, IsCellNamed, IfSome, ap, arith, entries_at, heads_in, ints, length, map}
-use Rattle.plan_sources.proofs.Common.{neg_ℤ, refl, rise, subst, sym, times, ℕ, ℤ, ◌+◌, ◌-ℤ◌, ◌<◌, ◌∙◌, ◌≡◌, [], ◌∷◌, suc, true, zero, All-weaker, Ok, Result}
-use Rattle.plan_sources.proofs.Common.{AreLinked, ExactCell, share, EnclosesSigned, Fraction, cell_of_member, IsMember, ProblemFits, SolvesAt, exact_step}
-use Rattle.plan_sources.proofs.Common.{variable_heads, cell_count, BoundsPair, IsBeforeStep, PlanStepEncloses, AreOneNetwork, AreTwoSolutions, SourcesEnclose}
-use Rattle.plan_sources.proofs.Common.{ZonesEnclose, is_listed, more_flow, more_net, sources_or_large, MembersKeepWellsApart, PlannedSteps, plan_flows}
-use Rattle.plan_sources.proofs.Common.{EncloseMore, PlanFlowsEnclose, sources_of, zones_of, flows_of, SolutionsBoundPlans, IsWell, PlannedLieBetween, with_plan}
-use Rattle.plan_sources.proofs.Common.{HeadsEnclose, StepEncloses, IsProblem, lower_at, no_bound, upper_at}
-use Rattle.budget_bounds.specs.declared.pair.TermPair.{TermPair}
-use Rattle.budget_bounds.specs.{no_pair, place_of}
+use Rattle.plan_sources.proofs.Common.{All, ArePlanHeads, Bound, Contains, FlowModel, IsPlanStep, IsPlanTask, List, None, Option, PlanHeads, PlanSolved, PlanTask, Some, TimeStep, get_or, IsActive}
+use Rattle.plan_sources.proofs.Common.{IsCellNamed, IfSome, ap, arith, heads_in, ints, length, map, neg_ℤ, refl, rise, subst, sym, times, ℕ, ℤ, ◌+◌, ◌-ℤ◌, ◌<◌, ◌≡◌, [], ◌∷◌, suc, true, zero}
+use Rattle.plan_sources.proofs.Common.{All-weaker, Ok, AreLinked, ExactCell, share, EnclosesSigned, Fraction, cell_of_member, IsMember, ProblemFits, SolvesAt, exact_step, variable_heads, BoundsPair}
+use Rattle.plan_sources.proofs.Common.{IsBeforeStep, PlanStepEncloses, AreOneNetwork, AreTwoSolutions, SourcesEnclose, ZonesEnclose, is_listed, more_flow, more_net, MembersKeepWellsApart}
+use Rattle.plan_sources.proofs.Common.{PlannedSteps, plan_flows, EncloseMore, PlanFlowsEnclose, sources_of, zones_of, flows_of, SolutionsBoundPlans, IsWell, PlannedLieBetween, with_plan, HeadsEnclose}
+use Rattle.plan_sources.proofs.Common.{StepEncloses, IsProblem, lower_at, no_bound, upper_at}
+use Rattle.budget_bounds.specs.{declared.pair.TermPair.TermPair, no_pair, place_of}
 use Rattle.cell_balance.proofs.Enclosed.{entries_are_linked}
 use Rattle.certificate_check.specs.{CertificateEncloses}
 use Rattle.decimal_input.proofs.FloorLaws.{negated_enclosed}
@@ -18,14 +15,10 @@ use Rattle.plan_chain.proofs.Enclosing.{base_before, base_move, differences_betw
 use Rattle.plan_gains.proofs.Values.{ok_or, sources_are, then_is}
 use Rattle.plan_sources.specs.declared.flows.PlanFlows.{PlanFlows}
 use Rattle.step_chain.proofs.Histories.{lies_encloses}
-use Rattle.step_problem.specs.declared.place.NoBound.{NoBound}
-use Rattle.step_problem.specs.declared.place.Term.{Term}
-use Rattle.step_problem.specs.declared.place.ZoneFlow.{ZoneFlow}
-use Rattle.zone_flows.proofs.Enclosed.{sums_enclose}
-use Rattle.zone_flows.proofs.ListedFlows.{IsZoneFlow, flows_of_pairs}
+use Rattle.step_problem.specs.{declared.place.Term.Term, declared.place.ZoneFlow.ZoneFlow}
+use Rattle.zone_flows.proofs.{Enclosed.sums_enclose, ListedFlows.IsZoneFlow, ListedFlows.flows_of_pairs}
 use Rattle.zone_flows.specs.{EncloseEveryStep, exact_flow, exact_faces, faces, zone_flows}
-use Rattle.plan_sources.proofs.Networks.{one_network}
-use Rattle.plan_sources.proofs.Steps.{named_cells}
+use Rattle.plan_sources.proofs.{Networks.one_network, Steps.named_cells}
 
 -- the heads' rises, by cell number
 rise_at : (xs : List Bound) (c : ℕ) → get_or (map rise xs) c no_bound ≡ rise (get_or xs c no_bound)

@@ -1,8 +1,7 @@
 -- A model's step and the same step with a plan's wells have the same cells, and branches to the same known heads.
-use Rattle.plan_sources.proofs.Common.{All, FlowModel, List, ap, get_or, length, length-map, map, refl, subst, sym, ℕ, ◌-◌, ◌<◌, ◌∙◌, ◌≡◌, get_or-map}
-use Rattle.plan_sources.proofs.Common.{ExactCell, cell_at, no_cell, Fraction, exact_cell, exact_fixed, exact_step, FixedSource, cell_count, fixed_sources}
-use Rattle.plan_sources.proofs.Common.{period_at, variable_cells, FromStorage, ToConstant, ToGeneral, AreOneNetwork, IsSameBranch, KeepsWellsApart, IsWell}
-use Rattle.plan_sources.proofs.Common.{with_plan}
+use Rattle.plan_sources.proofs.Common.{All, FlowModel, List, ap, get_or, length, length-map, map, refl, subst, sym, ℕ, ◌-◌, ◌<◌, ◌∙◌, ◌≡◌, get_or-map, ExactCell, cell_at, no_cell, Fraction}
+use Rattle.plan_sources.proofs.Common.{exact_cell, exact_fixed, exact_step, FixedSource, cell_count, fixed_sources, period_at, variable_cells, FromStorage, ToConstant, ToGeneral, AreOneNetwork}
+use Rattle.plan_sources.proofs.Common.{IsSameBranch, KeepsWellsApart, IsWell, with_plan}
 use Rattle.std.specs.List.{AllZip}
 use Rattle.model_types.specs.declared.entry.Entry.{Entry}
 use Rattle.plan_histories.proofs.PlannedSteps.{cells_same, fixed_same, well_list, zip_images}

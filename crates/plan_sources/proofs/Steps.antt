@@ -1,18 +1,14 @@
 -- A step of a plan meets the conditions of its flows.
-use Rattle.plan_sources.proofs.Common.{AreGridHeads, Bound, Contains, FlowModel, HasBranchesOf, HasCellsOf, IfSome, IsActive, IsCellNamed, IsDifferenceProblem}
-use Rattle.plan_sources.proofs.Common.{IsHead, IsModel, IsPlanStep, IsPlanTask, IsProblemBy, IsProblemOf, IsSecond, List, None, Option, PlanHeads, PlanSolved}
-use Rattle.plan_sources.proofs.Common.{PlanStepsHaveFlows, PlanTask, Some, TimeStep, All-map, ap, arith, bound_at, difference_cell, drain_branch, edges_by}
-use Rattle.plan_sources.proofs.Common.{entries_at, evap_branch, hull_parts, inl, inr, ints, known_branch, length, length-append, length-map, map, plan_pairs}
-use Rattle.plan_sources.proofs.Common.{refl, rise, river_branch, subst, sym, ℕ, ◌++◌, ◌+◌, ◌<◌, ◌∙◌, ◌≡◌, ◌⊎◌, neg_ℤ, model_branches}
+use Rattle.plan_sources.proofs.Common.{AreGridHeads, Bound, Contains, FlowModel, HasCellsOf, IfSome, IsActive, IsCellNamed, IsDifferenceProblem, IsHead, IsModel, IsPlanStep, IsPlanTask, IsProblemBy}
+use Rattle.plan_sources.proofs.Common.{IsProblemOf, IsSecond, List, None, Option, PlanHeads, PlanSolved, PlanStepsHaveFlows, PlanTask, Some, TimeStep, All-map, ap, arith, bound_at, difference_cell}
+use Rattle.plan_sources.proofs.Common.{drain_branch, edges_by, entries_at, evap_branch, hull_parts, inl, inr, ints, known_branch, length, length-append, length-map, map, plan_pairs, refl, rise}
+use Rattle.plan_sources.proofs.Common.{river_branch, subst, sym, ℕ, ◌++◌, ◌+◌, ◌<◌, ◌∙◌, ◌≡◌, ◌⊎◌, neg_ℤ, model_branches}
+use Rattle.plan_gains.specs.{HasBranchesOf}
 use Rattle.model_types.proofs.Members.{Contains-In, In, map-In}
-use Rattle.step_problem.specs.Entries.{Entries}
-use Rattle.step_problem.specs.declared.entry.Fixed.{Fixed}
-use Rattle.problem_builder.proofs.Members.{In-Contains, In-append, named_active}
-use Rattle.problem_builder.proofs.Steps.{cells_of}
+use Rattle.step_problem.specs.{Entries.Entries, declared.entry.Fixed.Fixed}
+use Rattle.problem_builder.proofs.{Members.In-Contains, Members.In-append, Members.named_active, Steps.cells_of, CellEnclosed.ids_are, CellFits.model_has_branches}
 use Rattle.deck_problems.proofs.HullFor.{hull_cells}
-use Rattle.problem_builder.proofs.CellEnclosed.{ids_are}
 use Rattle.step_chain.proofs.OneStep.{pair_words}
-use Rattle.problem_builder.proofs.CellFits.{model_has_branches}
 
 -- heads that are turned round are heads
 turned_head : (b : Bound) → (IsHead b.low × IsHead b.high) → IsHead (neg_ℤ b.high) × IsHead (neg_ℤ b.low)

@@ -1,12 +1,9 @@
 -- What flows more under a plan in a solved step: from each term, and between zones.
 use Rattle.std.specs.Prelude.{◌≡◌, ℕ, neg_ℤ, List, map, Option, Result, Ok, Err}
 use Rattle.cell_relax.specs.{AreWords}
-use Rattle.step_problem.specs.declared.heads.Bound.{Bound}
-use Rattle.step_problem.specs.declared.place.NoBound.{NoBound}
-use Rattle.step_problem.specs.declared.place.ZoneFlow.{ZoneFlow}
-use Rattle.step_problem.specs.declared.refusal.BoundFault.{BoundFault}
+use Rattle.step_problem.specs.{declared.heads.Bound.Bound, declared.place.NoBound.NoBound, declared.place.ZoneFlow.ZoneFlow}
+use Rattle.step_problem.specs.{declared.refusal.BoundFault.BoundFault, lower_at, upper_at}
 use Rattle.step_problem.specs.declared.refusal.BoundFault.TheVariants as fault
-use Rattle.step_problem.specs.{lower_at, upper_at}
 use Rattle.budget_bounds.specs.declared.pair.TermPair.{TermPair}
 use Rattle.budget_bounds.specs.{◌>>=◌}
 use Rattle.model_types.specs.declared.model.FlowModel.{FlowModel}
@@ -14,7 +11,6 @@ use Rattle.problem_builder.specs.{AreGridHeads, IsActive, IsCellNamed}
 use Rattle.listing_run.specs.{flows_or_large}
 use Rattle.plan_chain.specs.declared.step.PlanSolved.{PlanSolved}
 use Rattle.plan_sources.specs.declared.flows.PlanFlows.{PlanFlows}
-use Rattle.plan_sources.specs.declared.flows.Sources.{Sources}
 use Rattle.plan_gains.specs.{HasBranchesOf, sources_or_large}
 
 -- how much higher a head is under the plan: its difference turned round

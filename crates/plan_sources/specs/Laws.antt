@@ -3,21 +3,15 @@ use Rattle.std.specs.Prelude.{◌≡◌, ℕ, ◌+◌, ◌<◌, ℤ, All, List, 
 use Rattle.decimal_input.specs.{EnclosesSigned, Fraction}
 use Rattle.step_problem.specs.declared.place.Term.{Term}
 use Rattle.cell_balance.specs.{ExactCell}
-use Rattle.budget_bounds.specs.declared.pair.TermPair.{TermPair}
-use Rattle.budget_bounds.specs.{no_pair, place_of}
-use Rattle.model_types.specs.declared.model.FlowModel.{FlowModel}
-use Rattle.model_types.specs.declared.time_steps.TimeStep.{TimeStep}
-use Rattle.model_types.specs.{times}
+use Rattle.budget_bounds.specs.{declared.pair.TermPair.TermPair, no_pair, place_of}
+use Rattle.model_types.specs.{declared.model.FlowModel.FlowModel, declared.time_steps.TimeStep.TimeStep, times}
 use Rattle.flow_equations.specs.{SolvesAt, exact_step, variable_heads}
 use Rattle.deck_problems.specs.{IsMember}
 use Rattle.plan_wells.specs.{with_plan}
-use Rattle.plan_chain.specs.declared.step.PlanHeads.{PlanHeads}
-use Rattle.plan_chain.specs.declared.step.PlanSolved.{PlanSolved}
-use Rattle.plan_chain.specs.declared.step.PlanTask.{PlanTask}
-use Rattle.plan_chain.specs.{ArePlanHeads, IsBeforeStep, IsPlanStep, IsPlanTask, heads_in}
+use Rattle.plan_chain.specs.{declared.step.PlanHeads.PlanHeads, declared.step.PlanSolved.PlanSolved, declared.step.PlanTask.PlanTask, ArePlanHeads}
+use Rattle.plan_chain.specs.{IsBeforeStep, IsPlanStep, IsPlanTask, heads_in}
 use Rattle.plan_enclosed.specs.{is_listed, more_flow, more_net}
-use Rattle.plan_sources.specs.declared.flows.PlanFlows.{PlanFlows}
-use Rattle.plan_sources.specs.Flows.{HasFlows, flows_of}
+use Rattle.plan_sources.specs.{declared.flows.PlanFlows.PlanFlows, Flows.HasFlows, Flows.flows_of}
 
 -- the bounds of a term
 abbrev pub source_in : PlanFlows → Term → TermPair

@@ -1,16 +1,13 @@
 -- The branch of a river, a drain or an evapotranspiration lies within the bounds that both plans' heads give it.
-use Rattle.plan_step.proofs.Common.{◌≡◌, ◌≤◌, ◌<◌, ◌*◌, ◌+◌, ◌-◌, ◌^◌, ◌∙◌, inl, inr, min, ℕ, ap, arith, mul-pos, refl, subst, sym, ℤ, pos, ◌+ℤ◌, ◌-ℤ◌, ◌*ℤ◌}
-use Rattle.plan_step.proofs.Common.{◌≤ℤ◌, ◌<ℤ◌, int_max, int_min, mul-le-mul_left, mul-le-mul_right, cases_lt, by_lt_z, clamps, ints, mul_mono_right, Encloses}
-use Rattle.plan_step.proofs.Common.{Fraction, IsOver, Ratio, den, sub_mul, Goes-first, Goes-second, fraction_over, whole_drain, whole_evap, whole_river}
-use Rattle.plan_step.proofs.Common.{ExactFixed, FixedEncloses, drain_flow, evap_flow, river_flow, share, IsRampBranch, IsPart, mul_sub, High, Low}
+use Rattle.plan_step.proofs.Common.{◌≡◌, ◌≤◌, ◌<◌, ◌*◌, ◌+◌, ◌-◌, ◌^◌, ◌∙◌, inl, inr, min, ℕ, ap, arith, mul-pos, refl, subst, sym, ℤ, pos, ◌+ℤ◌, ◌-ℤ◌, ◌*ℤ◌, ◌≤ℤ◌, ◌<ℤ◌, int_max, int_min}
+use Rattle.plan_step.proofs.Common.{mul-le-mul_left, mul-le-mul_right, cases_lt, by_lt_z, clamps, ints, mul_mono_right, Encloses, Fraction, IsOver, Ratio, den, sub_mul, Goes-first, Goes-second}
+use Rattle.plan_step.proofs.Common.{fraction_over, whole_drain, whole_evap, whole_river, ExactFixed, FixedEncloses, drain_flow, evap_flow, river_flow, share, IsRampBranch, IsPart, mul_sub, High, Low}
 use Rattle.plan_step.proofs.Common.{DrainsAreEnclosed, EvapsAreEnclosed, RiversAreEnclosed, acting, branch}
 use Rattle.std.proofs.Math.IntN.{zero-*ℤ}
 use Rattle.decimal_input.specs.Ratios.{den as ratio_den}
-use Rattle.cell_balance.proofs.Enclosed.{between_over}
-use Rattle.cell_balance.proofs.ExactLaws.{heads_over}
+use Rattle.cell_balance.proofs.{Enclosed.between_over, ExactLaws.heads_over}
 use Rattle.plan_difference.proofs.RampBranches.{branch_over, drain_kind, evap_kind, part_den, part_of, river_kind}
-use Rattle.plan_step.proofs.Corners.{high_corner, low_corner}
-use Rattle.plan_step.proofs.Stretches.{IsStretch, stretch}
+use Rattle.plan_step.proofs.{Corners.high_corner, Corners.low_corner, Stretches.IsStretch, Stretches.stretch}
 
 -- both plans' heads at a cell, a top and a foot, as whole numbers over n * 10^9
 record Placed (d : ℕ) (X Y : ℤ) (top foot : Fraction) : Type 0 where

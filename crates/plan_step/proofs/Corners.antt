@@ -1,11 +1,10 @@
 -- What acts of a conductance between two heads within bounds lies between what acts at their lower ends with the highest foot and
 -- at their upper ends with the lowest foot.
-use Rattle.plan_step.proofs.Common.{◌≡◌, ◌≤◌, ◌<◌, ◌+◌, ◌*◌, ◌∙◌, ℕ, Bool, true, false, ap, arith, refl, subst, sym, ℤ, pos, ◌+ℤ◌, ◌-ℤ◌, ◌*ℤ◌, ◌≤ℤ◌, ◌<ℤ◌, cond}
-use Rattle.plan_step.proofs.Common.{not, int_max, int_min, le_of_mul-le-mul_right, mul-le-mul_left, mul-le-mul_right, by_lt_z, clamps, ints, mul_mono_right}
-use Rattle.plan_step.proofs.Common.{add_mul, sub_mul, Side, High, Low, acting, divided, acting_between, not_negative}
+use Rattle.plan_step.proofs.Common.{◌≡◌, ◌≤◌, ◌<◌, ◌+◌, ◌*◌, ◌∙◌, ℕ, Bool, true, false, ap, arith, refl, subst, sym, ℤ, pos, ◌+ℤ◌, ◌-ℤ◌, ◌*ℤ◌, ◌≤ℤ◌, ◌<ℤ◌, cond, not, int_max, int_min}
+use Rattle.plan_step.proofs.Common.{le_of_mul-le-mul_right, mul-le-mul_left, mul-le-mul_right, by_lt_z, clamps, ints, mul_mono_right, add_mul, sub_mul, Side, High, Low, acting, divided}
+use Rattle.plan_step.proofs.Common.{acting_between, not_negative}
 use Rattle.std.specs.Prelude.{int_lt, unsigned_abs}
-use Rattle.plan_step.proofs.Rounding.{divided_within, down_times, high_share, low_share, up_times}
-use Rattle.plan_step.proofs.Stretches.{IsStretch}
+use Rattle.plan_step.proofs.{Rounding.divided_within, Rounding.down_times, Rounding.high_share, Rounding.low_share, Rounding.up_times, Stretches.IsStretch}
 
 -- the three cases of what acts
 pub data IsActing (side : Side) (c : ℕ) (foot low high : ℤ) (v : ℕ) : Type 0 where

@@ -1,16 +1,12 @@
 -- The problem of the differences encloses a step of the differences at any heads of both plans within their bounds.
-use Rattle.plan_step.proofs.Common.{◌≡◌, ◌≤◌, ◌<◌, ◌+◌, ◌*◌, ◌-◌, ◌^◌, ◌∙◌, mul-pos, ℕ, zero, suc, ap, arith, refl, subst, sym, ℤ, pos, ◌-ℤ◌, ◌*ℤ◌, ◌≤ℤ◌, List}
-use Rattle.plan_step.proofs.Common.{[], ◌∷◌, ◌++◌, length, map, drop, AllZip, ints, EnclosesSigned, Fraction, fraction_total, opposite, whole, Same, den}
-use Rattle.plan_step.proofs.Common.{Same-sym, Same-trans, negated_enclosed, Fixed, FixedKind, Flow, Bound, Entries, entries_at, no_entries, fraction_over}
-use Rattle.plan_step.proofs.Common.{IsOver-minus, IsOver-none, AllZip-at, AllZip-length, CellEncloses, DrainEncloses, EvapEncloses, ExactCell, ExactFixed}
-use Rattle.plan_step.proofs.Common.{ExactFlow, FixedEncloses, FlowEncloses, RiverEncloses, cell_at, drain_flow, evap_flow, minus, no_cell, river_flow, share}
-use Rattle.plan_step.proofs.Common.{AreFlowsApart, IsDifferenceCell, IsDifferenceStep, IsRampBranch, known_difference, known_differences, DifferencesHaveAStep}
-use Rattle.plan_step.proofs.Common.{IsApartBy, IsPlannedCell, SolutionsBoundPlans, are_turned, bound_at, difference_cell, drain_branch, evap_branch}
-use Rattle.plan_step.proofs.Common.{known_branch, known_high, known_low, river_branch, turned, turned_flow}
+use Rattle.plan_step.proofs.Common.{◌≡◌, ◌≤◌, ◌<◌, ◌+◌, ◌*◌, ◌-◌, ◌^◌, ◌∙◌, mul-pos, ℕ, zero, suc, ap, arith, refl, subst, sym, ℤ, pos, ◌-ℤ◌, ◌*ℤ◌, ◌≤ℤ◌, List, [], ◌∷◌, ◌++◌, length, map, drop}
+use Rattle.plan_step.proofs.Common.{AllZip, ints, EnclosesSigned, Fraction, fraction_total, opposite, whole, Same, den, Same-sym, Same-trans, negated_enclosed, Fixed, FixedKind, Flow, Bound, Entries}
+use Rattle.plan_step.proofs.Common.{entries_at, no_entries, fraction_over, IsOver-minus, IsOver-none, AllZip-at, AllZip-length, CellEncloses, DrainEncloses, EvapEncloses, ExactCell, ExactFixed}
+use Rattle.plan_step.proofs.Common.{ExactFlow, FixedEncloses, FlowEncloses, RiverEncloses, cell_at, drain_flow, evap_flow, minus, no_cell, river_flow, share, AreFlowsApart, IsDifferenceCell}
+use Rattle.plan_step.proofs.Common.{IsDifferenceStep, IsRampBranch, known_difference, known_differences, DifferencesHaveAStep, IsApartBy, IsPlannedCell, SolutionsBoundPlans, are_turned, bound_at}
+use Rattle.plan_step.proofs.Common.{difference_cell, drain_branch, evap_branch, known_branch, known_high, known_low, river_branch, turned, turned_flow}
 use Rattle.cell_balance.proofs.Enclosing.{AllZip-map, same_over}
-use Rattle.plan_difference.proofs.AnyWeather.{equal_ends, related_after, related_at}
-use Rattle.plan_difference.proofs.DifferenceBalance.{difference_solves_it}
-use Rattle.plan_difference.proofs.Sames.{difference_of_sums, nothing_before}
+use Rattle.plan_difference.proofs.{AnyWeather.equal_ends, AnyWeather.related_after, AnyWeather.related_at, DifferenceBalance.difference_solves_it, Sames.difference_of_sums, Sames.nothing_before}
 use Rattle.plan_step.proofs.BranchBounds.{drains_are_enclosed, evaps_are_enclosed, rivers_are_enclosed}
 
 -- what each pair of elements has, two lists have

@@ -1,14 +1,12 @@
 -- The problem of the differences meets the conditions on problems.
-use Rattle.plan_step.proofs.Common.{◌≡◌, ◌≤◌, ◌<◌, ◌+◌, ◌-◌, ◌^◌, ◌∙◌, ℕ, ap, arith, refl, subst, sym, ℤ, pos, neg_ℤ, All, Contains, List, [], ◌∷◌, ◌++◌, drop}
-use Rattle.plan_step.proofs.Common.{get_or, length, map, int_max, int_min, sum_by, inl, inr, cases_lt, ints, Fixed, FixedKind, Flow, Bound, High, Entries}
-use Rattle.plan_step.proofs.Common.{CellFits, DrainFits, EvapFits, FixedFits, IsHead, IsProblem, LinksFit, RiverFits, conductance_of, entries_at}
-use Rattle.plan_step.proofs.Common.{flow_magnitude, link_at, magnitude, no_bound, no_entries, IsDifferenceProblem, bound_at, branch, difference_cell}
-use Rattle.plan_step.proofs.Common.{drain_branch, evap_branch, known_branch, known_high, known_low, river_branch, turned, cell_limit}
+use Rattle.plan_step.proofs.Common.{◌≡◌, ◌≤◌, ◌<◌, ◌+◌, ◌-◌, ◌^◌, ◌∙◌, ℕ, ap, arith, refl, subst, sym, ℤ, pos, neg_ℤ, All, Contains, List, [], ◌∷◌, ◌++◌, drop, get_or, length, map, int_max, int_min}
+use Rattle.plan_step.proofs.Common.{sum_by, inl, inr, cases_lt, ints, Fixed, FixedKind, Flow, Bound, High, Entries, CellFits, DrainFits, EvapFits, FixedFits, IsHead, IsProblem, LinksFit, RiverFits}
+use Rattle.plan_step.proofs.Common.{conductance_of, entries_at, flow_magnitude, link_at, magnitude, no_bound, no_entries, IsDifferenceProblem, bound_at, branch, difference_cell, drain_branch}
+use Rattle.plan_step.proofs.Common.{evap_branch, known_branch, known_high, known_low, river_branch, turned, cell_limit}
 use Rattle.std.proofs.lemmas.List.{get_or-append_right, get_or_append_left, get_or_past, length-append}
 use Rattle.std.proofs.lemmas.List.Elements.{All-append, All-map, All-nil}
 use Rattle.std.proofs.lemmas.List.Sums.{get_or-le-sum_by, sum_by-append, sum_by-cons, sum_by-take-drop}
-use Rattle.step_problem.specs.declared.entry.FixedKind.TheVariants.{Constant, General, Storage}
-use Rattle.step_problem.specs.declared.entry.Link.{Link}
+use Rattle.step_problem.specs.{declared.entry.FixedKind.TheVariants.Constant, declared.entry.FixedKind.TheVariants.General, declared.entry.FixedKind.TheVariants.Storage, declared.entry.Link.Link}
 use Rattle.plan_step.proofs.Corners.{at_most_whole}
 
 abbrev AreHeads : List Bound → Type 0

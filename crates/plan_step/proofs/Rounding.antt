@@ -1,6 +1,5 @@
 -- Parts of a conductance, rounded.
-use Rattle.plan_step.proofs.Common.{◌≤◌, ◌<◌, ◌+◌, ◌*◌, ◌/◌, ◌-◌, ℕ, arith, inl, inr, le_of_mul-le-mul_right, mul-le-mul_left, mul-le-mul_right, cases_lt}
-use Rattle.plan_step.proofs.Common.{div_ceil, Side, High, Low, divided}
+use Rattle.plan_step.proofs.Common.{◌≤◌, ◌<◌, ◌+◌, ◌*◌, ◌/◌, ◌-◌, ℕ, arith, inl, inr, le_of_mul-le-mul_right, mul-le-mul_left, mul-le-mul_right, cases_lt, div_ceil, Side, High, Low, divided}
 use Rattle.std.proofs.lemmas.Grind.{div_ceil_times}
 
 -- rounded down, a / b times b is at most a; rounded up, at least a

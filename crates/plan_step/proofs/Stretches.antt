@@ -1,6 +1,6 @@
 -- Of the way between two heads, how much lies above a foot.
-use Rattle.plan_step.proofs.Common.{◌≡◌, ◌≤◌, ◌<◌, ◌*◌, ◌∙◌, ℕ, ap, arith, refl, sym, ℤ, pos, neg_ℤ, ◌+ℤ◌, ◌-ℤ◌, ◌*ℤ◌, ◌≤ℤ◌, ◌<ℤ◌, int_max, int_min, by_lt_z}
-use Rattle.plan_step.proofs.Common.{clamps, ints, positive_natural, mul_neg, not_negative}
+use Rattle.plan_step.proofs.Common.{◌≡◌, ◌≤◌, ◌<◌, ◌*◌, ◌∙◌, ℕ, ap, arith, refl, sym, ℤ, pos, neg_ℤ, ◌+ℤ◌, ◌-ℤ◌, ◌*ℤ◌, ◌≤ℤ◌, ◌<ℤ◌, int_max, int_min, by_lt_z, clamps, ints, positive_natural, mul_neg}
+use Rattle.plan_step.proofs.Common.{not_negative}
 
 -- Of k parts of the way between x and y, r lie above the foot f. Where the two heads are the same, one of one part, or none.
 pub record IsStretch (x y : ℤ) (k : ℕ) (f : ℤ) (r : ℕ) : Type 0 where

@@ -1,18 +1,12 @@
 -- The branches of a step of the differences of two plans' heads (TM 6-A16, chapter 6: RIV, DRN and EVT, whose flows are linear in
 -- the head between two heads). Between a head in the base plan and one in the other plan such a flow changes as over the part of
 -- its conductance that acts: the share of the way between the two heads on which it changes.
-use Rattle.std.specs.Prelude.{◌≡◌, ℕ, ◌*◌, ◌-◌, min, ℤ, pos, neg_ℤ, ◌-ℤ◌, cond, int_lt, not, unsigned_abs, ◌/◌}
+use Rattle.std.specs.Prelude.{ℕ, ◌*◌, ◌-◌, min, ℤ, pos, neg_ℤ, ◌-ℤ◌, cond, int_lt, not, unsigned_abs, ◌/◌}
 use Rattle.std.specs.Int.{div_ceil, int_max, int_min}
-use Rattle.step_problem.specs.declared.entry.Drain.{Drain}
-use Rattle.step_problem.specs.declared.entry.Evap.{Evap}
-use Rattle.step_problem.specs.declared.entry.Fixed.{Fixed}
-use Rattle.step_problem.specs.declared.entry.FixedKind.{FixedKind}
-use Rattle.step_problem.specs.declared.entry.FixedKind.TheVariants.{Constant, General, Storage}
-use Rattle.step_problem.specs.declared.entry.Flow.{Flow}
-use Rattle.step_problem.specs.declared.entry.River.{River}
-use Rattle.step_problem.specs.declared.heads.Bound.{Bound}
-use Rattle.step_problem.specs.declared.heads.Side.{Side}
-use Rattle.step_problem.specs.declared.heads.Side.TheVariants.{High, Low}
+use Rattle.step_problem.specs.{declared.entry.Drain.Drain, declared.entry.Evap.Evap, declared.entry.Fixed.Fixed, declared.entry.FixedKind.FixedKind}
+use Rattle.step_problem.specs.{declared.entry.FixedKind.TheVariants.Constant, declared.entry.FixedKind.TheVariants.General}
+use Rattle.step_problem.specs.{declared.entry.FixedKind.TheVariants.Storage, declared.entry.Flow.Flow, declared.entry.River.River, declared.heads.Bound.Bound}
+use Rattle.step_problem.specs.{declared.heads.Side.Side, declared.heads.Side.TheVariants.High, declared.heads.Side.TheVariants.Low}
 
 -- a / b, rounded down on the low side, up on the high side
 abbrev pub divided : Side → ℕ → ℕ → ℕ

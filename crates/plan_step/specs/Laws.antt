@@ -2,11 +2,7 @@
 use Rattle.std.specs.Prelude.{◌≡◌, ℕ, ℤ, ◌-ℤ◌, ◌<◌, ◌++◌, List, length, map}
 use Rattle.std.specs.List.{AllZip}
 use Rattle.decimal_input.specs.{EnclosesSigned, opposite}
-use Rattle.step_problem.specs.declared.entry.Drain.{Drain}
-use Rattle.step_problem.specs.declared.entry.Evap.{Evap}
-use Rattle.step_problem.specs.declared.entry.River.{River}
-use Rattle.step_problem.specs.declared.heads.Bound.{Bound}
-use Rattle.step_problem.specs.Entries.{Entries}
+use Rattle.step_problem.specs.{declared.entry.Drain.Drain, declared.entry.Evap.Evap, declared.entry.River.River, declared.heads.Bound.Bound, Entries.Entries}
 use Rattle.step_problem.specs.{lower_at, upper_at}
 use Rattle.cell_balance.specs.{DrainEncloses, EnclosesSolutions, EnclosesStep, EvapEncloses, ExactCell, ExactDrain, ExactEvap, ExactFixed, ExactFlow}
 use Rattle.cell_balance.specs.{ExactRiver, FixedEncloses, LiesBetween, RiverEncloses, SolvesStep, cell_at, drain_flow, evap_flow, minus, river_flow, share}

@@ -1,8 +1,6 @@
 -- The problem of a step of the differences, from the base plan's problem and the other plan's.
 use Rattle.std.specs.Prelude.{◌≡◌, ℕ, ◌<◌, List, [], ◌++◌, drop, length, map}
-use Rattle.step_problem.specs.declared.heads.Bound.{Bound}
-use Rattle.step_problem.specs.Entries.{Entries}
-use Rattle.step_problem.specs.{entries_at, lower_at, upper_at}
+use Rattle.step_problem.specs.{declared.heads.Bound.Bound, Entries.Entries, entries_at, lower_at, upper_at}
 use Rattle.plan_step.specs.Branches.{drain_branch, evap_branch, known_branch, river_branch, turned}
 
 -- the bound at a place of a list

@@ -1,6 +1,6 @@
 -- What stays of the periods of a model to which wells are added.
-use Rattle.plan_wells.proofs.Common.{◌≡◌, ℕ, zero, suc, ◌-◌, ap, refl, arith, List, [], ◌∷◌, length, take, get_or, All, flat_map, sum_by, All-cons, All-head}
-use Rattle.plan_wells.proofs.Common.{All-nil, All-tail, sum_by-cons, no_period, period_at, Entry, FlowModel, Period, zip_with, with_plan, with_wells}
+use Rattle.plan_wells.proofs.Common.{◌≡◌, ℕ, zero, suc, ◌-◌, ap, refl, arith, List, [], ◌∷◌, length, take, get_or, All, flat_map, sum_by, All-cons, All-head, All-nil, All-tail, sum_by-cons, no_period}
+use Rattle.plan_wells.proofs.Common.{period_at, Entry, FlowModel, Period, zip_with, with_plan, with_wells}
 
 abbrev pub planned_periods : List Period → List (List Entry) → List Period
 planned_periods ps plan = zip_with with_wells ps plan

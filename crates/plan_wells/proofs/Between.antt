@@ -1,9 +1,8 @@
 -- Models that are alike, or between two, stay so with the same plan's wells.
-use Rattle.plan_wells.proofs.Common.{◌≡◌, refl, List, [], ◌∷◌, ◌++◌, length, sym, ap, AllZip, length_all_zip, Entry, Period, AlikeHaveOnePlan, PlannedAreAlike}
-use Rattle.plan_wells.proofs.Common.{PlannedLieBetween, with_wells, Well, River, Drain, General, FlowModel}
+use Rattle.plan_wells.proofs.Common.{◌≡◌, refl, List, [], ◌∷◌, ◌++◌, length, sym, ap, AllZip, length_all_zip, Entry, Period, AlikeHaveOnePlan, PlannedAreAlike, PlannedLieBetween, with_wells, Well}
+use Rattle.plan_wells.proofs.Common.{River, Drain, General, FlowModel}
 use Rattle.deck_span.specs.{AllThree, AreEntriesAlike, ArePeriodsAlike, IsEntryBetween, IsPeriodBetween, none, next, drains, generals, rivers, wells}
-use Rattle.deck_span.proofs.HullBounds.{number_itself, size_itself}
-use Rattle.deck_span.proofs.ThreeLists.{three_append}
+use Rattle.deck_span.proofs.{HullBounds.number_itself, HullBounds.size_itself, ThreeLists.three_append}
 use Rattle.decimal_input.specs.{number, size}
 use Rattle.plan_wells.proofs.Added.{planned_periods}
 

@@ -1,13 +1,9 @@
 -- What a file of WEL gives is a plan.
-use Rattle.plan_wells.proofs.Common.{◌≡◌, ◌≤◌, ◌∙◌, arith, ℕ, Bool, ap, refl, subst, sym, All, List, length, map, replicate, Result, Ok, Err, length-map}
-use Rattle.plan_wells.proofs.Common.{length-replicate, All-map, All-replicate, All-weaker, HasSize, cell_count, most_entries, no_number, no_period, Entry}
-use Rattle.plan_wells.proofs.Common.{FlowModel, Period, IsPlan, IsWell, plan_of}
-use Rattle.outside.specs.declared.inputs.Refusal.{Refusal}
-use Rattle.outside.specs.declared.inputs.TextFault.{TextFault}
-use Rattle.outside.specs.declared.inputs.TextFault.TheVariants.{Memory, Refused}
+use Rattle.plan_wells.proofs.Common.{◌≡◌, ◌≤◌, ◌∙◌, arith, ℕ, Bool, ap, refl, subst, sym, All, List, length, map, replicate, Result, Ok, Err, length-map, length-replicate, All-map, All-replicate}
+use Rattle.plan_wells.proofs.Common.{All-weaker, HasSize, cell_count, most_entries, no_number, no_period, Entry, FlowModel, Period, IsPlan, IsWell, plan_of}
+use Rattle.outside.specs.{declared.inputs.Refusal.Refusal, declared.inputs.TextFault.TextFault, declared.inputs.TextFault.TheVariants.Memory, declared.inputs.TextFault.TheVariants.Refused}
 use Rattle.record_lines.specs.{StopsText, ◌>>=◌}
-use Rattle.model_types.specs.declared.grid.Grid.{Grid}
-use Rattle.model_types.specs.declared.limits.Limits.{Limits}
+use Rattle.model_types.specs.{declared.grid.Grid.Grid, declared.limits.Limits.Limits}
 use Rattle.list_package.specs.{IsEntry, IsListOf, lists_of, package_of, with_list}
 use Rattle.list_package.proofs.ListForms.{lists_are, steps}
 use Rattle.stress_packages.specs.{wells}

@@ -1,8 +1,7 @@
 -- A valid model with a plan's wells is valid.
-use Rattle.plan_wells.proofs.Common.{◌≡◌, ◌≤◌, ℕ, refl, true, inl, inr, arith, All, List, length, nat_le, le-leb, leb-true, length-append, All-append}
-use Rattle.plan_wells.proofs.Common.{All-weaker, AllPass-from_list_all, list_all-from_AllPass, IsBedChecked, IsCellValid, IsEntryValid, IsEvapValid, IsPeriod}
-use Rattle.plan_wells.proofs.Common.{IsTimed, cell_count, evap_sources, most_entries, Entry, Well, River, Drain, General, FlowModel, Period, IsWell}
-use Rattle.plan_wells.proofs.Common.{PlainAreFew, PlannedAreValid, are_few, with_plan, with_wells}
+use Rattle.plan_wells.proofs.Common.{◌≡◌, ◌≤◌, ℕ, refl, true, inl, inr, arith, All, List, length, nat_le, le-leb, leb-true, length-append, All-append, All-weaker, AllPass-from_list_all}
+use Rattle.plan_wells.proofs.Common.{list_all-from_AllPass, IsBedChecked, IsCellValid, IsEntryValid, IsEvapValid, IsPeriod, IsTimed, cell_count, evap_sources, most_entries, Entry, Well, River, Drain}
+use Rattle.plan_wells.proofs.Common.{General, FlowModel, Period, IsWell, PlainAreFew, PlannedAreValid, are_few, with_plan, with_wells}
 use Rattle.model_types.specs.declared.limits.Limits.TheVariants.{Plain, Wide}
 use Rattle.plan_wells.proofs.Added.{all_planned, as_many, period_is, planned_periods, sum_kept}
 

@@ -1,10 +1,7 @@
 -- Models with a plan's wells: valid, alike, and between two others.
 use Rattle.std.specs.Prelude.{ℕ, ◌≡◌, ◌≤◌, true, List, All, length}
-use Rattle.model_types.specs.{IsModel, most_entries}
-use Rattle.model_types.specs.declared.entry.Entry.{Entry}
-use Rattle.model_types.specs.declared.limits.Limits.{Limits}
-use Rattle.model_types.specs.declared.limits.Limits.TheVariants.{Plain}
-use Rattle.model_types.specs.declared.model.FlowModel.{FlowModel}
+use Rattle.model_types.specs.{IsModel, most_entries, declared.entry.Entry.Entry, declared.limits.Limits.Limits, declared.limits.Limits.TheVariants.Plain}
+use Rattle.model_types.specs.{declared.model.FlowModel.FlowModel}
 use Rattle.deck_span.specs.{AreAlike, IsBetween}
 use Rattle.plan_wells.specs.Plans.{IsPlan, are_few, plan_of, with_plan}
 

@@ -2,21 +2,15 @@
 use Rattle.std.specs.Prelude.{ℕ, ◌≡◌, ◌≤◌, ◌<◌, ◌++◌, Bool, if◌then◌else◌, List, All, length, map, nat_le, replicate, Result, Ok, Err}
 use Rattle.std.specs.List.{list_all}
 use Rattle.decimal_input.specs.{IsDec}
-use Rattle.outside.specs.{refusal}
-use Rattle.outside.specs.declared.codes.Code.TheVariants.{TooManyEntries}
-use Rattle.outside.specs.declared.inputs.Refusal.{Refusal}
+use Rattle.outside.specs.{refusal, declared.codes.Code.TheVariants.TooManyEntries, declared.inputs.Refusal.Refusal}
 use Rattle.record_lines.specs.{◌>>=◌}
-use Rattle.model_types.specs.{cell_count, most_entries, no_period}
-use Rattle.model_types.specs.declared.entry.Entry.{Entry}
-use Rattle.model_types.specs.declared.entry.Entry.TheVariants.{Well, River, Drain, General}
-use Rattle.model_types.specs.declared.grid.Grid.{Grid}
-use Rattle.model_types.specs.declared.limits.Limits.{Limits}
-use Rattle.model_types.specs.declared.model.FlowModel.{FlowModel}
-use Rattle.model_types.specs.declared.period.Period.{Period}
+use Rattle.model_types.specs.{cell_count, most_entries, no_period, declared.entry.Entry.Entry, declared.entry.Entry.TheVariants.Well}
+use Rattle.model_types.specs.{declared.entry.Entry.TheVariants.River, declared.entry.Entry.TheVariants.Drain, declared.entry.Entry.TheVariants.General}
+use Rattle.model_types.specs.{declared.grid.Grid.Grid, declared.limits.Limits.Limits, declared.model.FlowModel.FlowModel, declared.period.Period.Period}
+use Rattle.model_types.specs.{declared.limits.Limits.TheVariants.Wide}
 use Rattle.list_package.specs.{lists_of}
 use Rattle.stress_packages.specs.{wells}
 use Rattle.problem_hull.specs.{zip_with}
-use Rattle.model_types.specs.declared.limits.Limits.TheVariants.{Wide}
 
 -- the period with these wells after its own
 abbrev pub with_wells : Period → List Entry → Period

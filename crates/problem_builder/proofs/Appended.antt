@@ -1,8 +1,7 @@
 -- The bounds of the entries of lists, appended cell by cell.
-use Rattle.problem_builder.proofs.Common.{◌≡◌, ℕ, ◌+◌, ◌<◌, inl, inr, Bool, true, false, cond, List, [], ◌∷◌, ◌++◌, length, get_or, set, take, refl, sym, ap}
-use Rattle.problem_builder.proofs.Common.{◌∙◌, subst, All, zero, suc, Option, None, map, replicate, arith, ◌==◌, get_or-set_same, get_or-set_other, append-nil}
-use Rattle.problem_builder.proofs.Common.{append_assoc, take_more, get_or-map, length-map, map-set, filter-append, cases_eq, eq-eqb, ne_eqb, Entry, cell_of}
-use Rattle.problem_builder.proofs.Common.{entries_of, LocalBounds, AreLocalBounds, AreAppended, IsEntryIn, local_in, no_bounds, kept_bounds}
+use Rattle.problem_builder.proofs.Common.{◌≡◌, ℕ, ◌+◌, ◌<◌, inl, inr, Bool, true, false, cond, List, [], ◌∷◌, ◌++◌, length, get_or, set, take, refl, sym, ap, ◌∙◌, subst, All, zero, suc, Option, None}
+use Rattle.problem_builder.proofs.Common.{map, replicate, arith, ◌==◌, get_or-set_same, get_or-set_other, append-nil, append_assoc, take_more, get_or-map, length-map, map-set, filter-append, cases_eq}
+use Rattle.problem_builder.proofs.Common.{eq-eqb, ne_eqb, Entry, cell_of, entries_of, LocalBounds, AreLocalBounds, AreAppended, IsEntryIn, local_in, no_bounds, kept_bounds}
 use Rattle.std.specs.Global.{Box}
 
 no_entries : (c : ℕ) → [] ≡ entries_of c []

@@ -1,22 +1,15 @@
 -- The bounds of a valid model's numbers enclose them.
-use Rattle.problem_builder.proofs.Common.{negsuc, IsPositive, recharge_term, unsigned_abs, FlowPair, constant_bound, given_or_kept, head_bound, kept_bound}
-use Rattle.problem_builder.proofs.Common.{recharge_pair, whole_evap, ◌≡◌, ℕ, suc, ◌+◌, ◌*◌, ◌-◌, ◌<◌, ◌^◌, inl, inr, true, false, Option, Some, None, take}
-use Rattle.problem_builder.proofs.Common.{arith, refl, ap, subst, All, ℤ, pos, neg_ℤ, ◌+ℤ◌, ◌-ℤ◌, ◌*ℤ◌, zero, Bool, cond, List, [], ◌∷◌, sym, option_to_list}
-use Rattle.problem_builder.proofs.Common.{ints, Dec, number, opposite, EnclosesSigned, plus, magnitude, IsHead, EvapEncloses, Given, FlowModel, TimeStep}
-use Rattle.problem_builder.proofs.Common.{cell_count, kept_head, head_or_kept, constant_head, dec_at, is_active, conductance, period_at, is_constant, given_in}
-use Rattle.problem_builder.proofs.Common.{last_given, EvapSource, recharge_flow, evap_conductance, extinction, IsModel, IsHeadNumber, IsPeriod, IsGivenValid}
-use Rattle.problem_builder.proofs.Common.{evap_term, below_gap, above_gap, IsTimeOf, reverse, ◌==◌, IfSome, find, flat_map, reverse-append, All-nil, All-append}
-use Rattle.problem_builder.proofs.Common.{none-some, Period, In, In-All, recharges_enclose, evaps_enclose, real_flow, part, ConstantPairFits}
-use Rattle.problem_builder.proofs.Common.{ConstantPairEncloses}
+use Rattle.problem_builder.proofs.Common.{negsuc, IsPositive, recharge_term, unsigned_abs, FlowPair, constant_bound, given_or_kept, head_bound, kept_bound, recharge_pair, whole_evap, ◌≡◌, ℕ, suc, ◌+◌}
+use Rattle.problem_builder.proofs.Common.{◌*◌, ◌-◌, ◌<◌, ◌^◌, inl, inr, true, false, Option, Some, None, take, arith, refl, ap, subst, All, ℤ, pos, neg_ℤ, ◌+ℤ◌, ◌-ℤ◌, ◌*ℤ◌, zero, Bool, cond, List, []}
+use Rattle.problem_builder.proofs.Common.{◌∷◌, sym, option_to_list, ints, Dec, number, opposite, EnclosesSigned, plus, magnitude, IsHead, EvapEncloses, Given, FlowModel, TimeStep, cell_count}
+use Rattle.problem_builder.proofs.Common.{kept_head, head_or_kept, constant_head, dec_at, is_active, conductance, period_at, is_constant, given_in, last_given, EvapSource, recharge_flow}
+use Rattle.problem_builder.proofs.Common.{evap_conductance, extinction, IsModel, IsHeadNumber, IsPeriod, IsGivenValid, evap_term, below_gap, above_gap, IsTimeOf, reverse, ◌==◌, IfSome, find, flat_map}
+use Rattle.problem_builder.proofs.Common.{reverse-append, All-nil, All-append, none-some, Period, In, In-All, recharges_enclose, evaps_enclose, real_flow, part, ConstantPairFits, ConstantPairEncloses}
 use Rattle.decimal_input.specs.Fractions.{den as denominator}
 use Rattle.decimal_input.proofs.Differences.{diffs, as_diff, same_diff}
-use Rattle.conductance_bounds.proofs.ModelBounds.{heads_enclose as given_encloses}
-use Rattle.conductance_bounds.proofs.PartBounds.{part_encloses, multiplier_positive}
-use Rattle.problem_builder.proofs.Members.{constant_active, some_same, In-append}
-use Rattle.problem_builder.proofs.TimesOf.{time_of}
-use Rattle.problem_builder.proofs.HeadRange.{AreHeads, head_floor, head_ceiling, head_range_of, head_encloses}
-use Rattle.problem_builder.proofs.Fits.{capped_encloses}
-use Rattle.problem_builder.proofs.GivenRange.{given_range}
+use Rattle.conductance_bounds.proofs.{ModelBounds.heads_enclose as given_encloses, PartBounds.part_encloses, PartBounds.multiplier_positive}
+use Rattle.problem_builder.proofs.{Members.constant_active, Members.some_same, Members.In-append, TimesOf.time_of, HeadRange.AreHeads, HeadRange.head_floor, HeadRange.head_ceiling}
+use Rattle.problem_builder.proofs.{HeadRange.head_range_of, HeadRange.head_encloses, Fits.capped_encloses, GivenRange.given_range}
 
 -- The entries of CHD lists are valid.
 first_or : {X : Type 0} (b : Bool) (y : X) (ys : List X) (x : X) (o : Option X) → (o ≡ Some x → In ys x) → cond b (Some y) o ≡ Some x → In (y ∷ ys) x

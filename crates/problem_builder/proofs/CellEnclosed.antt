@@ -1,28 +1,19 @@
 -- A cell of the problem encloses the exact cell: one step for each kind of entry.
-use Rattle.problem_builder.proofs.Common.{IsEvapValid, IsModel, ap, faces_enclose, ◌∙◌, FlowPair, In-map, IsTimeOf, well_pair, whole_drain, whole_evap}
-use Rattle.problem_builder.proofs.Common.{whole_flow, whole_river, ◌≡◌, ℕ, ◌+◌, ◌<◌, ◌^◌, true, List, map, sym, subst, arith, refl, AllZip, Dec, number, size}
-use Rattle.problem_builder.proofs.Common.{Fraction, Encloses, EnclosesSigned, Bound, Flow, Link, Fixed, Entries, magnitude, FlowEncloses, LinkEncloses}
-use Rattle.problem_builder.proofs.Common.{FixedEncloses, RiverEncloses, DrainEncloses, EvapEncloses, CellEncloses, EnclosesStep, Face, FlowModel, TimeStep}
-use Rattle.problem_builder.proofs.Common.{cell_count, is_active, conductance, is_variable, is_constant, FixedSource, FlowSource, variable_faces, flow_sources}
-use Rattle.problem_builder.proofs.Common.{river_sources, drain_sources, evap_sources, ToConstant, ToGeneral, FromStorage, Pumped, Received, period_at, storage}
-use Rattle.problem_builder.proofs.Common.{variable_cells, In, In-All, IsFaceOf, passing_are, Number, face_term, storage_term, HeadsEnclose, AreCells}
-use Rattle.problem_builder.proofs.Common.{are_linked, storages_enclose, real_flow, map-map, map-id, AreBranches, AreCellsOver, Axis, Bool, Branches, IsBranch}
-use Rattle.problem_builder.proofs.Common.{Option, Ratio, cell_over, constant_over, fixed_over, link_over, model_branches, sources_over, list_any, or_parts}
-use Rattle.problem_builder.proofs.Common.{◌&&◌, ◌==◌, ◌++◌, option_to_list, as_general, filter_map, local_entries, constant_faces, constant_head, index_of}
-use Rattle.problem_builder.proofs.Common.{Constant, General, Storage, ExactCell, ExactFixed, ExactLink, is_branch}
-use Rattle.step_problem.specs.declared.entry.River.{River}
-use Rattle.step_problem.specs.declared.entry.Drain.{Drain}
-use Rattle.step_problem.specs.declared.entry.Evap.{Evap}
+use Rattle.problem_builder.proofs.Common.{IsEvapValid, IsModel, ap, faces_enclose, ◌∙◌, FlowPair, In-map, IsTimeOf, well_pair, whole_drain, whole_evap, whole_flow, whole_river, ◌≡◌, ℕ, ◌+◌, ◌<◌, ◌^◌}
+use Rattle.problem_builder.proofs.Common.{true, List, map, sym, subst, arith, refl, AllZip, Dec, number, size, Fraction, Encloses, EnclosesSigned, Bound, Flow, Link, Fixed, Entries, magnitude}
+use Rattle.problem_builder.proofs.Common.{FlowEncloses, LinkEncloses, FixedEncloses, RiverEncloses, DrainEncloses, EvapEncloses, CellEncloses, EnclosesStep, Face, FlowModel, TimeStep, cell_count}
+use Rattle.problem_builder.proofs.Common.{is_active, conductance, is_variable, is_constant, FixedSource, FlowSource, variable_faces, flow_sources, river_sources, drain_sources, evap_sources}
+use Rattle.problem_builder.proofs.Common.{ToConstant, ToGeneral, FromStorage, Pumped, Received, period_at, storage, variable_cells, In, In-All, IsFaceOf, passing_are, Number, face_term, storage_term}
+use Rattle.problem_builder.proofs.Common.{HeadsEnclose, AreCells, are_linked, storages_enclose, real_flow, map-map, map-id, AreBranches, AreCellsOver, Axis, Bool, Branches, IsBranch, Option, Ratio}
+use Rattle.problem_builder.proofs.Common.{cell_over, constant_over, fixed_over, link_over, model_branches, sources_over, list_any, or_parts, ◌&&◌, ◌==◌, ◌++◌, option_to_list, as_general, filter_map}
+use Rattle.problem_builder.proofs.Common.{local_entries, constant_faces, constant_head, index_of, Constant, General, Storage, ExactCell, ExactFixed, ExactLink, is_branch}
+use Rattle.step_problem.specs.{declared.entry.River.River, declared.entry.Drain.Drain, declared.entry.Evap.Evap}
 use Rattle.flow_equations.specs.{exact_flow, exact_river, exact_drain, exact_evap, exact_step}
 use Rattle.conductance_bounds.proofs.Recharged.{number_encloses}
-use Rattle.problem_builder.proofs.Members.{IsFixedSource, variable_active, constant_active, source_among, variable-In}
-use Rattle.problem_builder.proofs.CellFaces.{face_branch}
-use Rattle.problem_builder.proofs.CellFits.{model_has_branches}
-use Rattle.problem_builder.proofs.Sound.{IsSound, none_passes, positive_unless_zero, sum_part, no_fault_is_sound, no_refusal_is_no_fault}
-use Rattle.problem_builder.proofs.Zipped.{zip_images}
-use Rattle.problem_builder.proofs.HeadRange.{head_encloses}
-use Rattle.problem_builder.proofs.Fits.{capped_encloses, cond_encloses}
-use Rattle.problem_builder.proofs.BoundsOf.{constant_head_is_enclosed, recharges, evaps, past_magnitude}
+use Rattle.problem_builder.proofs.{Members.IsFixedSource, Members.variable_active, Members.constant_active, Members.source_among, Members.variable-In, CellFaces.face_branch}
+use Rattle.problem_builder.proofs.{CellFits.model_has_branches, Sound.IsSound, Sound.none_passes, Sound.positive_unless_zero, Sound.sum_part, Sound.no_fault_is_sound, Sound.no_refusal_is_no_fault}
+use Rattle.problem_builder.proofs.{Zipped.zip_images, HeadRange.head_encloses, Fits.capped_encloses, Fits.cond_encloses, BoundsOf.constant_head_is_enclosed, BoundsOf.recharges, BoundsOf.evaps}
+use Rattle.problem_builder.proofs.{BoundsOf.past_magnitude}
 
 well_encloses : (s : ℕ) (d : Dec) → magnitude (well_pair s d).lo (well_pair s d).hi < 2 ^ 109 → EnclosesSigned (well_pair s d).lo (well_pair s d).hi (s + 9) (number d)
 well_encloses s d lt =

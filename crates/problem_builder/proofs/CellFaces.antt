@@ -1,8 +1,7 @@
 -- The faces of a variable cell: both their cells lie in the grid, and are active where the cell behind is.
-use Rattle.problem_builder.proofs.Common.{◌≡◌, ℕ, ◌+◌, ◌<◌, inl, inr, true, Option, sym, ap, ◌∙◌, arith, All, List, Face, Grid, FlowModel, cell_count, stride}
-use Rattle.problem_builder.proofs.Common.{span, has_after, faces, HasSize, is_active, IsFaceOf, first_within, after_within, before_le, before_back}
-use Rattle.problem_builder.proofs.Common.{HasConductance, HasPairs, IsBranch, IsInGrid, face_pair, pair_at, AreTables, Axis, Row, Column, Vertical, get_or}
-use Rattle.problem_builder.proofs.Common.{length, subst, Tables, faces_within}
+use Rattle.problem_builder.proofs.Common.{◌≡◌, ℕ, ◌+◌, ◌<◌, inl, inr, true, Option, sym, ap, ◌∙◌, arith, All, List, Face, Grid, FlowModel, cell_count, stride, span, has_after, faces, HasSize}
+use Rattle.problem_builder.proofs.Common.{is_active, IsFaceOf, first_within, after_within, before_le, before_back, HasConductance, HasPairs, IsBranch, IsInGrid, face_pair, pair_at, AreTables, Axis}
+use Rattle.problem_builder.proofs.Common.{Row, Column, Vertical, get_or, length, subst, Tables, faces_within}
 use Rattle.std.proofs.Math.Nat.{mod-le}
 
 -- What the tables of a run say of faces.

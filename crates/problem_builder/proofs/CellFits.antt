@@ -1,21 +1,14 @@
 -- A cell without a refusal keeps what a problem asks of a cell alone.
-use Rattle.problem_builder.proofs.Common.{false, Bool, EnclosesSigned, cond, map, period_at, range_with_len, refl, start_head, storage_term}
-use Rattle.problem_builder.proofs.Common.{get_or-map-range_with_len, length-map-range_with_len, HeadsEnclose, In-map, head_bound, start_bound, AreBranches}
-use Rattle.problem_builder.proofs.Common.{Branches, cell_over, fixed_over, link_over, model_branches, sources_over, ◌≡◌, ℕ, ◌<◌, ◌≤◌, true, None, List, sym}
-use Rattle.problem_builder.proofs.Common.{subst, arith, All, ◌+◌, [], ◌∷◌, ◌++◌, length, get_or, ap, ◌∙◌, pos, ◌==◌, list_any, Bound, Link, no_bound, lower_at}
-use Rattle.problem_builder.proofs.Common.{upper_at, LinkFits, FixedFits, CellFits, IsHead, Face, FlowModel, TimeStep, cell_count, is_active, is_variable}
-use Rattle.problem_builder.proofs.Common.{is_constant, FixedSource, local_entries, variable_faces, ToConstant, ToGeneral, FromStorage, IsModel, IsEntryValid}
-use Rattle.problem_builder.proofs.Common.{dec_at, In, IsFaceOf, passing_are, end_within, face_term, AreGridHeads, IsTimeOf, fault_of, AreStartHeads, or_parts}
-use Rattle.problem_builder.proofs.Common.{cases_order, get_or_append_left, get_or_push, length_push, Filled, ints, map-range_with_len_more, capped_ordered}
-use Rattle.problem_builder.proofs.Common.{formulas_hold, Wide, most_cells}
-use Rattle.problem_builder.proofs.Members.{IsFixedSource, variable_active, constant_active, source_among}
-use Rattle.problem_builder.proofs.BoundsOf.{head_range}
-use Rattle.problem_builder.proofs.HeadRange.{AreHeads, head_range_of, head_encloses}
-use Rattle.problem_builder.proofs.CellFaces.{face_branch, first_after}
-use Rattle.problem_builder.proofs.Fits.{cond_ordered, rivers_fit, drains_fit, evaps_fit}
-use Rattle.problem_builder.proofs.Sound.{no_fault_is_sound, none_passes, positive_unless_zero}
-use Rattle.problem_builder.proofs.ValidEntries.{local_valid}
-use Rattle.problem_builder.proofs.Zipped.{all_mapped}
+use Rattle.problem_builder.proofs.Common.{false, Bool, EnclosesSigned, cond, map, period_at, range_with_len, refl, start_head, storage_term, get_or-map-range_with_len, length-map-range_with_len}
+use Rattle.problem_builder.proofs.Common.{HeadsEnclose, In-map, head_bound, start_bound, AreBranches, Branches, cell_over, fixed_over, link_over, model_branches, sources_over, ◌≡◌, ℕ, ◌<◌, ◌≤◌, true}
+use Rattle.problem_builder.proofs.Common.{None, List, sym, subst, arith, All, ◌+◌, [], ◌∷◌, ◌++◌, length, get_or, ap, ◌∙◌, pos, ◌==◌, list_any, Bound, Link, no_bound, lower_at, upper_at, LinkFits}
+use Rattle.problem_builder.proofs.Common.{FixedFits, CellFits, IsHead, Face, FlowModel, TimeStep, cell_count, is_active, is_variable, is_constant, FixedSource, local_entries, variable_faces}
+use Rattle.problem_builder.proofs.Common.{ToConstant, ToGeneral, FromStorage, IsModel, IsEntryValid, dec_at, In, IsFaceOf, passing_are, end_within, face_term, AreGridHeads, IsTimeOf, fault_of}
+use Rattle.problem_builder.proofs.Common.{AreStartHeads, or_parts, cases_order, get_or_append_left, get_or_push, length_push, Filled, ints, map-range_with_len_more, capped_ordered, formulas_hold}
+use Rattle.problem_builder.proofs.Common.{Wide, most_cells}
+use Rattle.problem_builder.proofs.{Members.IsFixedSource, Members.variable_active, Members.constant_active, Members.source_among, BoundsOf.head_range, HeadRange.AreHeads, HeadRange.head_range_of}
+use Rattle.problem_builder.proofs.{HeadRange.head_encloses, CellFaces.face_branch, CellFaces.first_after, Fits.cond_ordered, Fits.rivers_fit, Fits.drains_fit, Fits.evaps_fit, Sound.no_fault_is_sound}
+use Rattle.problem_builder.proofs.{Sound.none_passes, Sound.positive_unless_zero, ValidEntries.local_valid, Zipped.all_mapped}
 
 -- the branches of a confined model
 pub model_has_branches : (m : FlowModel) (s : ℕ) (at : TimeStep) → IsModel m → AreBranches m at (model_branches m s at)

@@ -1,9 +1,8 @@
 -- Tables that are given as lists over all cells.
-use Rattle.problem_builder.proofs.Common.{fill_by_all, start_bound, ◌≡◌, ℕ, ◌<◌, None, List, length, get_or, take, ap, ◌∙◌, arith, NoFlow, FlowModel}
-use Rattle.problem_builder.proofs.Common.{cell_count, kind_of, kinds, last_given, given_heads, given_in, Filled, IsKind, IsKept, AreStartHeads, Bound, no_bound}
-use Rattle.problem_builder.proofs.Common.{subst, Option, Given, IsGivenIn, table, table_at, length_is, length-map-range_with_len, get_or-map-range_with_len}
-use Rattle.model_types.specs.declared.given_heads.Kind.{Kind}
-use Rattle.model_types.specs.declared.given_heads.GivenHeads.{GivenHeads}
+use Rattle.problem_builder.proofs.Common.{fill_by_all, start_bound, ◌≡◌, ℕ, ◌<◌, None, List, length, get_or, take, ap, ◌∙◌, arith, NoFlow, FlowModel, cell_count, kind_of, kinds, last_given}
+use Rattle.problem_builder.proofs.Common.{given_heads, given_in, Filled, IsKind, IsKept, AreStartHeads, Bound, no_bound, subst, Option, Given, IsGivenIn, table, table_at, length_is}
+use Rattle.problem_builder.proofs.Common.{length-map-range_with_len, get_or-map-range_with_len}
+use Rattle.model_types.specs.{declared.given_heads.Kind.Kind, declared.given_heads.GivenHeads.GivenHeads}
 
 -- the kinds of a period
 pub kinds_filled : (m : FlowModel) (p : ℕ) (xs : List Kind) → xs ≡ kinds m p → Filled (IsKind m p) NoFlow (cell_count m.grid) xs

@@ -1,6 +1,6 @@
 -- The numbers of the arrays of RCH and EVT at a cell that an option chooses.
-use Rattle.problem_builder.proofs.Common.{◌≡◌, ℕ, zero, suc, true, false, List, refl, arith, ℤ, pos, negsuc, false≢true, ne_eqb, IsDec, FlowModel}
-use Rattle.problem_builder.proofs.Common.{place_in_layer, dec_at, is_int, is_chosen, period_at, IsPeriod, dec_at_is}
+use Rattle.problem_builder.proofs.Common.{◌≡◌, ℕ, zero, suc, true, false, List, refl, arith, ℤ, pos, negsuc, false≢true, ne_eqb, IsDec, FlowModel, place_in_layer, dec_at, is_int, is_chosen, period_at}
+use Rattle.problem_builder.proofs.Common.{IsPeriod, dec_at_is}
 
 -- option 0 chooses no cell
 pub chosen_some : (m : FlowModel) (z : ℤ) (layers : List ℤ) (c : ℕ) → is_chosen m z layers c ≡ true → is_int z 0 ≡ false

@@ -1,9 +1,7 @@
 -- Active cells above a cell, layer by layer.
-use Rattle.problem_builder.proofs.Common.{◌≡◌, ℕ, suc, ◌+◌, ◌*◌, ◌-◌, ◌/◌, ◌%◌, ◌<◌, ◌≤◌, Bool, true, false, [], ◌∷◌, ◌++◌, refl, ap, ◌∙◌, arith, not, ◌&&◌}
-use Rattle.problem_builder.proofs.Common.{◌||◌, range_with_len, list_any, FlowModel, layer_size, layer_of, place_in_layer, HasSize, is_active, is_highest}
-use Rattle.problem_builder.proofs.Common.{range_more}
-use Rattle.std.proofs.lemmas.Nat.{div-add-mod', div-mul-add, mod-mul-add, mod_below}
-use Rattle.std.proofs.lemmas.List.Folds.{list_any-append}
+use Rattle.problem_builder.proofs.Common.{◌≡◌, ℕ, suc, ◌+◌, ◌*◌, ◌-◌, ◌/◌, ◌%◌, ◌<◌, ◌≤◌, Bool, true, false, [], ◌∷◌, ◌++◌, refl, ap, ◌∙◌, arith, not, ◌&&◌, ◌||◌, range_with_len, list_any, FlowModel}
+use Rattle.problem_builder.proofs.Common.{layer_size, layer_of, place_in_layer, HasSize, is_active, is_highest, range_more}
+use Rattle.std.proofs.{lemmas.Nat.div-add-mod', lemmas.Nat.div-mul-add, lemmas.Nat.mod-mul-add, lemmas.Nat.mod_below, lemmas.List.Folds.list_any-append}
 use Rattle.model_types.proofs.Numbering.{size_some}
 
 range_last : (k : ℕ) → range_with_len 0 (suc k) ≡ range_with_len 0 k ++ k ∷ []

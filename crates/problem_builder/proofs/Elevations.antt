@@ -1,7 +1,6 @@
 -- Elevations of a valid model are numbers of the input, and a bed is one where its elevations differ.
-use Rattle.problem_builder.proofs.Common.{◌≡◌, ℕ, suc, ◌+◌, ◌-◌, ◌<◌, inl, inr, Bool, true, false, cond, sym, ap, ◌∙◌, pos, ◌*ℤ◌, Dec, IsDec, number, Fraction}
-use Rattle.problem_builder.proofs.Common.{FlowModel, cell_count, layer_size, dec_at, is_active, has_bed, top_at, bottom_at, lowest, bed_thickness, IsModel}
-use Rattle.problem_builder.proofs.Common.{IsBedValid, nat_lt, no_gap, dec_at_is}
+use Rattle.problem_builder.proofs.Common.{◌≡◌, ℕ, suc, ◌+◌, ◌-◌, ◌<◌, inl, inr, Bool, true, false, cond, sym, ap, ◌∙◌, pos, ◌*ℤ◌, Dec, IsDec, number, Fraction, FlowModel, cell_count, layer_size}
+use Rattle.problem_builder.proofs.Common.{dec_at, is_active, has_bed, top_at, bottom_at, lowest, bed_thickness, IsModel, IsBedValid, nat_lt, no_gap, dec_at_is}
 use Rattle.decimal_input.proofs.Unique.{one_number}
 
 either : (b : Bool) (x y : Dec) → IsDec x → IsDec y → IsDec (cond b x y)

@@ -1,9 +1,8 @@
 -- Steps that are equally long have the same factors.
-use Rattle.problem_builder.proofs.Common.{Number, refl, sum_term, ◌-◌, ◌∙◌, ◌≡◌, ℕ, Some, Dec, size, FlowModel, period_at, number_one, power_term, IsUsable}
-use Rattle.problem_builder.proofs.Common.{HasEvenSteps, AreEvenFactors, equal_powers, bound}
+use Rattle.problem_builder.proofs.Common.{Number, refl, sum_term, ◌-◌, ◌∙◌, ◌≡◌, ℕ, Some, Dec, size, FlowModel, period_at, number_one, power_term, IsUsable, HasEvenSteps, AreEvenFactors, equal_powers}
+use Rattle.problem_builder.proofs.Common.{bound}
 use Rattle.scaled_decimal.specs.{Lower, Upper}
-use Rattle.conductance_bounds.specs.declared.storage.Factors.{Factors}
-use Rattle.conductance_bounds.specs.{factors_of as step_factors}
+use Rattle.conductance_bounds.specs.{declared.storage.Factors.Factors, factors_of as step_factors}
 use Rattle.model_types.specs.{one as ratio_one}
 
 even_grown : (t : Dec) (steps n : ℕ) → t ≡ number_one → step_factors (size t) steps 1 ≡ step_factors (size t) steps n

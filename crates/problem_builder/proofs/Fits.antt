@@ -1,18 +1,14 @@
 -- Rivers, drains and evapotranspirations of a cell: bounds in order, heads in range.
-use Rattle.problem_builder.proofs.Common.{Pair, Encloses, Option, Ratio, map, FlowPair, PairEncloses, capped_pair, cond_pair, head_bound, real_pair, unwrap_or}
-use Rattle.problem_builder.proofs.Common.{whole_drain, whole_evap, whole_river, ◌≡◌, ℕ, ◌≤◌, ◌^◌, Bool, Some, refl, sym, subst, arith, All, ℤ, pos, ◌≤ℤ◌, ◌<◌}
-use Rattle.problem_builder.proofs.Common.{true, ◌-ℤ◌, ints, by_lt_z, none-some, Fraction, with_sign, number, size, IsSignedFloor, IsSignedCeiling, cancel_right}
-use Rattle.problem_builder.proofs.Common.{mul_mono_right, one_floor, one_ceiling, floor_ceiling_enclose, Dec, RiverFits, EvapFits, DrainFits, Entry, FlowModel}
-use Rattle.problem_builder.proofs.Common.{IsPositive, IsNotNegative, IsHeadNumber, EvapSource, RiverSource, as_river, local_entries, river_sources}
-use Rattle.problem_builder.proofs.Common.{evap_sources, IsEntryValid, IsEvapValid, DrainSource, as_drain, drain_sources, IsModel, IsPeriod, period_at}
-use Rattle.problem_builder.proofs.Common.{cell_count, is_variable, In-All, filter_map-In, Term, Number, evap_term, IsDepth, w64, den, capped_ordered}
-use Rattle.problem_builder.proofs.Common.{evap_holds, Wide, most_cells}
+use Rattle.problem_builder.proofs.Common.{Pair, Encloses, Option, Ratio, map, FlowPair, PairEncloses, capped_pair, cond_pair, head_bound, real_pair, unwrap_or, whole_drain, whole_evap, whole_river}
+use Rattle.problem_builder.proofs.Common.{◌≡◌, ℕ, ◌≤◌, ◌^◌, Bool, Some, refl, sym, subst, arith, All, ℤ, pos, ◌≤ℤ◌, ◌<◌, true, ◌-ℤ◌, ints, by_lt_z, none-some, Fraction, with_sign, number, size}
+use Rattle.problem_builder.proofs.Common.{IsSignedFloor, IsSignedCeiling, cancel_right, mul_mono_right, one_floor, one_ceiling, floor_ceiling_enclose, Dec, RiverFits, EvapFits, DrainFits, Entry}
+use Rattle.problem_builder.proofs.Common.{FlowModel, IsPositive, IsNotNegative, IsHeadNumber, EvapSource, RiverSource, as_river, local_entries, river_sources, evap_sources, IsEntryValid, IsEvapValid}
+use Rattle.problem_builder.proofs.Common.{DrainSource, as_drain, drain_sources, IsModel, IsPeriod, period_at, cell_count, is_variable, In-All, filter_map-In, Term, Number, evap_term, IsDepth, w64}
+use Rattle.problem_builder.proofs.Common.{den, capped_ordered, evap_holds, Wide, most_cells}
 use Rattle.conductance_bounds.proofs.Manual.{pair_encloses}
 use Rattle.model_types.specs.declared.entry.Entry.TheVariants.{River as RiverEntry, Drain as DrainEntry}
-use Rattle.problem_builder.proofs.Members.{variable_active, some_same}
-use Rattle.problem_builder.proofs.HeadRange.{AreHeads, floor_in_range, head_floor, head_ceiling, head_range_of}
-use Rattle.problem_builder.proofs.Zipped.{all_mapped}
-use Rattle.problem_builder.proofs.ValidEntries.{local_valid}
+use Rattle.problem_builder.proofs.{Members.variable_active, Members.some_same, HeadRange.AreHeads, HeadRange.floor_in_range, HeadRange.head_floor, HeadRange.head_ceiling, HeadRange.head_range_of}
+use Rattle.problem_builder.proofs.{Zipped.all_mapped, ValidEntries.local_valid}
 use Rattle.std.specs.Prelude.{FitsSigned}
 
 -- what a table keeps of a pair, and of a flow, that may be too large

@@ -1,6 +1,6 @@
 -- The bounds of a head between two heads in range are in range.
-use Rattle.problem_builder.proofs.Common.{◌≡◌, ℕ, ◌+◌, ◌*◌, ◌-◌, ◌≤◌, ◌^◌, arith, ℤ, pos, neg_ℤ, ◌*ℤ◌, ◌≤ℤ◌, int_min, int_max, ints, int_min_is, int_max_is}
-use Rattle.problem_builder.proofs.Common.{Dec, mul_mono_right, IsHead, head_limit, IsHeadNumber, blend, given_pair, head_pair, bound_of_pair}
+use Rattle.problem_builder.proofs.Common.{◌≡◌, ℕ, ◌+◌, ◌*◌, ◌-◌, ◌≤◌, ◌^◌, arith, ℤ, pos, neg_ℤ, ◌*ℤ◌, ◌≤ℤ◌, int_min, int_max, ints, int_min_is, int_max_is, Dec, mul_mono_right, IsHead, head_limit}
+use Rattle.problem_builder.proofs.Common.{IsHeadNumber, blend, given_pair, head_pair, bound_of_pair}
 use Rattle.conductance_bounds.proofs.Units.{IsFloorOf, IsCeilingOf, floor_is, ceiling_is}
 use Rattle.conductance_bounds.specs.declared.part.Part.{Part}
 use Rattle.problem_builder.proofs.HeadRange.{AreHeads, head_range_of}

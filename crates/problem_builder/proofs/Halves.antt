@@ -1,8 +1,7 @@
 -- The halves of branches, and the bed between two layers.
-use Rattle.problem_builder.proofs.Common.{arith, eq-eqb, ne_eqb, Bool, cond, Some, None, ◌≡◌, ℕ, ◌+◌, ◌<◌, ◌⊎◌, inl, inr, true, false, refl, sym, ap, ◌∙◌, ◌==◌}
-use Rattle.problem_builder.proofs.Common.{none-some, Axis, Vertical, Face, Grid, stride, has_after, face_after, FlowModel, layer_size, delr_at, delc_at}
-use Rattle.problem_builder.proofs.Common.{thickness, bed_thickness, vkcb_at, bottom_at, lowest, thick_positive, IsBedValid, Span, IsBed, vertical_of, face_term}
-use Rattle.problem_builder.proofs.Common.{IsBedOf, IsNoBed, layer_half}
+use Rattle.problem_builder.proofs.Common.{arith, eq-eqb, ne_eqb, Bool, cond, Some, None, ◌≡◌, ℕ, ◌+◌, ◌<◌, ◌⊎◌, inl, inr, true, false, refl, sym, ap, ◌∙◌, ◌==◌, none-some, Axis, Vertical, Face, Grid}
+use Rattle.problem_builder.proofs.Common.{stride, has_after, face_after, FlowModel, layer_size, delr_at, delc_at, thickness, bed_thickness, vkcb_at, bottom_at, lowest, thick_positive, IsBedValid}
+use Rattle.problem_builder.proofs.Common.{Span, IsBed, vertical_of, face_term, IsBedOf, IsNoBed, layer_half}
 use Rattle.problem_builder.proofs.Members.{some_same}
 
 tests : (m : FlowModel) (a : ℕ) (t : Span) → IsBedOf m a t ⊎ IsNoBed m a t → (t.lo.m == 0) ≡ ((bed_thickness m a).num == 0)

@@ -1,6 +1,5 @@
 -- Indices of variable cells, one after the other.
-use Rattle.problem_builder.proofs.Common.{◌≡◌, ℕ, suc, ◌+◌, ◌≤◌, true, false, sym, ap, ◌∙◌, arith, FlowModel, is_variable, index_of, rank, rank_passes}
-use Rattle.problem_builder.proofs.Common.{rank_fails, rank_few, index_is}
+use Rattle.problem_builder.proofs.Common.{◌≡◌, ℕ, suc, ◌+◌, ◌≤◌, true, false, sym, ap, ◌∙◌, arith, FlowModel, is_variable, index_of, rank, rank_passes, rank_fails, rank_few, index_is}
 
 module _ (m : FlowModel) (p : ℕ) where
   pub first_index : index_of m p 0 ≡ 0

@@ -1,8 +1,7 @@
 -- Lists of a cell's entries, put together from their kinds.
-use Rattle.problem_builder.proofs.Common.{◌≡◌, ℕ, ◌+◌, ◌<◌, ◌≤◌, Bool, true, cond, Option, Some, None, List, [], ◌∷◌, ◌++◌, map, refl, sym, ap, ◌∙◌, length}
-use Rattle.problem_builder.proofs.Common.{get_or, take, take_all, take_more, filter_map-append, option_to_list, cons_option, filter_map, Bound, Flow, Fixed}
-use Rattle.problem_builder.proofs.Common.{Face, Entry, FlowModel, TimeStep, FixedSource, ToConstant, Received, as_well, as_general, through, Dec, whole_flow}
-use Rattle.problem_builder.proofs.Common.{Branches, constant_over, fixed_over, well_of, general_of, option_map, FlowPair, recharge_pair, flow_of_pair, AllZip}
+use Rattle.problem_builder.proofs.Common.{◌≡◌, ℕ, ◌+◌, ◌<◌, ◌≤◌, Bool, true, cond, Option, Some, None, List, [], ◌∷◌, ◌++◌, map, refl, sym, ap, ◌∙◌, length, get_or, take, take_all, take_more}
+use Rattle.problem_builder.proofs.Common.{filter_map-append, option_to_list, cons_option, filter_map, Bound, Flow, Fixed, Face, Entry, FlowModel, TimeStep, FixedSource, ToConstant, Received, as_well}
+use Rattle.problem_builder.proofs.Common.{as_general, through, Dec, whole_flow, Branches, constant_over, fixed_over, well_of, general_of, option_map, FlowPair, recharge_pair, flow_of_pair, AllZip}
 use Rattle.problem_builder.proofs.Common.{Well, map-append, map-map}
 use Rattle.model_types.specs.declared.entry.Entry.TheVariants.{River as RiverEntry, Drain as DrainEntry, General as GeneralEntry}
 use Rattle.step_problem.specs.declared.entry.FlowKind.TheVariants.{Recharge}

@@ -1,13 +1,11 @@
 -- Variable cells in their list, and sources in theirs.
-use Rattle.problem_builder.proofs.Common.{AreBranches, Branches, cell_over, fixed_over, sources_over, step_over, variable_cells, In-map, whole_cell}
-use Rattle.problem_builder.proofs.Common.{whole_fixed, whole_step, ◌≡◌, ℕ, zero, suc, ◌+◌, ◌<◌, ◌≤◌, ◌⊎◌, inl, inr, Bool, true, false, cond, Option, Some, None}
-use Rattle.problem_builder.proofs.Common.{List, [], ◌∷◌, ◌++◌, map, refl, sym, ap, ◌∙◌, subst, arith, All, ℤ, pos, negsuc, length, filter, filter_map}
-use Rattle.problem_builder.proofs.Common.{range_with_len, Contains, option_to_list, none-some, Entry, FlowModel, is_variable, variable_below, period_at}
-use Rattle.problem_builder.proofs.Common.{FixedSource, constant_faces, fixed_sources, storage_at, as_general, local_entries, ToConstant, ToGeneral, FromStorage}
-use Rattle.problem_builder.proofs.Common.{IsHeadNumber, IsNotNegative, IsEntryValid, is_active, int_at, is_constant, cell_count, HasSize, In, In-All, map-In}
-use Rattle.problem_builder.proofs.Common.{filter_map-In, In-get_or, Contains-In, passing, rank, rank_below, at_rank, below_is, not, int_lt, ◌==◌, unsigned_abs}
-use Rattle.problem_builder.proofs.Common.{and_parts, Bound, Fixed, Entries, entries_at, no_entries, TimeStep, passing_are, end_within, IsActive, HasOldHeads}
-use Rattle.problem_builder.proofs.Common.{Storage, IsCellNamed, Wide, most_cells}
+use Rattle.problem_builder.proofs.Common.{AreBranches, Branches, cell_over, fixed_over, sources_over, step_over, variable_cells, In-map, whole_cell, whole_fixed, whole_step, ◌≡◌, ℕ, zero, suc, ◌+◌}
+use Rattle.problem_builder.proofs.Common.{◌<◌, ◌≤◌, ◌⊎◌, inl, inr, Bool, true, false, cond, Option, Some, None, List, [], ◌∷◌, ◌++◌, map, refl, sym, ap, ◌∙◌, subst, arith, All, ℤ, pos, negsuc, length}
+use Rattle.problem_builder.proofs.Common.{filter, filter_map, range_with_len, Contains, option_to_list, none-some, Entry, FlowModel, is_variable, variable_below, period_at, FixedSource}
+use Rattle.problem_builder.proofs.Common.{constant_faces, fixed_sources, storage_at, as_general, local_entries, ToConstant, ToGeneral, FromStorage, IsHeadNumber, IsNotNegative, IsEntryValid}
+use Rattle.problem_builder.proofs.Common.{is_active, int_at, is_constant, cell_count, HasSize, In, In-All, map-In, filter_map-In, In-get_or, Contains-In, passing, rank, rank_below, at_rank, below_is}
+use Rattle.problem_builder.proofs.Common.{not, int_lt, ◌==◌, unsigned_abs, and_parts, Bound, Fixed, Entries, entries_at, no_entries, TimeStep, passing_are, end_within, IsActive, HasOldHeads, Storage}
+use Rattle.problem_builder.proofs.Common.{IsCellNamed, Wide, most_cells}
 use Rattle.model_types.specs.declared.entry.Entry.TheVariants.{General as GeneralEntry}
 use Rattle.std.proofs.lemmas.Bool.Decides.{nat_tests}
 

@@ -1,14 +1,9 @@
 -- The problem of a confined model, from that over the pairs of a run's tables.
-use Rattle.problem_builder.proofs.Common.{◌≡◌, ◌≤◌, arith, ℕ, List, sym, ◌∙◌, subst, refl, Bound, Entries, Pair, FlowModel, TimeStep, IsModel, IsTimeOf}
-use Rattle.problem_builder.proofs.Common.{AreGridHeads, AreTables, IsBuildFault, IsFaultOver, IsProblemOver, AreBranches, Branches, model_branches, pair_at}
-use Rattle.problem_builder.proofs.Common.{problem_of, problem_over, storage_at, IsBuilt, Tables, BoundFault, Memory}
+use Rattle.problem_builder.proofs.Common.{◌≡◌, ◌≤◌, arith, ℕ, List, sym, ◌∙◌, subst, refl, Bound, Entries, Pair, FlowModel, TimeStep, IsModel, IsTimeOf, AreGridHeads, AreTables, IsBuildFault}
+use Rattle.problem_builder.proofs.Common.{IsFaultOver, IsProblemOver, AreBranches, Branches, model_branches, pair_at, problem_of, problem_over, storage_at, IsBuilt, Tables, BoundFault, Memory}
 use Rattle.step_problem.specs.declared.refusal.BoundFault.TheVariants.{NoBound as Refused}
-use Rattle.problem_builder.proofs.CellEnclosed.{ids_are, step_encloses}
-use Rattle.problem_builder.proofs.CellFits.{model_has_branches}
-use Rattle.problem_builder.proofs.CellFaces.{face_in, pairs_are}
-use Rattle.problem_builder.proofs.Members.{named_active, old_heads}
-use Rattle.problem_builder.proofs.SameBranches.{HasSamePairs, same_problem_over}
-use Rattle.problem_builder.proofs.Steps.{cells_of}
+use Rattle.problem_builder.proofs.{CellEnclosed.ids_are, CellEnclosed.step_encloses, CellFits.model_has_branches, CellFaces.face_in, CellFaces.pairs_are, Members.named_active, Members.old_heads}
+use Rattle.problem_builder.proofs.{SameBranches.HasSamePairs, SameBranches.same_problem_over, Steps.cells_of}
 
 -- the branches over the pairs of the tables
 abbrev pub table_branches : FlowModel → TimeStep → Tables → Branches

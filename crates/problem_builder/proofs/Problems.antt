@@ -1,13 +1,10 @@
 -- The cells of a step are a problem.
-use Rattle.problem_builder.proofs.Common.{[], index_of, map, CellFits, In-get_or, filter_map, get_or-map, length-map, map-In, In-map, refusal_of, AreBranches}
-use Rattle.problem_builder.proofs.Common.{AreCellsOver, Branches, cell_over, link_over, model_branches, ◌≡◌, ℕ, ◌<◌, inl, inr, Bool, true, List, length, get_or}
-use Rattle.problem_builder.proofs.Common.{sym, ap, ◌∙◌, subst, arith, Contains, cases_order, Bound, Link, Entries, entries_at, no_entries, no_link, LinksFit}
-use Rattle.problem_builder.proofs.Common.{IsProblem, Face, FlowModel, TimeStep, cell_count, is_variable, variable_faces, IsModel, In, Contains-In, All-In}
-use Rattle.problem_builder.proofs.Common.{Ordered, Ordered-at, IsFaceOf, passing_are, passing_have, end_within, end_other, face_back, turned, ends_ascend}
-use Rattle.problem_builder.proofs.Common.{few_faces, passing, rank, rank_below, rank_apart, at_rank, is_at, IsAt, rank_few, below_is, index_is, AreGridHeads}
-use Rattle.problem_builder.proofs.Common.{IsTimeOf, AreCells, Ordered-map}
-use Rattle.problem_builder.proofs.CellFits.{cell_fits, model_has_branches}
-use Rattle.problem_builder.proofs.Sound.{no_refusal_is_no_fault}
+use Rattle.problem_builder.proofs.Common.{[], index_of, map, CellFits, In-get_or, filter_map, get_or-map, length-map, map-In, In-map, refusal_of, AreBranches, AreCellsOver, Branches, cell_over}
+use Rattle.problem_builder.proofs.Common.{link_over, model_branches, ◌≡◌, ℕ, ◌<◌, inl, inr, Bool, true, List, length, get_or, sym, ap, ◌∙◌, subst, arith, Contains, cases_order, Bound, Link, Entries}
+use Rattle.problem_builder.proofs.Common.{entries_at, no_entries, no_link, LinksFit, IsProblem, Face, FlowModel, TimeStep, cell_count, is_variable, variable_faces, IsModel, In, Contains-In, All-In}
+use Rattle.problem_builder.proofs.Common.{Ordered, Ordered-at, IsFaceOf, passing_are, passing_have, end_within, end_other, face_back, turned, ends_ascend, few_faces, passing, rank, rank_below}
+use Rattle.problem_builder.proofs.Common.{rank_apart, at_rank, is_at, IsAt, rank_few, below_is, index_is, AreGridHeads, IsTimeOf, AreCells, Ordered-map}
+use Rattle.problem_builder.proofs.{CellFits.cell_fits, CellFits.model_has_branches, Sound.no_refusal_is_no_fault}
 
 module _ (m : FlowModel) (s : ℕ) (at : TimeStep) (old : List Bound) (b : Branches) (sound_branches : AreBranches m at b) (valid : IsModel m)
     (time : IsTimeOf m at) (grid : AreGridHeads m old) where

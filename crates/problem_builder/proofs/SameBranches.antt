@@ -1,12 +1,9 @@
 -- The branches of a step by their values: where the pairs of a cell's faces and the stored water are the same, so is the problem.
-use Rattle.problem_builder.proofs.Common.{◌≡◌, ℕ, ◌<◌, ◌++◌, true, Option, List, map, ap, ◌∙◌, refl, Bound, Pair, Face, FlowModel, TimeStep, FixedSource}
-use Rattle.problem_builder.proofs.Common.{FromStorage, ToConstant, ToGeneral, IsFaceOf, In, as_general, cell_count, constant_faces, filter_map, index_of}
-use Rattle.problem_builder.proofs.Common.{is_active, is_constant, is_variable, local_entries, option_to_list, passing_are, variable_cells, variable_faces}
-use Rattle.problem_builder.proofs.Common.{known_head, constant_bound, refusal_of, unless_refused, AreBranches, Branches, cell_over, fixed_over, link_over}
-use Rattle.problem_builder.proofs.Common.{problem_over, sources_over, step_over, whole_flow, whole_river, whole_drain, whole_evap, drain_sources, evap_sources}
-use Rattle.problem_builder.proofs.Common.{flow_sources, river_sources, Constant}
-use Rattle.problem_builder.proofs.Members.{constant_active, source_among, variable-In, variable_active}
-use Rattle.problem_builder.proofs.Zipped.{map_within}
+use Rattle.problem_builder.proofs.Common.{◌≡◌, ℕ, ◌<◌, ◌++◌, true, Option, List, map, ap, ◌∙◌, refl, Bound, Pair, Face, FlowModel, TimeStep, FixedSource, FromStorage, ToConstant, ToGeneral, IsFaceOf}
+use Rattle.problem_builder.proofs.Common.{In, as_general, cell_count, constant_faces, filter_map, index_of, is_active, is_constant, is_variable, local_entries, option_to_list, passing_are}
+use Rattle.problem_builder.proofs.Common.{variable_cells, variable_faces, known_head, constant_bound, refusal_of, unless_refused, AreBranches, Branches, cell_over, fixed_over, link_over, problem_over}
+use Rattle.problem_builder.proofs.Common.{sources_over, step_over, whole_flow, whole_river, whole_drain, whole_evap, drain_sources, evap_sources, flow_sources, river_sources, Constant}
+use Rattle.problem_builder.proofs.{Members.constant_active, Members.source_among, Members.variable-In, Members.variable_active, Zipped.map_within}
 
 -- the same pairs at the faces between active cells
 abbrev pub HasSamePairs : FlowModel → Branches → Branches → Type 0

@@ -1,8 +1,7 @@
 -- What a cell without a refusal is.
-use Rattle.problem_builder.proofs.Common.{filter_map, option_map, refusal_of, or_parts, ◌≡◌, ℕ, zero, suc, ◌+◌, ◌<◌, ◌≤◌, ◌^◌, inl, inr, Bool, true, false}
-use Rattle.problem_builder.proofs.Common.{cond, Option, Some, None, List, [], ◌∷◌, refl, sym, ap, subst, arith, nat_le, ◌==◌, sum_by, list_any, fold, leb-false}
-use Rattle.problem_builder.proofs.Common.{false≢true, Entries, conductance_of, flow_magnitude, In, fault_of, has_small_branch, NoBound, Cell, Low}
-use Rattle.problem_builder.proofs.Common.{In-filter_map}
+use Rattle.problem_builder.proofs.Common.{filter_map, option_map, refusal_of, or_parts, ◌≡◌, ℕ, zero, suc, ◌+◌, ◌<◌, ◌≤◌, ◌^◌, inl, inr, Bool, true, false, cond, Option, Some, None, List, [], ◌∷◌}
+use Rattle.problem_builder.proofs.Common.{refl, sym, ap, subst, arith, nat_le, ◌==◌, sum_by, list_any, fold, leb-false, false≢true, Entries, conductance_of, flow_magnitude, In, fault_of}
+use Rattle.problem_builder.proofs.Common.{has_small_branch, NoBound, Cell, Low, In-filter_map}
 
 cond_none : (b : Bool) (x : ℕ) (o : Option ℕ) → cond b (Some x) o ≡ None → (b ≡ false) × (o ≡ None)
 cond_none true x o e = absurd cc

@@ -1,10 +1,8 @@
 -- The loop over the cells of the grid, a step at a time.
-use Rattle.problem_builder.proofs.Common.{zero, Option, In, filter_map-In, none-some, option_map, HasNoProblem, fault_of, Cell, Low, Some, cases_order}
-use Rattle.problem_builder.proofs.Common.{cons_option, filter_map, filter_map-append, inl, inr, map, refl, Err, IsProblemOf, Ok, Result, AreCellsOver, Branches}
-use Rattle.problem_builder.proofs.Common.{IsFaultOver, IsProblemOver, cell_over, model_branches, step_over, problem_of, refusal_of, unless_refused, whole_step}
-use Rattle.problem_builder.proofs.Common.{◌≡◌, ℕ, suc, ◌+◌, ◌<◌, Bool, true, false, None, List, [], ◌∷◌, ◌++◌, sym, ap, ◌∙◌, arith, Bound, Entries, FlowModel}
-use Rattle.problem_builder.proofs.Common.{TimeStep, cell_count, is_variable, variable_below, passes_next, fails_next, below_is, AreCells, IsCellFault}
-use Rattle.problem_builder.proofs.Common.{map-append, NoBound, BoundFault, Memory}
+use Rattle.problem_builder.proofs.Common.{zero, Option, In, filter_map-In, none-some, option_map, HasNoProblem, fault_of, Cell, Low, Some, cases_order, cons_option, filter_map, filter_map-append, inl}
+use Rattle.problem_builder.proofs.Common.{inr, map, refl, Err, IsProblemOf, Ok, Result, AreCellsOver, Branches, IsFaultOver, IsProblemOver, cell_over, model_branches, step_over, problem_of}
+use Rattle.problem_builder.proofs.Common.{refusal_of, unless_refused, whole_step, ◌≡◌, ℕ, suc, ◌+◌, ◌<◌, Bool, true, false, None, List, [], ◌∷◌, ◌++◌, sym, ap, ◌∙◌, arith, Bound, Entries, FlowModel}
+use Rattle.problem_builder.proofs.Common.{TimeStep, cell_count, is_variable, variable_below, passes_next, fails_next, below_is, AreCells, IsCellFault, map-append, NoBound, BoundFault, Memory}
 use Rattle.step_problem.specs.declared.refusal.BoundFault.TheVariants.{NoBound as Refused}
 
 module _ (m : FlowModel) (s : ℕ) (at : TimeStep) (old : List Bound) (b : Branches) where

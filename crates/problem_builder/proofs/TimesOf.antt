@@ -1,8 +1,7 @@
 -- The times of a model: a step of one of its periods; and that each valid model meets the premises of a step.
-use Rattle.problem_builder.proofs.Common.{◌-◌, inl, inr, List, [], ◌∷◌, length, refl, subst, arith, Contains, flat_map, range_with_len, FlowModel, TimeStep}
-use Rattle.problem_builder.proofs.Common.{period_at, no_period, steps_of, IsModel, In, map-In, IsTimeOf, ℕ, zero, suc, ◌+◌, ◌≤◌, ◌≡◌, ◌++◌, map, sym, ints, Dec}
-use Rattle.problem_builder.proofs.Common.{IsHeadNumber, EnclosesSigned, widest, number, cell_count, length-replicate, All-replicate, IsHead, start_head, Bound}
-use Rattle.problem_builder.proofs.Common.{get_or-replicate, no_bound, dec_at, ModelsAreBuildable, times}
+use Rattle.problem_builder.proofs.Common.{◌-◌, inl, inr, List, [], ◌∷◌, length, refl, subst, arith, Contains, flat_map, range_with_len, FlowModel, TimeStep, period_at, no_period, steps_of, IsModel}
+use Rattle.problem_builder.proofs.Common.{In, map-In, IsTimeOf, ℕ, zero, suc, ◌+◌, ◌≤◌, ◌≡◌, ◌++◌, map, sym, ints, Dec, IsHeadNumber, EnclosesSigned, widest, number, cell_count, length-replicate}
+use Rattle.problem_builder.proofs.Common.{All-replicate, IsHead, start_head, Bound, get_or-replicate, no_bound, dec_at, ModelsAreBuildable, times}
 use Rattle.problem_builder.proofs.Members.{In-append, range-In, In-Contains}
 
 pub flat-In : {X Y : Type 0} (f : X → List Y) (xs : List X) (y : Y) → In (flat_map f xs) y → (x : X) × In xs x × In (f x) y

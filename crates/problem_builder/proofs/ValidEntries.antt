@@ -1,7 +1,6 @@
 -- The entries of a cell are those of valid lists.
-use Rattle.problem_builder.proofs.Common.{ℕ, ◌≤◌, ◌++◌, arith, All, ◌≡◌, ◌-◌, ◌<◌, length, sym, subst, All-append, All-filter, All-weaker, ◌==◌, Entry, Well}
-use Rattle.problem_builder.proofs.Common.{FlowModel, cell_count, cell_of, entries_of, local_entries, period_at, entries, IsModel, IsPeriod, IsEntryValid}
-use Rattle.problem_builder.proofs.Common.{no_period, Period, IsEntryIn, List, AreEntriesIn, Wide, most_cells}
+use Rattle.problem_builder.proofs.Common.{ℕ, ◌≤◌, ◌++◌, arith, All, ◌≡◌, ◌-◌, ◌<◌, length, sym, subst, All-append, All-filter, All-weaker, ◌==◌, Entry, Well, FlowModel, cell_count, cell_of}
+use Rattle.problem_builder.proofs.Common.{entries_of, local_entries, period_at, entries, IsModel, IsPeriod, IsEntryValid, no_period, Period, IsEntryIn, List, AreEntriesIn, Wide, most_cells}
 use Rattle.model_types.specs.declared.entry.Entry.TheVariants.{General, River, Drain}
 
 pub wider : (n : ℕ) (x : Entry) → n ≤ most_cells Wide → IsEntryValid n x → IsEntryValid (most_cells Wide) x

@@ -1,31 +1,17 @@
 -- The cells of a step's problem: for each source of a variable cell one entry, in the order of the sources. The
 -- model's definitions say what a source is; these say by which whole numbers it is known (`whole_river` and so on).
 use Rattle.std.specs.Prelude.{◌≡◌, ℕ, ◌≤◌, ◌-ℤ◌, ◌++◌, List, Option, Some, map, true}
-use Rattle.std.specs.List.{filter_map}
-use Rattle.std.specs.Option.{option_to_list}
-use Rattle.step_problem.specs.declared.heads.Bound.{Bound}
-use Rattle.step_problem.specs.declared.entry.FixedKind.{FixedKind}
-use Rattle.step_problem.specs.declared.entry.FixedKind.TheVariants.{Constant, General, Storage}
-use Rattle.step_problem.specs.declared.entry.FlowKind.{FlowKind}
-use Rattle.step_problem.specs.declared.entry.FlowKind.TheVariants.{Wells, Recharge}
-use Rattle.step_problem.specs.declared.entry.Flow.{Flow}
-use Rattle.step_problem.specs.declared.entry.Link.{Link}
-use Rattle.step_problem.specs.declared.entry.Fixed.{Fixed}
-use Rattle.step_problem.specs.declared.entry.River.{River}
-use Rattle.step_problem.specs.declared.entry.Drain.{Drain}
-use Rattle.step_problem.specs.declared.entry.Evap.{Evap}
-use Rattle.step_problem.specs.Entries.{Entries}
-use Rattle.step_problem.specs.{lower_at, upper_at}
-use Rattle.model_types.specs.declared.face.Axis.{Axis}
-use Rattle.model_types.specs.declared.face.Face.{Face}
-use Rattle.model_types.specs.declared.model.FlowModel.{FlowModel}
-use Rattle.model_types.specs.declared.time_steps.TimeStep.{TimeStep}
+use Rattle.std.specs.{List.filter_map, Option.option_to_list}
+use Rattle.step_problem.specs.{declared.heads.Bound.Bound, declared.entry.FixedKind.FixedKind, declared.entry.FixedKind.TheVariants.Constant}
+use Rattle.step_problem.specs.{declared.entry.FixedKind.TheVariants.General, declared.entry.FixedKind.TheVariants.Storage, declared.entry.FlowKind.FlowKind}
+use Rattle.step_problem.specs.{declared.entry.FlowKind.TheVariants.Wells, declared.entry.FlowKind.TheVariants.Recharge, declared.entry.Flow.Flow}
+use Rattle.step_problem.specs.{declared.entry.Link.Link, declared.entry.Fixed.Fixed, declared.entry.River.River, declared.entry.Drain.Drain}
+use Rattle.step_problem.specs.{declared.entry.Evap.Evap, Entries.Entries, lower_at, upper_at}
+use Rattle.model_types.specs.{declared.face.Axis.Axis, declared.face.Face.Face, declared.model.FlowModel.FlowModel, declared.time_steps.TimeStep.TimeStep}
 use Rattle.model_types.specs.{index_of, EvapSource, FixedSource, FlowSource, RiverSource, DrainSource, constant_faces, variable_faces, flow_sources, as_general}
 use Rattle.model_types.specs.{has_after, local_entries, storage_at, river_sources, drain_sources, evap_sources, ToConstant, ToGeneral, FromStorage, Pumped}
 use Rattle.model_types.specs.{Received, variable_below, variable_cells}
-use Rattle.conductance_bounds.specs.declared.pair.Pair.{Pair}
-use Rattle.conductance_bounds.specs.declared.pair.FlowPair.{FlowPair}
-use Rattle.conductance_bounds.specs.{evap_term, capped_pair}
+use Rattle.conductance_bounds.specs.{declared.pair.Pair.Pair, declared.pair.FlowPair.FlowPair, evap_term, capped_pair}
 use Rattle.problem_builder.specs.GridHeads.{cond_pair, well_pair, head_bound, recharge_pair, constant_bound, storage_pair}
 use Rattle.problem_builder.specs.Widths.{IsBranch, face_pair}
 

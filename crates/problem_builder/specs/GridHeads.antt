@@ -1,25 +1,15 @@
 -- Bounds of the heads of all cells of the grid, by cell number, in units of 10^-9.
 use Rattle.std.specs.Prelude.{◌≡◌, ℕ, ◌<◌, ◌⊎◌, true, List, All, Contains, length, ◌-◌, ℤ, false, Option, Some, None, take, ◌+◌, pos, ◌≤ℤ◌, ◌≤◌, ◌^◌, cond, map}
-use Rattle.decimal_input.specs.{Fraction, EnclosesSigned, size, number, IsSignedCeiling}
-use Rattle.step_problem.specs.declared.heads.Bound.{Bound}
-use Rattle.step_problem.specs.declared.entry.Fixed.{Fixed}
-use Rattle.step_problem.specs.Entries.{Entries}
-use Rattle.step_problem.specs.{entries_at, lower_at, upper_at, no_bound, IsHead}
-use Rattle.model_types.specs.declared.model.FlowModel.{FlowModel}
-use Rattle.model_types.specs.{cell_count, is_active, dec_at, period_at, is_constant, given_in, last_given, IsPositive, is_variable, number_one, IsPeriod}
+use Rattle.decimal_input.specs.{Fraction, EnclosesSigned, size, number, IsSignedCeiling, declared.dec.Dec.Dec}
+use Rattle.step_problem.specs.{declared.heads.Bound.Bound, declared.entry.Fixed.Fixed, Entries.Entries, entries_at, lower_at, upper_at, no_bound, IsHead}
+use Rattle.step_problem.specs.{declared.entry.FixedKind.TheVariants.Storage}
+use Rattle.model_types.specs.{declared.model.FlowModel.FlowModel, cell_count, is_active, dec_at, period_at, is_constant, given_in, last_given, IsPositive}
+use Rattle.model_types.specs.{is_variable, number_one, IsPeriod, declared.time_steps.TimeStep.TimeStep, declared.period.Period.Period}
 use Rattle.model_types.specs.declared.entry.Given.{Given}
-use Rattle.model_types.specs.declared.time_steps.TimeStep.{TimeStep}
 use Rattle.conductance_bounds.specs.{recharge_term, Number, storage_term, IsUsable, factors_of as step_factors, capped_pair, capped_flow, head_pair, part}
-use Rattle.conductance_bounds.specs.{given_pair}
-use Rattle.conductance_bounds.specs.declared.head.HeadPair.{HeadPair}
-use Rattle.conductance_bounds.specs.declared.pair.FlowPair.{FlowPair}
+use Rattle.conductance_bounds.specs.{given_pair, declared.head.HeadPair.HeadPair, declared.pair.FlowPair.FlowPair, declared.storage.Factors.Factors}
+use Rattle.conductance_bounds.specs.{declared.pair.Pair.Pair, declared.part.Part.Part}
 use Rattle.std.specs.List.{range_with_len}
-use Rattle.decimal_input.specs.declared.dec.Dec.{Dec}
-use Rattle.model_types.specs.declared.period.Period.{Period}
-use Rattle.conductance_bounds.specs.declared.storage.Factors.{Factors}
-use Rattle.conductance_bounds.specs.declared.pair.Pair.{Pair}
-use Rattle.conductance_bounds.specs.declared.part.Part.{Part}
-use Rattle.step_problem.specs.declared.entry.FixedKind.TheVariants.{Storage}
 
 -- Numbers of the input as whole bounds: conductances in units of 10^-s, flows of 10^-(s+9), heads of 10^-9.
 -- a conductance as its own formula

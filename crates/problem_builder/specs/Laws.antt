@@ -1,14 +1,10 @@
 -- Problems meet their conditions: for valid models and their times.
 use Rattle.std.specs.Prelude.{◌≡◌, ℕ, ◌<◌, true, ℤ, pos, neg_ℤ, List, Contains, replicate}
 use Rattle.decimal_input.specs.{EnclosesSigned}
-use Rattle.step_problem.specs.declared.heads.Bound.{Bound}
-use Rattle.step_problem.specs.Entries.{Entries}
-use Rattle.step_problem.specs.{IsProblem, IsHead, head_limit}
-use Rattle.model_types.specs.declared.model.FlowModel.{FlowModel}
-use Rattle.model_types.specs.declared.time_steps.TimeStep.{TimeStep}
-use Rattle.model_types.specs.{cell_count, constant_head, is_constant, start_head, times, IsModel}
-use Rattle.problem_builder.specs.GridHeads.{IsConstantPair, AreGridHeads, AreStartHeads, HeadsEnclose}
-use Rattle.problem_builder.specs.Problems.{IsProblemOf}
+use Rattle.step_problem.specs.{declared.heads.Bound.Bound, Entries.Entries, IsProblem, IsHead, head_limit}
+use Rattle.model_types.specs.{declared.model.FlowModel.FlowModel, declared.time_steps.TimeStep.TimeStep, cell_count, constant_head, is_constant, start_head}
+use Rattle.model_types.specs.{times, IsModel}
+use Rattle.problem_builder.specs.{GridHeads.IsConstantPair, GridHeads.AreGridHeads, GridHeads.AreStartHeads, GridHeads.HeadsEnclose, Problems.IsProblemOf}
 
 -- a problem meets the conditions on problems
 abbrev pub ProblemFits : Type 0

@@ -1,21 +1,14 @@
 -- The bounds of a cell's entries of WEL, RIV, DRN and GHB.
 use Rattle.std.specs.Prelude.{◌≡◌, ℕ, ◌<◌, All, List, [], ◌++◌, Option, Some, None, slice_index_or}
-use Rattle.std.specs.Global.{Box}
-use Rattle.std.specs.List.{filter_map}
-use Rattle.std.specs.Option.{option_map}
-use Rattle.step_problem.specs.declared.entry.Flow.{Flow}
-use Rattle.step_problem.specs.declared.entry.FlowKind.TheVariants.{Wells}
-use Rattle.step_problem.specs.declared.entry.Fixed.{Fixed}
-use Rattle.step_problem.specs.declared.entry.FixedKind.TheVariants.{General}
-use Rattle.step_problem.specs.declared.entry.River.{River}
-use Rattle.step_problem.specs.declared.entry.Drain.{Drain}
-use Rattle.model_types.specs.declared.entry.Entry.{Entry}
-use Rattle.model_types.specs.declared.period.Period.{Period}
-use Rattle.model_types.specs.declared.entry.Entry.TheVariants.{Well, River as RiverEntry, Drain as DrainEntry, General as GeneralEntry}
-use Rattle.model_types.specs.{cell_of, entries_of, as_river, as_drain, IsEntryValid, most_cells}
+use Rattle.std.specs.{Global.Box, List.filter_map, Option.option_map}
+use Rattle.step_problem.specs.{declared.entry.Flow.Flow, declared.entry.FlowKind.TheVariants.Wells, declared.entry.Fixed.Fixed}
+use Rattle.step_problem.specs.{declared.entry.FixedKind.TheVariants.General, declared.entry.River.River, declared.entry.Drain.Drain}
+use Rattle.model_types.specs.{declared.entry.Entry.Entry, declared.period.Period.Period, declared.entry.Entry.TheVariants.Well}
+use Rattle.model_types.specs.{declared.entry.Entry.TheVariants.River as RiverEntry, declared.entry.Entry.TheVariants.Drain as DrainEntry}
+use Rattle.model_types.specs.{declared.entry.Entry.TheVariants.General as GeneralEntry, cell_of, entries_of, as_river, as_drain, IsEntryValid, most_cells}
+use Rattle.model_types.specs.{declared.limits.Limits.TheVariants.Wide}
 use Rattle.problem_builder.specs.Cells.{flow_of_pair, known_head, whole_river, whole_drain}
 use Rattle.problem_builder.specs.GridHeads.{well_pair, cond_pair, head_bound}
-use Rattle.model_types.specs.declared.limits.Limits.TheVariants.{Wide}
 
 -- by kind, in the order of the lists
 pub record LocalBounds : Type 0 where

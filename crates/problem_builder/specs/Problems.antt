@@ -1,27 +1,19 @@
 -- The problem of a time step, and the refusal of a step that has none.
 use Rattle.std.specs.Prelude.{◌≡◌, ℕ, ◌<◌, true, List, [], ◌∷◌, Result, Ok, Err, Some, None, ◌^◌, ◌&&◌, ◌||◌, ◌==◌, nat_le, Bool, false, cond, map, Option}
-use Rattle.std.specs.List.{list_any, filter_map}
-use Rattle.std.specs.Option.{option_map}
-use Rattle.step_problem.specs.declared.heads.Bound.{Bound}
-use Rattle.step_problem.specs.declared.heads.Side.TheVariants.{Low}
-use Rattle.step_problem.specs.declared.place.NoBound.{NoBound}
-use Rattle.step_problem.specs.declared.place.Place.TheVariants.{Cell}
-use Rattle.step_problem.specs.Entries.{Entries}
-use Rattle.model_types.specs.declared.model.FlowModel.{FlowModel}
-use Rattle.model_types.specs.declared.time_steps.TimeStep.{TimeStep}
-use Rattle.model_types.specs.{cell_count, is_variable, variable_cells, period_at}
+use Rattle.std.specs.{List.list_any, List.filter_map, Option.option_map}
+use Rattle.step_problem.specs.{declared.heads.Bound.Bound, declared.heads.Side.TheVariants.Low, declared.place.NoBound.NoBound}
+use Rattle.step_problem.specs.{declared.place.Place.TheVariants.Cell, Entries.Entries, declared.refusal.BoundFault.BoundFault}
+use Rattle.step_problem.specs.{declared.refusal.BoundFault.TheVariants.NoBound as Refused, declared.refusal.BoundFault.TheVariants.Memory}
+use Rattle.step_problem.specs.{declared.entry.FixedKind.FixedKind, declared.entry.FixedKind.TheVariants.Constant, declared.entry.FixedKind.TheVariants.General}
+use Rattle.step_problem.specs.{declared.entry.FixedKind.TheVariants.Storage, declared.refusal.StepRefusal.TheVariants.ConductanceTooSmall}
+use Rattle.step_problem.specs.{declared.refusal.StepRefusal.TheVariants.ConductanceTooLarge, declared.refusal.StepRefusal.TheVariants.FlowTooLarge, number_of}
+use Rattle.step_problem.specs.{conductance_of, flow_magnitude}
+use Rattle.model_types.specs.{declared.model.FlowModel.FlowModel, declared.time_steps.TimeStep.TimeStep, cell_count, is_variable, variable_cells, period_at}
 use Rattle.decimal_input.specs.{Fraction}
 use Rattle.cell_balance.specs.{EnclosesStep}
 use Rattle.flow_equations.specs.{exact_step}
-use Rattle.step_problem.specs.declared.refusal.BoundFault.{BoundFault}
-use Rattle.step_problem.specs.declared.refusal.BoundFault.TheVariants.{NoBound as Refused, Memory}
-use Rattle.problem_builder.specs.Cells.{Branches, below_over, cell_over, model_branches, step_over}
-use Rattle.problem_builder.specs.GridHeads.{HeadsEnclose, IsActive, IsCellNamed, HasOldHeads}
-use Rattle.step_problem.specs.declared.entry.FixedKind.{FixedKind}
-use Rattle.step_problem.specs.declared.entry.FixedKind.TheVariants.{Constant, General, Storage}
-use Rattle.step_problem.specs.declared.refusal.StepRefusal.TheVariants.{ConductanceTooSmall, ConductanceTooLarge, FlowTooLarge}
-use Rattle.step_problem.specs.{number_of, conductance_of, flow_magnitude}
-use Rattle.problem_builder.specs.Tables.{Inputs, branches_of}
+use Rattle.problem_builder.specs.{Cells.Branches, Cells.below_over, Cells.cell_over, Cells.model_branches, Cells.step_over, GridHeads.HeadsEnclose}
+use Rattle.problem_builder.specs.{GridHeads.IsActive, GridHeads.IsCellNamed, GridHeads.HasOldHeads, Tables.Inputs, Tables.branches_of}
 
 -- The refusals of a cell, in their order.
 -- a branch to a constant-head neighbour

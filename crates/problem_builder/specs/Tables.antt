@@ -1,30 +1,19 @@
 -- The contents of the builder's tables.
 use Rattle.std.specs.Prelude.{◌≡◌, ℕ, ◌≤◌, pos, Bool, cond, List, length, slice_index_or, Option, Some, None, ◌-◌, true}
-use Rattle.step_problem.specs.declared.heads.Bound.{Bound}
-use Rattle.step_problem.specs.{no_bound}
+use Rattle.step_problem.specs.{declared.heads.Bound.Bound, no_bound, declared.entry.Evap.Evap}
 use Rattle.scaled_decimal.specs.declared.decimal.Sd.{Sd}
-use Rattle.model_types.specs.declared.face.Axis.{Axis}
-use Rattle.model_types.specs.declared.face.Axis.TheVariants.{Row, Column, Vertical}
-use Rattle.model_types.specs.declared.given_heads.Kind.TheVariants.{NoFlow}
-use Rattle.model_types.specs.declared.model.FlowModel.{FlowModel}
-use Rattle.model_types.specs.declared.time_steps.TimeStep.{TimeStep}
-use Rattle.model_types.specs.{cell_count, HasSize, period_at, local_entries, IsModel, kind_of, index_of, given_in, is_active, recharge_at, evap_at, storage_at}
-use Rattle.conductance_bounds.specs.declared.span.Span.{Span}
-use Rattle.conductance_bounds.specs.declared.pair.Pair.{Pair}
-use Rattle.problem_builder.specs.declared.tables.FacePairs.{FacePairs}
-use Rattle.problem_builder.specs.declared.tables.Tables.{Tables}
-use Rattle.problem_builder.specs.declared.index.PeriodTables.{PeriodTables}
-use Rattle.problem_builder.specs.declared.step.StepTables.{StepTables}
+use Rattle.model_types.specs.{declared.face.Axis.Axis, declared.face.Axis.TheVariants.Row, declared.face.Axis.TheVariants.Column}
+use Rattle.model_types.specs.{declared.face.Axis.TheVariants.Vertical, declared.given_heads.Kind.TheVariants.NoFlow, declared.model.FlowModel.FlowModel}
+use Rattle.model_types.specs.{declared.time_steps.TimeStep.TimeStep, cell_count, HasSize, period_at, local_entries, IsModel, kind_of, index_of, given_in}
+use Rattle.model_types.specs.{is_active, recharge_at, evap_at, storage_at, declared.given_heads.Kind.Kind, declared.grid.Grid.Grid}
+use Rattle.conductance_bounds.specs.{declared.span.Span.Span, declared.pair.Pair.Pair, declared.pair.FlowPair.FlowPair}
+use Rattle.problem_builder.specs.{declared.tables.FacePairs.FacePairs, declared.tables.Tables.Tables, declared.index.PeriodTables.PeriodTables}
+use Rattle.problem_builder.specs.{declared.step.StepTables.StepTables, Widths.IsThickness, Widths.IsBedBelow, Widths.HasConductance, Widths.Filled}
+use Rattle.problem_builder.specs.{GridHeads.AreConstantHeads, GridHeads.AreGridHeads, GridHeads.IsTimeOf, GridHeads.AreFactorsOf, GridHeads.HasEvenSteps}
+use Rattle.problem_builder.specs.{GridHeads.HasEvenStorage, GridHeads.kept_after, GridHeads.recharge_pair, LocalBounds.AreLocalBounds, LocalBounds.local_in}
+use Rattle.problem_builder.specs.{Cells.AreBranches, Cells.Branches, Cells.whole_evap}
 use Rattle.std.specs.Option.{option_map}
-use Rattle.problem_builder.specs.Widths.{IsThickness, IsBedBelow, HasConductance, Filled}
-use Rattle.problem_builder.specs.GridHeads.{AreConstantHeads, AreGridHeads, IsTimeOf, AreFactorsOf, HasEvenSteps, HasEvenStorage, kept_after, recharge_pair}
-use Rattle.problem_builder.specs.LocalBounds.{AreLocalBounds, local_in}
-use Rattle.step_problem.specs.declared.entry.Evap.{Evap}
-use Rattle.conductance_bounds.specs.declared.pair.FlowPair.{FlowPair}
 use Rattle.model_types.specs.declared.entry.Given.{Given}
-use Rattle.model_types.specs.declared.given_heads.Kind.{Kind}
-use Rattle.problem_builder.specs.Cells.{AreBranches, Branches, whole_evap}
-use Rattle.model_types.specs.declared.grid.Grid.{Grid}
 
 -- The contents of the tables of a stress period, cell by cell.
 abbrev pub IsKind : FlowModel → ℕ → ℕ → Kind → Type 0

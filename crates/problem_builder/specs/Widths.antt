@@ -1,15 +1,10 @@
 -- Pairs of the branches between cells, and the contents of tables by cell.
 use Rattle.std.specs.Prelude.{◌≡◌, ℕ, ◌+◌, ◌<◌, ◌⊎◌, true, List, Option, None, Some, length, slice_index_or}
-use Rattle.model_types.specs.declared.model.FlowModel.{FlowModel}
-use Rattle.model_types.specs.declared.face.Axis.{Axis}
-use Rattle.model_types.specs.{stride, has_after, cell_count, layer_size, is_active, bed_thickness, delr_at, delc_at, hk_at, hani_at, vka_at, vkcb_at, is_ratio}
-use Rattle.model_types.specs.{IsPositive}
-use Rattle.conductance_bounds.specs.declared.pair.Pair.{Pair}
-use Rattle.conductance_bounds.specs.declared.horizontal.Half.{Half}
-use Rattle.conductance_bounds.specs.declared.horizontal.ColHalf.{ColHalf}
-use Rattle.conductance_bounds.specs.declared.vertical.VertHalf.{VertHalf}
-use Rattle.conductance_bounds.specs.{face_term, bed_span, capped_pair, IsZero, AreThick, thick_span}
-use Rattle.conductance_bounds.specs.declared.span.Span.{Span}
+use Rattle.model_types.specs.{declared.model.FlowModel.FlowModel, declared.face.Axis.Axis, stride, has_after, cell_count, layer_size, is_active, bed_thickness}
+use Rattle.model_types.specs.{delr_at, delc_at, hk_at, hani_at, vka_at, vkcb_at, is_ratio, IsPositive}
+use Rattle.conductance_bounds.specs.{declared.pair.Pair.Pair, declared.horizontal.Half.Half, declared.horizontal.ColHalf.ColHalf}
+use Rattle.conductance_bounds.specs.{declared.vertical.VertHalf.VertHalf, face_term, bed_span, capped_pair, IsZero, AreThick, thick_span}
+use Rattle.conductance_bounds.specs.{declared.span.Span.Span}
 
 -- the whole bounds of the conductance from a cell to the next one along an axis
 abbrev pub face_pair : FlowModel → ℕ → Axis → ℕ → Pair

@@ -1,15 +1,9 @@
 -- The hull of two problems is a problem, if the sums of its cells fit.
-use Rattle.problem_hull.proofs.Common.{◌≡◌, ◌<◌, ◌≤◌, ◌^◌, ℕ, ℤ, arith, List, length, min, max, sym, subst, get_or, All, Contains, int_min, int_max, ints}
-use Rattle.problem_hull.proofs.Common.{clamps, Entries, entries_at, link_at, IsHead, FixedFits, RiverFits, DrainFits, EvapFits, CellFits, LinksFit, IsProblem}
-use Rattle.problem_hull.proofs.Common.{conductance_of, flow_magnitude, IsHullPair, fixed_hull, river_hull, drain_hull, evap_hull, None, ap, cell_hull}
-use Rattle.problem_hull.proofs.Common.{cell_shape, first_refusal, sum_refusal, IsHull, cell_limit}
-use Rattle.step_problem.specs.declared.entry.Link.{Link}
-use Rattle.step_problem.specs.declared.entry.Fixed.{Fixed}
-use Rattle.step_problem.specs.declared.entry.River.{River}
-use Rattle.step_problem.specs.declared.entry.Drain.{Drain}
-use Rattle.step_problem.specs.declared.entry.Evap.{Evap}
-use Rattle.problem_hull.proofs.Hulls.{hull_at, hull_count, same_lengths, zip_all}
-use Rattle.problem_hull.proofs.Refusals.{conductances_are_small, flows_are_small, none_of_each}
+use Rattle.problem_hull.proofs.Common.{◌≡◌, ◌<◌, ◌≤◌, ◌^◌, ℕ, ℤ, arith, List, length, min, max, sym, subst, get_or, All, Contains, int_min, int_max, ints, clamps, Entries, entries_at, link_at, IsHead}
+use Rattle.problem_hull.proofs.Common.{FixedFits, RiverFits, DrainFits, EvapFits, CellFits, LinksFit, IsProblem, conductance_of, flow_magnitude, IsHullPair, fixed_hull, river_hull, drain_hull}
+use Rattle.problem_hull.proofs.Common.{evap_hull, None, ap, cell_hull, cell_shape, first_refusal, sum_refusal, IsHull, cell_limit}
+use Rattle.step_problem.specs.{declared.entry.Link.Link, declared.entry.Fixed.Fixed, declared.entry.River.River, declared.entry.Drain.Drain, declared.entry.Evap.Evap}
+use Rattle.problem_hull.proofs.{Hulls.hull_at, Hulls.hull_count, Hulls.same_lengths, Hulls.zip_all, Refusals.conductances_are_small, Refusals.flows_are_small, Refusals.none_of_each}
 
 min_head : (a c : ℤ) → IsHead a → IsHead c → IsHead (int_min a c)
 min_head a c f g = record { above = omega (arith, ints, clamps, f.above, g.above); below = omega (arith, ints, clamps, f.below, g.below) }

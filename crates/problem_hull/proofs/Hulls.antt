@@ -1,8 +1,7 @@
 -- Hulls of two lists of one shape, item by item; and lists that have none.
-use Rattle.problem_hull.proofs.Common.{◌≡◌, ◌+◌, ◌<◌, [], ◌∷◌, ◌++◌, ◌∙◌, ℕ, zero, suc, arith, List, get_or, length, take, map, All, refl, ap, sym, take_more}
-use Rattle.problem_hull.proofs.Common.{get_or-map, get_or_default, length-map, map-id, map-append, zip_with, IsHull, IsHullOf, AreAlike, IsUnlike, cell_hull}
-use Rattle.problem_hull.proofs.Common.{cell_shape, link_shape, link_hull, flow_shape, flow_hull, fixed_shape, fixed_hull, river_shape, river_hull, drain_shape}
-use Rattle.problem_hull.proofs.Common.{drain_hull, evap_shape, evap_hull, Entries, entries_at, no_entries}
+use Rattle.problem_hull.proofs.Common.{◌≡◌, ◌+◌, ◌<◌, [], ◌∷◌, ◌++◌, ◌∙◌, ℕ, zero, suc, arith, List, get_or, length, take, map, All, refl, ap, sym, take_more, get_or-map, get_or_default, length-map}
+use Rattle.problem_hull.proofs.Common.{map-id, map-append, zip_with, IsHull, IsHullOf, AreAlike, IsUnlike, cell_hull, cell_shape, link_shape, link_hull, flow_shape, flow_hull, fixed_shape, fixed_hull}
+use Rattle.problem_hull.proofs.Common.{river_shape, river_hull, drain_shape, drain_hull, evap_shape, evap_hull, Entries, entries_at, no_entries}
 use Rattle.std.proofs.lemmas.List.Elements.{All-nil, All-cons, All-head, All-tail}
 use Rattle.problem_hull.specs.declared.problem.HullFault.{HullFault}
 use Rattle.problem_hull.specs.declared.problem.HullFault.TheVariants.{NotAlike, NoBound, Memory}

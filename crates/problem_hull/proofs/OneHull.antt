@@ -1,6 +1,5 @@
 -- The hull of a problem and itself is that problem.
-use Rattle.problem_hull.proofs.Common.{◌≡◌, refl, arith, ℕ, ℤ, List, min, max, int_min, int_max, ints, clamps, Entries, IsHull, flow_hull, fixed_hull}
-use Rattle.problem_hull.proofs.Common.{river_hull, drain_hull, evap_hull, cell_hull}
+use Rattle.problem_hull.proofs.Common.{◌≡◌, refl, arith, ℕ, ℤ, List, min, max, int_min, int_max, ints, clamps, Entries, IsHull, flow_hull, fixed_hull, river_hull, drain_hull, evap_hull, cell_hull}
 use Rattle.problem_hull.proofs.Hulls.{zip_itself}
 
 low : (a : ℤ) → a ≡ int_min a a

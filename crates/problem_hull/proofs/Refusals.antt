@@ -1,7 +1,6 @@
 -- A hull that is a problem has no refusal.
-use Rattle.problem_hull.proofs.Common.{◌≡◌, ◌<◌, ◌^◌, ◌∙◌, [], ◌∷◌, ℕ, zero, suc, arith, None, Option, Some, List, get_or, length, sym, ap, refl}
-use Rattle.problem_hull.proofs.Common.{conductance_of, flow_magnitude, IsProblem, Entries, entries_at, no_entries, IsHull, sum_refusal, first_refusal}
-use Rattle.problem_hull.proofs.Common.{IsTooLarge, get_or_default, refusal_at}
+use Rattle.problem_hull.proofs.Common.{◌≡◌, ◌<◌, ◌^◌, ◌∙◌, [], ◌∷◌, ℕ, zero, suc, arith, None, Option, Some, List, get_or, length, sym, ap, refl, conductance_of, flow_magnitude, IsProblem, Entries}
+use Rattle.problem_hull.proofs.Common.{entries_at, no_entries, IsHull, sum_refusal, first_refusal, IsTooLarge, get_or_default, refusal_at}
 use Rattle.std.proofs.lemmas.Bool.Decides.{nat_tests}
 use Rattle.std.specs.Option.{option_map, option_or}
 use Rattle.step_problem.specs.declared.place.NoBound.{NoBound}

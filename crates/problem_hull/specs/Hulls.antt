@@ -2,13 +2,8 @@
 -- two upper ones.
 use Rattle.std.specs.Prelude.{◌≡◌, ℤ, List, min, max, [], ◌∷◌, pos, map}
 use Rattle.std.specs.Int.{int_min, int_max}
-use Rattle.step_problem.specs.declared.entry.Link.{Link}
-use Rattle.step_problem.specs.declared.entry.Flow.{Flow}
-use Rattle.step_problem.specs.declared.entry.Fixed.{Fixed}
-use Rattle.step_problem.specs.declared.entry.River.{River}
-use Rattle.step_problem.specs.declared.entry.Drain.{Drain}
-use Rattle.step_problem.specs.declared.entry.Evap.{Evap}
-use Rattle.step_problem.specs.Entries.{Entries}
+use Rattle.step_problem.specs.{declared.entry.Link.Link, declared.entry.Flow.Flow, declared.entry.Fixed.Fixed, declared.entry.River.River}
+use Rattle.step_problem.specs.{declared.entry.Drain.Drain, declared.entry.Evap.Evap, Entries.Entries}
 
 -- The shape of a problem: its cells, their links, and which entries each cell has, without the bounds of the entries.
 -- an entry with all its bounds at 0; a link keeps its bounds, since conductances between cells are of the shape

@@ -1,12 +1,9 @@
 -- Why two problems have no hull that is a problem.
 use Rattle.std.specs.Prelude.{◌≡◌, ℕ, ◌^◌, nat_le, cond, List, [], ◌∷◌, Option, Some, None}
 use Rattle.std.specs.Option.{option_map, option_or}
-use Rattle.step_problem.specs.declared.heads.Side.TheVariants.{Low}
-use Rattle.step_problem.specs.declared.place.NoBound.{NoBound}
-use Rattle.step_problem.specs.declared.place.Place.TheVariants.{Cell}
-use Rattle.step_problem.specs.declared.refusal.StepRefusal.TheVariants.{ConductanceTooLarge, FlowTooLarge}
-use Rattle.step_problem.specs.{number_of, conductance_of, flow_magnitude, IsProblem}
-use Rattle.step_problem.specs.Entries.{Entries}
+use Rattle.step_problem.specs.{declared.heads.Side.TheVariants.Low, declared.place.NoBound.NoBound, declared.place.Place.TheVariants.Cell}
+use Rattle.step_problem.specs.{declared.refusal.StepRefusal.TheVariants.ConductanceTooLarge, declared.refusal.StepRefusal.TheVariants.FlowTooLarge, number_of}
+use Rattle.step_problem.specs.{conductance_of, flow_magnitude, IsProblem, Entries.Entries}
 use Rattle.problem_hull.specs.declared.problem.HullFault.{HullFault}
 use Rattle.problem_hull.specs.declared.problem.HullFault.TheVariants.{NotAlike, NoBound as Refused, Memory}
 use Rattle.problem_hull.specs.Hulls.{AreAlike, IsHull, cell_hull, zip_with}

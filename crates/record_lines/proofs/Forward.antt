@@ -1,8 +1,7 @@
 -- What a reading takes and leaves are words and lines that it was given.
-use Rattle.record_lines.proofs.Common.{◌≡◌, ℕ, Bool, true, false, List, [], ◌∷◌, Option, Some, None, Result, Ok, Err, All, refl, ◌==◌, if◌then◌else◌, lines}
-use Rattle.record_lines.proofs.Common.{words, Refusal, Left, Numbered, has_word, next_number, lines_with_numbers, left_from, is_comment, after_comments}
-use Rattle.record_lines.proofs.Common.{without_comments, Taking, spread, taking, next_word, source, word_taken, next_value, WordsMay, TextMay, folder_name}
-use Rattle.record_lines.proofs.Common.{is_good_name, LineMay, LinesMay, word_at, line_from, line_at, name_at, GivesOnly, All-nil, All-cons, All-head, All-tail}
+use Rattle.record_lines.proofs.Common.{◌≡◌, ℕ, Bool, true, false, List, [], ◌∷◌, Option, Some, None, Result, Ok, Err, All, refl, ◌==◌, if◌then◌else◌, lines, words, Refusal, Left, Numbered, has_word}
+use Rattle.record_lines.proofs.Common.{next_number, lines_with_numbers, left_from, is_comment, after_comments, without_comments, Taking, spread, taking, next_word, source, word_taken, next_value}
+use Rattle.record_lines.proofs.Common.{WordsMay, TextMay, folder_name, is_good_name, LineMay, LinesMay, word_at, line_from, line_at, name_at, GivesOnly, All-nil, All-cons, All-head, All-tail}
 use Rattle.record_lines.specs.declared.free.FreeFault.{FreeFault}
 use Rattle.record_lines.proofs.Readings.{ok_gives_only, err_gives_only, if_passed}
 

@@ -1,11 +1,9 @@
 -- Loops that read the same thing so many times.
-use Rattle.record_lines.proofs.Common.{◌≡◌, ℕ, suc, ◌-◌, ◌+◌, ◌≤◌, ◌<◌, List, [], ◌∷◌, ◌++◌, Result, Ok, Err, refl, sym, ap, append_assoc, arith, append-nil}
-use Rattle.record_lines.proofs.Common.{Refusal, ◌>>=◌, Stops, StopsText, appended_readings, repeated_reading, for_each, each_number, zero, nat_le, true, false}
-use Rattle.record_lines.proofs.Common.{◌⊎◌, inl, inr}
+use Rattle.record_lines.proofs.Common.{◌≡◌, ℕ, suc, ◌-◌, ◌+◌, ◌≤◌, ◌<◌, List, [], ◌∷◌, ◌++◌, Result, Ok, Err, refl, sym, ap, append_assoc, arith, append-nil, Refusal, ◌>>=◌, Stops, StopsText}
+use Rattle.record_lines.proofs.Common.{appended_readings, repeated_reading, for_each, each_number, zero, nat_le, true, false, ◌⊎◌, inl, inr}
 use Rattle.std.proofs.lemmas.Bool.Decides.{leb_tells}
-use Rattle.outside.specs.declared.inputs.InputFault.{InputFault}
-use Rattle.outside.specs.declared.inputs.InputFault.TheVariants.{Refused, ReadFault, Memory}
-use Rattle.outside.specs.declared.inputs.TextFault.{TextFault}
+use Rattle.outside.specs.{declared.inputs.InputFault.InputFault, declared.inputs.InputFault.TheVariants.Refused, declared.inputs.InputFault.TheVariants.ReadFault}
+use Rattle.outside.specs.{declared.inputs.InputFault.TheVariants.Memory, declared.inputs.TextFault.TextFault}
 use Rattle.outside.specs.declared.inputs.TextFault.TheVariants as texts
 
 -- What stops a reading stops what is made of it.

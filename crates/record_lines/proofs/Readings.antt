@@ -1,7 +1,6 @@
 -- What a reading gives, from what its parts give.
-use Rattle.record_lines.proofs.Common.{◌≡◌, ℕ, zero, suc, ◌+◌, ◌*◌, Bool, true, false, if◌then◌else◌, List, [], ◌∷◌, length, All, Result, Ok, Err, refl, subst}
-use Rattle.record_lines.proofs.Common.{arith, GivesOnly, ◌>>=◌, repeated_reading, appended_readings, each_number, FileSet, length-append, All-nil, All-cons}
-use Rattle.record_lines.proofs.Common.{All-append}
+use Rattle.record_lines.proofs.Common.{◌≡◌, ℕ, zero, suc, ◌+◌, ◌*◌, Bool, true, false, if◌then◌else◌, List, [], ◌∷◌, length, All, Result, Ok, Err, refl, subst, arith, GivesOnly, ◌>>=◌}
+use Rattle.record_lines.proofs.Common.{repeated_reading, appended_readings, each_number, FileSet, length-append, All-nil, All-cons, All-append}
 
 module _ {A E : Type 0} {P : A → Type 0} where
   pub ok_gives_only : {x : A} → P x → GivesOnly {A = A} {E = E} P (Ok x)

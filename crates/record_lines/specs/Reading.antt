@@ -1,13 +1,11 @@
 -- What reading a text gives: a value and what is left to be read, or the first refusal; and what a
 -- call may return besides.
 use Rattle.std.specs.Prelude.{◌≡◌, ℕ, zero, suc, ◌+◌, [], ◌∷◌, ◌++◌, Result, Ok, Err, List, Bool, false, if◌then◌else◌}
-use Rattle.outside.specs.declared.inputs.Refusal.{Refusal}
-use Rattle.outside.specs.declared.inputs.TextFault.{TextFault}
-use Rattle.outside.specs.declared.inputs.InputFault.{InputFault}
-use Rattle.outside.specs.declared.inputs.InputFault.TheVariants.{Refused, ReadFault, Memory}
-use Rattle.std.specs.Str.{str_eq_ignore_ascii_case}
-use Rattle.outside.specs.declared.codes.Code.TheVariants.{EndOfFile, BadName}
+use Rattle.outside.specs.{declared.inputs.Refusal.Refusal, declared.inputs.TextFault.TextFault, declared.inputs.InputFault.InputFault}
+use Rattle.outside.specs.{declared.inputs.InputFault.TheVariants.Refused, declared.inputs.InputFault.TheVariants.ReadFault}
+use Rattle.outside.specs.{declared.inputs.InputFault.TheVariants.Memory, declared.codes.Code.TheVariants.EndOfFile, declared.codes.Code.TheVariants.BadName}
 use Rattle.outside.specs.{is_good_name, refusal}
+use Rattle.std.specs.Str.{str_eq_ignore_ascii_case}
 use Rattle.record_lines.specs.Spread.{Numbered, Left}
 use Rattle.outside.specs.declared.inputs.TextFault.TheVariants as texts
 

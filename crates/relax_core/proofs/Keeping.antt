@@ -1,10 +1,9 @@
 -- Every event, and so every list of events, keeps what a state keeps and loosens no word.
-use Rattle.relax_core.proofs.Common.{◌≡◌, ℕ, ◌<◌, List, [], ◌∷◌, length, All, ℤ, sym, subst, arith, All-get_or, All-set, All-weaker, Bound, Side, Low, High}
-use Rattle.relax_core.proofs.Common.{Entries, IsProblem, Edges, AreOnTheWay, IsAsTight, AreNoLooser, tighter_of, other, heads_on, exchange_is_as_tight, is_side}
-use Rattle.relax_core.proofs.Common.{each_side, Event, See, Raise, Sink, Claim, Core, seen_by, with_head, Becomes, IsNamed, Relaxes, Step, Path, WasSeen}
-use Rattle.relax_core.proofs.Common.{IsKept, ap, get_or-set_same, get_or-set_other, length-set, no_bound, lower_at, upper_at, head_of, tighter_first}
-use Rattle.relax_core.proofs.Common.{tighter_second, tighter_is_one, ◌∙◌, IsHead, same_on_the_way, turn_keeps, still_seen, own_turn_keeps_seen, same_seen, refl}
-use Rattle.relax_core.proofs.Common.{IsRelaxedOn, OnTheWay, WereSeen, edge_on, IsExchange}
+use Rattle.relax_core.proofs.Common.{◌≡◌, ℕ, ◌<◌, List, [], ◌∷◌, length, All, ℤ, sym, subst, arith, All-get_or, All-set, All-weaker, Bound, Side, Low, High, Entries, IsProblem, Edges, AreOnTheWay}
+use Rattle.relax_core.proofs.Common.{IsAsTight, AreNoLooser, tighter_of, other, heads_on, exchange_is_as_tight, is_side, each_side, Event, See, Raise, Sink, Claim, Core, seen_by, with_head, Becomes}
+use Rattle.relax_core.proofs.Common.{IsNamed, Relaxes, Step, Path, WasSeen, IsKept, ap, get_or-set_same, get_or-set_other, length-set, no_bound, lower_at, upper_at, head_of, tighter_first}
+use Rattle.relax_core.proofs.Common.{tighter_second, tighter_is_one, ◌∙◌, IsHead, same_on_the_way, turn_keeps, still_seen, own_turn_keeps_seen, same_seen, refl, IsRelaxedOn, OnTheWay, WereSeen}
+use Rattle.relax_core.proofs.Common.{edge_on, IsExchange}
 use mathlib.Core.Logic.{dite}
 use native.Mathlib.Decide.{ℕ_discrete}
 

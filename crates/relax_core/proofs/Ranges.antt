@@ -1,7 +1,7 @@
 -- Every event keeps words and what was seen in range.
-use Rattle.relax_core.proofs.Common.{ℕ, ◌<◌, List, [], length, All, ℤ, sym, subst, ◌∙◌, arith, All-get_or, All-set, Bound, Side, Low, High, Entries, IsHead}
-use Rattle.relax_core.proofs.Common.{IsProblem, relaxed_head, by_cell, other, heads_on, AreWords, is_side, each_side, Event, See, Raise, Sink, Claim, Core}
-use Rattle.relax_core.proofs.Common.{seen_by, with_head, Becomes, IsInRange, IsNamed, Relaxes, Step, tighter_head, heads_in_range}
+use Rattle.relax_core.proofs.Common.{ℕ, ◌<◌, List, [], length, All, ℤ, sym, subst, ◌∙◌, arith, All-get_or, All-set, Bound, Side, Low, High, Entries, IsHead, IsProblem, relaxed_head, by_cell, other}
+use Rattle.relax_core.proofs.Common.{heads_on, AreWords, is_side, each_side, Event, See, Raise, Sink, Claim, Core, seen_by, with_head, Becomes, IsInRange, IsNamed, Relaxes, Step, tighter_head}
+use Rattle.relax_core.proofs.Common.{heads_in_range}
 use Rattle.relax_core.proofs.Keeping.{seen_length, seen_here, seen_else, other_seen}
 
 module _ (p : List Entries) where

@@ -1,6 +1,6 @@
 -- A state's lists as its fields hold them.
-use Rattle.relax_core.proofs.Common.{◌≡◌, ℕ, ◌<◌, List, [], length, map, set, get_or, All, Bool, IsTrue, ◌↔◌, ℤ, sym, subst, ap, ◌∙◌, arith, Vec, Global}
-use Rattle.relax_core.proofs.Common.{map-set, get_or-map, length-map, All-map, Bound, Side, Entries, AreWords, Core, seen_by, with_head, Becomes, IsInRange}
+use Rattle.relax_core.proofs.Common.{◌≡◌, ℕ, ◌<◌, List, [], length, map, set, get_or, All, Bool, IsTrue, ◌↔◌, ℤ, sym, subst, ap, ◌∙◌, arith, Vec, Global, map-set, get_or-map, length-map, All-map}
+use Rattle.relax_core.proofs.Common.{Bound, Side, Entries, AreWords, Core, seen_by, with_head, Becomes, IsInRange}
 
 -- what one of the vectors holds
 pub seen_read : (seen : List (Vec Bound Global)) (lists : List (List Bound)) (a : ℕ) (old : Vec Bound Global) → map (λ v. v.items) seen ≡ lists →

@@ -1,11 +1,8 @@
 -- What every event keeps, on the lower and on the upper side of a problem.
 use Rattle.std.specs.Prelude.{◌≡◌, ℕ, List, length, All, ℤ, ◌<◌, ◌≤ℤ◌, [], ◌∷◌, slice_index_or, slice_set}
-use Rattle.step_problem.specs.declared.heads.Bound.{Bound}
-use Rattle.step_problem.specs.declared.heads.Side.{Side}
-use Rattle.step_problem.specs.declared.heads.Side.TheVariants.{Low, High}
-use Rattle.step_problem.specs.Entries.{Entries}
-use Rattle.step_problem.specs.{AreSeen, IsExchange, IsOnTheWay, AsTight, IsRelaxed, Edges, head_at, AreOnTheWay, Ge, CanRise, CanSink, IsBarrier, lower_at}
-use Rattle.step_problem.specs.{upper_at, IsHead, IsProblem}
+use Rattle.step_problem.specs.{declared.heads.Bound.Bound, declared.heads.Side.Side, declared.heads.Side.TheVariants.Low, declared.heads.Side.TheVariants.High}
+use Rattle.step_problem.specs.{Entries.Entries, AreSeen, IsExchange, IsOnTheWay, AsTight, IsRelaxed, Edges, head_at, AreOnTheWay, Ge, CanRise, CanSink}
+use Rattle.step_problem.specs.{IsBarrier, lower_at, upper_at, IsHead, IsProblem}
 use Rattle.cell_relax.specs.{IsAsTight, Moves, heads_on, AreNoLooser, IsRelaxedOn, tighter_of, AreWords}
 use Rattle.relax_core.specs.declared.events.Event.{Event}
 use Rattle.relax_core.specs.declared.events.Event.TheVariants.{See, Raise, Sink, Claim}

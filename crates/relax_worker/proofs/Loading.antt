@@ -1,7 +1,6 @@
 -- The heads of links are loaded one by one.
-use Rattle.relax_worker.proofs.Common.{◌≡◌, ℕ, zero, suc, ◌+◌, ◌<◌, List, [], ◌∷◌, length, take, slice_set, ℤ, refl, sym, ◌∙◌, arith, ints, clamps, Link}
-use Rattle.relax_worker.proofs.Common.{Entries, link_at, ends_in, read_more, HeadSeat, Side, Low, High, AreNoLooser, IsAsTight, other, seen_on, seen_of, SameOn}
-use Rattle.relax_worker.proofs.Common.{SameOnBut, tighter_of, moves_no_looser}
+use Rattle.relax_worker.proofs.Common.{◌≡◌, ℕ, zero, suc, ◌+◌, ◌<◌, List, [], ◌∷◌, length, take, slice_set, ℤ, refl, sym, ◌∙◌, arith, ints, clamps, Link, Entries, link_at, ends_in, read_more}
+use Rattle.relax_worker.proofs.Common.{HeadSeat, Side, Low, High, AreNoLooser, IsAsTight, other, seen_on, seen_of, SameOn, SameOnBut, tighter_of, moves_no_looser}
 
 -- heads that are equal at the first ends are so in their list
 ends_same : (h k : ℕ → ℤ) (links : List Link) (i : ℕ) → ((j : ℕ) → j < i → j < length links → k (link_at links j).cell ≡ h (link_at links j).cell) → ends_in k (take i links) ≡ ends_in h (take i links)

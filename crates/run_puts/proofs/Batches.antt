@@ -1,8 +1,7 @@
 -- Laws on batches of jobs, whatever is an end of a job.
-use Rattle.run_puts.proofs.Common.{◌≡◌, ℕ, suc, List, [], ◌∷◌, length, Some, IfSome, subst, sym, ap, refl, ◌∙◌, inl, inr, arith, Put, whole_put, IsRun}
-use Rattle.run_puts.proofs.Common.{NeverCut, or_else, first_not_ok, IsEnded, Text, end_line, whole, early, all_due, IsLast, IsTail, Agree, IsUnfinished, texts}
-use Rattle.run_puts.proofs.Common.{IsBatch, Status, JobEnd, ◌+◌, ◌<◌, ◌≤◌, ◌++◌, map, take, drop, get_or, drop-cons, take-append-drop, take_all, AllZip}
-use Rattle.run_puts.proofs.Common.{map-append, take_more, get_or-map, length-map}
+use Rattle.run_puts.proofs.Common.{◌≡◌, ℕ, suc, List, [], ◌∷◌, length, Some, IfSome, subst, sym, ap, refl, ◌∙◌, inl, inr, arith, Put, whole_put, IsRun, NeverCut, or_else, first_not_ok, IsEnded, Text}
+use Rattle.run_puts.proofs.Common.{end_line, whole, early, all_due, IsLast, IsTail, Agree, IsUnfinished, texts, IsBatch, Status, JobEnd, ◌+◌, ◌<◌, ◌≤◌, ◌++◌, map, take, drop, get_or, drop-cons}
+use Rattle.run_puts.proofs.Common.{take-append-drop, take_all, AllZip, map-append, take_more, get_or-map, length-map}
 use Rattle.run_puts.proofs.Pieces.{run_of_less}
 use Rattle.std.proofs.Common.{append_assoc}
 use Rattle.std.specs.Prelude.{slice_get}

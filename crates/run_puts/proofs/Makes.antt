@@ -1,6 +1,6 @@
 -- What the puts of a run make of the sink.
-use Rattle.run_puts.proofs.Common.{◌≡◌, ℕ, List, [], ◌∷◌, ◌++◌, map, Ok, Err, Result, subst, sym, refl, ◌∙◌, append-nil, Put, Seen, PutMakes, PutsMake}
-use Rattle.run_puts.proofs.Common.{whole_put, Rose, SinkError, Text, IsTail, failed, wanting, sink_wanting, status_after, Status, concat}
+use Rattle.run_puts.proofs.Common.{◌≡◌, ℕ, List, [], ◌∷◌, ◌++◌, map, Ok, Err, Result, subst, sym, refl, ◌∙◌, append-nil, Put, Seen, PutMakes, PutsMake, whole_put, Rose, SinkError, Text, IsTail}
+use Rattle.run_puts.proofs.Common.{failed, wanting, sink_wanting, status_after, Status, concat}
 use Rattle.std.proofs.KnownBytes.{Appends-nil, Appends-trans}
 use Rattle.std.specs.Io.KnownBytes.{Appends}
 use Rattle.outside.specs.declared.traits.SinkError.TheVariants as error

@@ -1,7 +1,7 @@
 -- A run from one piece to the next, and its ends.
-use Rattle.run_puts.proofs.Common.{◌≡◌, List, [], ◌∷◌, ◌++◌, map, Ok, Err, Result, Option, subst, sym, ap, refl, ◌∙◌, inl, inr, ◌⊎◌, append_assoc, append-nil}
-use Rattle.run_puts.proofs.Common.{map-append, Put, whole_put, SinkError, Text, IsTail, failed, wanting, sink_wanting, memory_put, status_after, IsRun, whole}
-use Rattle.run_puts.proofs.Common.{early, Begins, nothing, all_due, cut, IsPut, IsLast, EndsOutOfMemory, IsEnd, Status}
+use Rattle.run_puts.proofs.Common.{◌≡◌, List, [], ◌∷◌, ◌++◌, map, Ok, Err, Result, Option, subst, sym, ap, refl, ◌∙◌, inl, inr, ◌⊎◌, append_assoc, append-nil, map-append, Put, whole_put, SinkError}
+use Rattle.run_puts.proofs.Common.{Text, IsTail, failed, wanting, sink_wanting, memory_put, status_after, IsRun, whole, early, Begins, nothing, all_due, cut, IsPut, IsLast, EndsOutOfMemory, IsEnd}
+use Rattle.run_puts.proofs.Common.{Status}
 use Rattle.outside.specs.declared.traits.SinkError.TheVariants as error
 use Rattle.run_puts.specs.declared.puts.Status.TheVariants as status
 

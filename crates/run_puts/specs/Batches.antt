@@ -1,9 +1,7 @@
 -- A batch of jobs. `IsJobEnd job e` says that the job may end with this status and this text.
 use Rattle.std.specs.Prelude.{List, ◌≡◌, [], ◌∷◌, ◌++◌, map}
 use Rattle.std.specs.List.{AllZip}
-use Rattle.run_puts.specs.Runs.{Text, end_line}
-use Rattle.run_puts.specs.declared.puts.Status.{Status}
-use Rattle.run_puts.specs.declared.job_end.JobEnd.{JobEnd}
+use Rattle.run_puts.specs.{Runs.Text, Runs.end_line, declared.puts.Status.Status, declared.job_end.JobEnd.JobEnd}
 use Rattle.run_puts.specs.declared.puts.Status.TheVariants as status
 
 -- How a batch whose jobs ran ends, and with which pieces.

@@ -1,9 +1,8 @@
 -- What a run puts to its sink and how it ends, whatever its pieces are: `Due end pieces` says which pieces are due if a run
 -- ends so, and `Cut pieces` which pieces it may have put when memory runs out.
 use Rattle.std.specs.Prelude.{List, [], ◌∷◌, ◌++◌, map, ℕ, codes, Ok, Err, Result, ◌≡◌, ◌⊎◌, Option, None, Some}
-use Rattle.outside.specs.{Put, whole_put, failed_put}
+use Rattle.outside.specs.{Put, whole_put, failed_put, declared.traits.SinkError.SinkError}
 use Rattle.run_puts.specs.declared.puts.Status.{Status}
-use Rattle.outside.specs.declared.traits.SinkError.{SinkError}
 use Rattle.outside.specs.declared.traits.SinkError.TheVariants as error
 use Rattle.run_puts.specs.declared.puts.Status.TheVariants as status
 

@@ -1,5 +1,5 @@
-use Rattle.scaled_decimal.proofs.Common.{◌≡◌, ℕ, suc, ◌+◌, ◌*◌, ◌-◌, ◌≤◌, ◌<◌, ◌^◌, inl, inr, subst, arith, mul-le-mul, mul-le-mul_left, mul-le-mul_right}
-use Rattle.scaled_decimal.proofs.Common.{pow-suc, pow-add, cases_lt, ten_pos, power_within, lt_cancel}
+use Rattle.scaled_decimal.proofs.Common.{◌≡◌, ℕ, suc, ◌+◌, ◌*◌, ◌-◌, ◌≤◌, ◌<◌, ◌^◌, inl, inr, subst, arith, mul-le-mul, mul-le-mul_left, mul-le-mul_right, pow-suc, pow-add, cases_lt, ten_pos}
+use Rattle.scaled_decimal.proofs.Common.{power_within, lt_cancel}
 
 -- x units of 10 ^ (b + j) in units of 10 ^ b
 coarse : (x m p q : ℕ) → x * (p * q) < (m + 1) * p → x * (p * q) ≤ m * p

@@ -1,7 +1,6 @@
-use Rattle.scaled_decimal.proofs.Common.{ℕ, ◌+◌, ◌*◌, ◌≤◌, ◌<◌, ◌^◌, arith, mul-le-mul_right, den, AtMost-trans, lt_right, le_cancel, lt_cancel, ◌≡◌, suc, ◌-◌}
-use Rattle.scaled_decimal.proofs.Common.{◌/◌, ap, ℤ, pos, ◌+ℤ◌, ints, pow-add, lt-mul-div-succ, div-mul-le_self, over, AtMost, scaled_ratio, up, down, num_over}
-use Rattle.scaled_decimal.proofs.Common.{den_over, ten_pos, num_scaled, den_scaled, up_down, IsFrom, IsUpTo, inl, inr, refl, sym, subst, ◌∙◌, mul-le-mul}
-use Rattle.scaled_decimal.proofs.Common.{pow-suc, cases_lt, Same, cross_of, Sd, IsSd, value, RoundingsKeepOrder, eq_of_mul-eq-mul_right}
+use Rattle.scaled_decimal.proofs.Common.{ℕ, ◌+◌, ◌*◌, ◌≤◌, ◌<◌, ◌^◌, arith, mul-le-mul_right, den, AtMost-trans, lt_right, le_cancel, lt_cancel, ◌≡◌, suc, ◌-◌, ◌/◌, ap, ℤ, pos, ◌+ℤ◌, ints, pow-add}
+use Rattle.scaled_decimal.proofs.Common.{lt-mul-div-succ, div-mul-le_self, over, AtMost, scaled_ratio, up, down, num_over, den_over, ten_pos, num_scaled, den_scaled, up_down, IsFrom, IsUpTo, inl, inr}
+use Rattle.scaled_decimal.proofs.Common.{refl, sym, subst, ◌∙◌, mul-le-mul, pow-suc, cases_lt, Same, cross_of, Sd, IsSd, value, RoundingsKeepOrder, eq_of_mul-eq-mul_right}
 
 -- n ≤ a t / b, and m is the whole part of c t / d
 wholes_below : (n a b m c d t : ℕ) → 0 < b → n * b ≤ a * t → a * d ≤ c * b → c * t < (m + 1) * d → n < m + 1

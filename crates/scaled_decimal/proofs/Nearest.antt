@@ -1,8 +1,7 @@
-use Rattle.scaled_decimal.proofs.Common.{◌≡◌, ℕ, ◌+◌, ◌*◌, ◌/◌, ◌≤◌, ◌<◌, ◌^◌, inl, inr, arith, ℤ, pos, ◌+ℤ◌, lt-mul-div-succ, div-mul-le_self}
-use Rattle.scaled_decimal.proofs.Common.{le-div_iff_mul-le, div-lt_iff_lt-mul, Ratio, AtMost, Below, Same, scaled_ratio, up, down, AtMost-trans, Below-AtMost}
-use Rattle.scaled_decimal.proofs.Common.{AtMost-Below, Same-AtMost, Same-back, Same-trans, ten_pos, cross_of, scaled_shift, scaled-AtMost, num_scaled, Sd, IsSd}
-use Rattle.scaled_decimal.proofs.Common.{value, IsDown, IsUp, IsFrom, IsUpTo, ◌-◌, refl, ◌∙◌, add-one, ints, lt_of_mul-lt-mul_right, div-div-eq-div-mul}
-use Rattle.scaled_decimal.proofs.Common.{pow-suc, div_below, le-div}
+use Rattle.scaled_decimal.proofs.Common.{◌≡◌, ℕ, ◌+◌, ◌*◌, ◌/◌, ◌≤◌, ◌<◌, ◌^◌, inl, inr, arith, ℤ, pos, ◌+ℤ◌, lt-mul-div-succ, div-mul-le_self, le-div_iff_mul-le, div-lt_iff_lt-mul, Ratio, AtMost}
+use Rattle.scaled_decimal.proofs.Common.{Below, Same, scaled_ratio, up, down, AtMost-trans, Below-AtMost, AtMost-Below, Same-AtMost, Same-back, Same-trans, ten_pos, cross_of, scaled_shift}
+use Rattle.scaled_decimal.proofs.Common.{scaled-AtMost, num_scaled, Sd, IsSd, value, IsDown, IsUp, IsFrom, IsUpTo, ◌-◌, refl, ◌∙◌, add-one, ints, lt_of_mul-lt-mul_right, div-div-eq-div-mul, pow-suc}
+use Rattle.scaled_decimal.proofs.Common.{div_below, le-div}
 use Rattle.scaled_decimal.proofs.Between.{none_above, none_below, power_pos}
 
 -- zero is at most everything

@@ -1,7 +1,6 @@
-use Rattle.scaled_decimal.proofs.Common.{◌≡◌, ℕ, ◌+◌, ◌*◌, ◌<◌, ◌^◌, arith, refl, ℤ, ◌+ℤ◌, inr, pos, Ratio, times, AtMost, Below, Same, scaled_ratio, up, down}
-use Rattle.scaled_decimal.proofs.Common.{AtMost-trans, Below-AtMost, AtMost-Below, Same-AtMost, Same-back, ten_pos, scaled_times, scaled-AtMost, num_scaled}
-use Rattle.scaled_decimal.proofs.Common.{den_scaled, Sd, value, IsDown, IsUp, IsFrom, IsUpTo, lt_right, ◌≤◌, subst, mul-le-mul_right, den, plus, AtMost-refl}
-use Rattle.scaled_decimal.proofs.Common.{Same-trans, plus-AtMost, num_plus, den_plus, Same-both, plus-comm, product_positive}
+use Rattle.scaled_decimal.proofs.Common.{◌≡◌, ℕ, ◌+◌, ◌*◌, ◌<◌, ◌^◌, arith, refl, ℤ, ◌+ℤ◌, inr, pos, Ratio, times, AtMost, Below, Same, scaled_ratio, up, down, AtMost-trans, Below-AtMost}
+use Rattle.scaled_decimal.proofs.Common.{AtMost-Below, Same-AtMost, Same-back, ten_pos, scaled_times, scaled-AtMost, num_scaled, den_scaled, Sd, value, IsDown, IsUp, IsFrom, IsUpTo, lt_right, ◌≤◌}
+use Rattle.scaled_decimal.proofs.Common.{subst, mul-le-mul_right, den, plus, AtMost-refl, Same-trans, plus-AtMost, num_plus, den_plus, Same-both, plus-comm, product_positive}
 use Rattle.scaled_decimal.proofs.Nearest.{zero-AtMost, carry_keeps_ratio}
 
 pub scaled-Below : (m n : ℕ) (e : ℤ) → m < n → Below (scaled_ratio m e) (scaled_ratio n e)

@@ -1,17 +1,13 @@
 -- Each ratio has one greatest 18-digit decimal not above it, and one least not below it.
-use Rattle.scaled_decimal.proofs.Common.{◌≡◌, ℕ, suc, ◌+◌, ◌*◌, ◌-◌, ◌/◌, ◌≤◌, ◌<◌, ◌^◌, ◌∙◌, inl, inr, refl, sym, ap, subst, arith, ints, ℤ, pos, ◌+ℤ◌}
-use Rattle.scaled_decimal.proofs.Common.{pow-suc, pow-add, lt-mul-div-succ, div-mul-le_self, le-div_iff_mul-le, div-lt_iff_lt-mul, lt_of_mul-lt-mul_right}
-use Rattle.scaled_decimal.proofs.Common.{mul-le-mul_right, cases_lt, Ratio, den, Same, ten_pos, num_scaled, den_scaled, Sd, IsSd, value, IsDown, IsUp, IsFrom}
-use Rattle.scaled_decimal.proofs.Common.{IsUpTo, Same-both, cond_above, cond_below, IsFloor, IsCeiling, IsRounded, Lower, RoundedIsNearest, Side, UnitsAreWhole}
+use Rattle.scaled_decimal.proofs.Common.{◌≡◌, ℕ, suc, ◌+◌, ◌*◌, ◌-◌, ◌/◌, ◌≤◌, ◌<◌, ◌^◌, ◌∙◌, inl, inr, refl, sym, ap, subst, arith, ints, ℤ, pos, ◌+ℤ◌, pow-suc, pow-add, lt-mul-div-succ}
+use Rattle.scaled_decimal.proofs.Common.{div-mul-le_self, le-div_iff_mul-le, div-lt_iff_lt-mul, lt_of_mul-lt-mul_right, mul-le-mul_right, cases_lt, Ratio, den, Same, ten_pos, num_scaled, den_scaled}
+use Rattle.scaled_decimal.proofs.Common.{Sd, IsSd, value, IsDown, IsUp, IsFrom, IsUpTo, Same-both, cond_above, cond_below, IsFloor, IsCeiling, IsRounded, Lower, RoundedIsNearest, Side, UnitsAreWhole}
 use Rattle.scaled_decimal.proofs.Common.{Upper, first_digits, in_units, of_units, rounded_decimal, div_below, le-div}
 use Rattle.std.specs.Prelude.{zero, negsuc, ◌-ℤ◌, length}
 use Rattle.std.specs.Int.Digits.{digits_of}
 use Rattle.std.proofs.lemmas.Int.Digits.{all_below_base_digits_of, length-digits_of-le, number_digits_of, number_lt}
 use Rattle.decimal_input.proofs.SignedFloors.{a_ceiling, a_floor, ceiling_is, floor_is}
-use Rattle.scaled_decimal.proofs.Between.{few_places}
-use Rattle.scaled_decimal.proofs.Monotone.{one_decimal}
-use Rattle.scaled_decimal.proofs.Nearest.{cut_down_by, up_at_18, up_at_nines}
-use Rattle.scaled_decimal.proofs.Products.{zero_down, zero_up}
+use Rattle.scaled_decimal.proofs.{Between.few_places, Monotone.one_decimal, Nearest.cut_down_by, Nearest.up_at_18, Nearest.up_at_nines, Products.zero_down, Products.zero_up}
 
 -- Whole units.
 pub one_floor : (f : Ratio) (n s : ℕ) → IsFloor n f s → n ≡ in_units Lower f s

@@ -1,8 +1,6 @@
 use Rattle.std.specs.Prelude.{◌≡◌, ℕ, ◌≤◌, ◌<◌, ◌^◌, ◌*◌, ◌/◌, ◌-◌, nat_lt, if◌then◌else◌, length, ◌⊎◌, ℤ, pos, neg_ℤ, ◌≤ℤ◌, ◌+ℤ◌, ◌-ℤ◌, ◌+◌}
-use Rattle.std.specs.Int.{int_min, int_max}
-use Rattle.std.specs.Int.Digits.{digits_of}
-use Rattle.decimal_input.specs.{Ratio, Below, scaled_ratio, IsFloor, IsCeiling}
-use Rattle.decimal_input.specs.Ratios.{AtMost, den}
+use Rattle.std.specs.{Int.int_min, Int.int_max, Int.Digits.digits_of}
+use Rattle.decimal_input.specs.{Ratio, Below, scaled_ratio, IsFloor, IsCeiling, Ratios.AtMost, Ratios.den}
 use Rattle.scaled_decimal.specs.declared.decimal.Sd.{Sd}
 
 -- 18 digits, or zero with the exponent 0

@@ -1,9 +1,8 @@
 -- Phases cover plain rounds, and reach the settled pair where that number of rounds settles.
-use Rattle.settle_driver.proofs.Common.{◌≡◌, ℕ, ◌+◌, ◌<◌, sym, subst, List, length, add-one, ℤ, inl, inr, arith, false, ◌≤ℤ◌, ◌<ℤ◌, Bound, Side, Low, High}
-use Rattle.settle_driver.proofs.Common.{Entries, IsHead, IsProblem, Edges, OpenHeads, IsBarrier, RoundsSettleBoth, AreOnTheWay, AreSettled, IsFirstOpen}
-use Rattle.settle_driver.proofs.Common.{IsUnfinished, IsFirstSettled, RoundsSettle, IsPast, lower_at, upper_at, IsRaise, IsSink, CanMove, first_settled}
-use Rattle.settle_driver.proofs.Common.{CoversRounds, covers_none, rounds_settle, IsSide, past_covers, covers_more, IsAsTight, Moves, heads_on, is_side}
-use Rattle.settle_driver.proofs.Common.{IsPastCell, AreBothSettled, IsFirstSide, ints, by_lt_z, Option, Some, None, MatchOption, is_some, edge_on, way_on}
+use Rattle.settle_driver.proofs.Common.{◌≡◌, ℕ, ◌+◌, ◌<◌, sym, subst, List, length, add-one, ℤ, inl, inr, arith, false, ◌≤ℤ◌, ◌<ℤ◌, Bound, Side, Low, High, Entries, IsHead, IsProblem, Edges}
+use Rattle.settle_driver.proofs.Common.{OpenHeads, IsBarrier, RoundsSettleBoth, AreOnTheWay, AreSettled, IsFirstOpen, IsUnfinished, IsFirstSettled, RoundsSettle, IsPast, lower_at, upper_at, IsRaise}
+use Rattle.settle_driver.proofs.Common.{IsSink, CanMove, first_settled, CoversRounds, covers_none, rounds_settle, IsSide, past_covers, covers_more, IsAsTight, Moves, heads_on, is_side, IsPastCell}
+use Rattle.settle_driver.proofs.Common.{AreBothSettled, IsFirstSide, ints, by_lt_z, Option, Some, None, MatchOption, is_some, edge_on, way_on}
 use lib.Signed.{lt_z}
 
 one_more : {Le : ℤ → ℤ → Type 0} {Moves : ℕ → ℤ → (ℕ → ℤ) → Type 0} {n : ℕ} → IsSide Le Moves n → (k : ℕ) (edge w next : ℕ → ℤ) →

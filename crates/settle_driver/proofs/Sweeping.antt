@@ -1,11 +1,9 @@
 -- Cells that are relaxed one after another, as in a sweep under way.
-use Rattle.settle_driver.proofs.Common.{◌≡◌, ℕ, ◌+◌, ◌<◌, inl, inr, refl, sym, ◌∙◌, ap, subst, arith, Bool, false, List, length, ℤ, slice_index_or, zero, suc}
-use Rattle.settle_driver.proofs.Common.{◌%◌, ◌∷◌, ◌++◌, get_or, All, length-append, ◌≤◌, Vec, Global, Result, vec_len, ◌||◌, IfOk, Bound, Side, Low, High}
-use Rattle.settle_driver.proofs.Common.{Entries, IsHead, IsProblem, AsTight, AreHeads, IsRelaxed, IsPast, IsOnTheWay, no_bound, IsSide, as_tight_refl}
-use Rattle.settle_driver.proofs.Common.{as_tight_trans, turn_passes, passes_more, edge_kept, is_side, heads_in_range, tighter_first, tighter_second}
-use Rattle.settle_driver.proofs.Common.{AreNoLooser, head_of, heads_on, AreWords, IsAsTight, IsRelaxedCell, IsPastCell, StayOnTheWay, AreBothSettled, HasSeen}
-use Rattle.settle_driver.proofs.Common.{HasWorked, HeadTable, HeadSeat, HasMoved, HasTighter, seen_of, seen_on, cases_eq, way_on, OnTheWay, edge_on}
-use Rattle.settle_driver.proofs.Common.{get_or-append, or_parts}
+use Rattle.settle_driver.proofs.Common.{◌≡◌, ℕ, ◌+◌, ◌<◌, inl, inr, refl, sym, ◌∙◌, ap, subst, arith, Bool, false, List, length, ℤ, slice_index_or, zero, suc, ◌%◌, ◌∷◌, ◌++◌, get_or, All}
+use Rattle.settle_driver.proofs.Common.{length-append, ◌≤◌, Vec, Global, Result, vec_len, ◌||◌, IfOk, Bound, Side, Low, High, Entries, IsHead, IsProblem, AsTight, AreHeads, IsRelaxed, IsPast}
+use Rattle.settle_driver.proofs.Common.{IsOnTheWay, no_bound, IsSide, as_tight_refl, as_tight_trans, turn_passes, passes_more, edge_kept, is_side, heads_in_range, tighter_first, tighter_second}
+use Rattle.settle_driver.proofs.Common.{AreNoLooser, head_of, heads_on, AreWords, IsAsTight, IsRelaxedCell, IsPastCell, StayOnTheWay, AreBothSettled, HasSeen, HasWorked, HeadTable, HeadSeat, HasMoved}
+use Rattle.settle_driver.proofs.Common.{HasTighter, seen_of, seen_on, cases_eq, way_on, OnTheWay, edge_on, get_or-append, or_parts}
 use Rattle.step_problem.proofs.SidesTurns.{exchange_is_as_tight, relaxed_exchange, relaxed_keeps}
 use Rattle.head_table.proofs.Joining.{ok_under}
 use Rattle.std.specs.declared.alloc.AllocError.{AllocError}

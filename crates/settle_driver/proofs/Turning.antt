@@ -1,6 +1,6 @@
 -- One cell's words are relaxed.
-use Rattle.settle_driver.proofs.Common.{◌≡◌, ℕ, ◌<◌, refl, sym, ◌∙◌, ap, subst, Bool, true, false, List, length, ℤ, slice_index_or, slice_set, get_or-set_same}
-use Rattle.settle_driver.proofs.Common.{not, ◌&&◌, Bound, Low, High, Entries, no_bound, lower_at, upper_at, IsRaise, IsSink, IsRelaxedCell, set-get_or}
+use Rattle.settle_driver.proofs.Common.{◌≡◌, ℕ, ◌<◌, refl, sym, ◌∙◌, ap, subst, Bool, true, false, List, length, ℤ, slice_index_or, slice_set, get_or-set_same, not, ◌&&◌, Bound, Low, High, Entries}
+use Rattle.settle_driver.proofs.Common.{no_bound, lower_at, upper_at, IsRaise, IsSink, IsRelaxedCell, set-get_or}
 use Rattle.std.specs.Ordering.{int_eq}
 use Rattle.std.proofs.lemmas.Bool.Decides.{Decides-int_eq}
 

@@ -1,13 +1,9 @@
 -- Views that follow one another, and what a watching seat has seen.
-use Rattle.settle_driver.proofs.Common.{◌≡◌, ℕ, ◌+◌, ◌*◌, ◌<◌, ◌⊎◌, inl, inr, refl, sym, subst, arith, Bool, true, false, List, length, ℤ, ◌≤ℤ◌, Result, Ok}
-use Rattle.settle_driver.proofs.Common.{Err, ints, Bound, Low, High, Entries, IsHead, Edges, head_at, lower_at, upper_at, AreNoLooser, HeadTable, HeadSeat}
-use Rattle.settle_driver.proofs.Common.{AreNoTighterThanSettled, IsSeatOf, ShowsSeen, barrier_of, seen_of, ArePastBarrier, EnclosesPair, had_memory, AddsViews}
-use Rattle.settle_driver.proofs.Common.{AddsTurns, AddsPhases, zero, suc, ◌∙◌, IsTrue, ◌↔◌, false≢true}
-use Rattle.std.specs.Result.{is_ok}
-use Rattle.std.specs.declared.vec.Vec.{Vec}
-use Rattle.std.specs.declared.alloc.Global.{Global}
-use Rattle.step_problem.specs.declared.heads.SettleFault.{SettleFault}
-use Rattle.step_problem.specs.declared.heads.SettleFault.TheVariants.{Unfinished, Memory}
+use Rattle.settle_driver.proofs.Common.{◌≡◌, ℕ, ◌+◌, ◌*◌, ◌<◌, ◌⊎◌, inl, inr, refl, sym, subst, arith, Bool, true, false, List, length, ℤ, ◌≤ℤ◌, Result, Ok, Err, ints, Bound, Low, High, Entries}
+use Rattle.settle_driver.proofs.Common.{IsHead, Edges, head_at, lower_at, upper_at, AreNoLooser, HeadTable, HeadSeat, AreNoTighterThanSettled, IsSeatOf, ShowsSeen, barrier_of, seen_of, ArePastBarrier}
+use Rattle.settle_driver.proofs.Common.{EnclosesPair, had_memory, AddsViews, AddsTurns, AddsPhases, zero, suc, ◌∙◌, IsTrue, ◌↔◌, false≢true}
+use Rattle.std.specs.{Result.is_ok, declared.vec.Vec.Vec, declared.alloc.Global.Global}
+use Rattle.step_problem.specs.{declared.heads.SettleFault.SettleFault, declared.heads.SettleFault.TheVariants.Unfinished, declared.heads.SettleFault.TheVariants.Memory}
 
 pub some_cell : (n : ℕ) (none : Bool) → IsTrue none ↔ (n ≡ 0) → none ≡ false → 0 < n
 some_cell zero none iff e = absurd (false≢true (sym e ∙ iff.1 refl))

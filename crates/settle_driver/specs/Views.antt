@@ -1,19 +1,13 @@
 -- What a viewer is shown while a problem settles, and how many views a settling makes.
 use Rattle.std.specs.Prelude.{◌≡◌, ℕ, ◌+◌, ◌*◌, ◌<◌, ◌⊎◌, Bool, true, false, List, length, ℤ, ◌≤ℤ◌, ◌<ℤ◌, Result, Ok, Err, ◌%◌, ◌≤◌}
-use Rattle.std.specs.declared.vec.Vec.{Vec}
-use Rattle.std.specs.declared.alloc.Global.{Global}
-use Rattle.step_problem.specs.declared.heads.Bound.{Bound}
-use Rattle.step_problem.specs.declared.heads.SettleFault.{SettleFault}
-use Rattle.step_problem.specs.declared.heads.SettleFault.TheVariants.{Unfinished, Memory}
-use Rattle.step_problem.specs.Entries.{Entries}
-use Rattle.step_problem.specs.{AreOnTheWay, Edges, IsBarrier, IsSettled, IsSettledPair, RoundsSettleBoth, head_at, lower_at, upper_at, IsHead}
+use Rattle.std.specs.{declared.vec.Vec.Vec, declared.alloc.Global.Global}
+use Rattle.step_problem.specs.{declared.heads.Bound.Bound, declared.heads.SettleFault.SettleFault, declared.heads.SettleFault.TheVariants.Unfinished}
+use Rattle.step_problem.specs.{declared.heads.SettleFault.TheVariants.Memory, Entries.Entries, AreOnTheWay, Edges, IsBarrier, IsSettled, IsSettledPair}
+use Rattle.step_problem.specs.{RoundsSettleBoth, head_at, lower_at, upper_at, IsHead, declared.heads.Side.Side, declared.heads.Side.TheVariants.Low}
+use Rattle.step_problem.specs.{declared.heads.Side.TheVariants.High}
 use Rattle.cell_relax.specs.{AreWords, AreNoLooser, IsAsTight, IsRelaxedOn, Moves, heads_on}
-use Rattle.head_table.specs.declared.table.HeadTable.{HeadTable}
-use Rattle.head_table.specs.declared.table.HeadSeat.{HeadSeat}
-use Rattle.step_problem.specs.declared.heads.Side.{Side}
-use Rattle.head_table.specs.{HasMoved, IsSeatOf, seen_on, seen_of}
+use Rattle.head_table.specs.{declared.table.HeadTable.HeadTable, declared.table.HeadSeat.HeadSeat, HasMoved, IsSeatOf, seen_on, seen_of}
 use Rattle.settle_driver.specs.declared.phases.Plan.{Plan}
-use Rattle.step_problem.specs.declared.heads.Side.TheVariants.{Low, High}
 
 -- the settled pair lies between these heads
 pub record HoldsPair (p : List Entries) (b : Edges) (heads : List Bound) : Type 0 where

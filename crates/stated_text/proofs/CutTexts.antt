@@ -1,7 +1,6 @@
 -- How lines are cut into files, line by line.
-use Rattle.stated_text.proofs.Common.{◌≡◌, ℕ, Bool, true, false, List, [], ◌∷◌, ◌++◌, None, Option, Some, Result, Ok, Err, refl, sym, ap, ◌∙◌, arith, length}
-use Rattle.stated_text.proofs.Common.{take, drop, codes, append_assoc, append-nil, bytes_eq, is_good_name, next_number, ◌>>=◌, TextFile, is_file_line, joined}
-use Rattle.stated_text.proofs.Common.{pieces, suc, lines, IsGoodName, MatchOption, Line, ended_line}
+use Rattle.stated_text.proofs.Common.{◌≡◌, ℕ, Bool, true, false, List, [], ◌∷◌, ◌++◌, None, Option, Some, Result, Ok, Err, refl, sym, ap, ◌∙◌, arith, length, take, drop, codes, append_assoc}
+use Rattle.stated_text.proofs.Common.{append-nil, bytes_eq, is_good_name, next_number, ◌>>=◌, TextFile, is_file_line, joined, pieces, suc, lines, IsGoodName, MatchOption, Line, ended_line}
 use Rattle.outside.proofs.NameTests.{is_taken, is_good}
 
 -- Readings in a row.

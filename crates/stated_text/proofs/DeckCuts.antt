@@ -1,7 +1,7 @@
 -- The text of a deck is cut into its files.
-use Rattle.stated_text.proofs.Common.{◌≡◌, ◌||◌, ◌∷◌, ◌++◌, ◌∙◌, ℕ, Bool, true, false, List, [], Option, Some, None, Ok, refl, sym, ap, append_assoc, codes}
-use Rattle.stated_text.proofs.Common.{map, flat_map, AllByRecursion, Line, ended_line, lines, bytes_eq, is_mark, is_file_line, next_number, pieces, cut_at}
-use Rattle.stated_text.proofs.Common.{TextFile, File, FlowModel, file_of, file_line, file_text, file_texts, zoned_files, zoned_text, written, DecksAreCut, take}
+use Rattle.stated_text.proofs.Common.{◌≡◌, ◌||◌, ◌∷◌, ◌++◌, ◌∙◌, ℕ, Bool, true, false, List, [], Option, Some, None, Ok, refl, sym, ap, append_assoc, codes, map, flat_map, AllByRecursion, Line}
+use Rattle.stated_text.proofs.Common.{ended_line, lines, bytes_eq, is_mark, is_file_line, next_number, pieces, cut_at, TextFile, File, FlowModel, file_of, file_line, file_text, file_texts}
+use Rattle.stated_text.proofs.Common.{zoned_files, zoned_text, written, DecksAreCut, take}
 use Rattle.model_text.proofs.MarkTexts.{IsOfLines, are_of_lines, line_cut}
 
 both_false : (x y : Bool) → (x || y) ≡ false → (x ≡ false) × (y ≡ false)

@@ -1,7 +1,6 @@
 -- What follows a text that is due.
-use Rattle.stated_text.proofs.Common.{◌≡◌, ◌<◌, ◌≤◌, ◌+◌, ℕ, Bool, true, false, List, [], ◌∷◌, ◌++◌, Result, Ok, Err, refl, ap, drop, length, subst, after_due}
-use Rattle.stated_text.proofs.Common.{arith, get_or, drop_all, next_of, after_byte, first_is, DifferFirst, FirstDifferences, MatchResult, if◌then◌else◌}
-use Rattle.stated_text.proofs.Common.{line_after, ◌==◌, ◌∙◌}
+use Rattle.stated_text.proofs.Common.{◌≡◌, ◌<◌, ◌≤◌, ◌+◌, ℕ, Bool, true, false, List, [], ◌∷◌, ◌++◌, Result, Ok, Err, refl, ap, drop, length, subst, after_due, arith, get_or, drop_all, next_of}
+use Rattle.stated_text.proofs.Common.{after_byte, first_is, DifferFirst, FirstDifferences, MatchResult, if◌then◌else◌, line_after, ◌==◌, ◌∙◌}
 use Rattle.std.proofs.lemmas.Bool.Decides.{nat_tests}
 
 -- the next byte that is due, by its index

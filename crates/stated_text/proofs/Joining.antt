@@ -1,8 +1,7 @@
 -- What is cut, joined again, is what was there.
-use Rattle.stated_text.proofs.Common.{◌≡◌, ◌∷◌, ◌++◌, ◌∙◌, ℕ, Bool, true, false, List, [], Ok, Err, Result, refl, sym, ap, append_assoc, codes, map, drop, take}
-use Rattle.stated_text.proofs.Common.{flat_map, Line, ended_line, bytes_eq, bytes_eq-Decides, is_file_line, is_good_name, next_number, joined, pieces, opened}
-use Rattle.stated_text.proofs.Common.{subst, TextFile, file_of, file_line, file_text, file_texts, AreJoined, CutsAreJoined, ◌>>=◌, if◌then◌else◌}
-use Rattle.stated_text.proofs.Common.{take-append-drop}
+use Rattle.stated_text.proofs.Common.{◌≡◌, ◌∷◌, ◌++◌, ◌∙◌, ℕ, Bool, true, false, List, [], Ok, Err, Result, refl, sym, ap, append_assoc, codes, map, drop, take, flat_map, Line, ended_line, bytes_eq}
+use Rattle.stated_text.proofs.Common.{bytes_eq-Decides, is_file_line, is_good_name, next_number, joined, pieces, opened, subst, TextFile, file_of, file_line, file_text, file_texts, AreJoined}
+use Rattle.stated_text.proofs.Common.{CutsAreJoined, ◌>>=◌, if◌then◌else◌, take-append-drop}
 use Rattle.std.proofs.lemmas.Bool.{and_parts}
 
 -- a line FILE is the word FILE and the name that is taken of it

@@ -1,8 +1,7 @@
 -- A listing that is read is the one of its steps, where its first line is of version 2.
-use Rattle.stated_text.proofs.Common.{◌≡◌, ◌-◌, ◌++◌, ℕ, Bool, true, false, List, [], ◌∷◌, Result, Ok, Err, refl, sym, ap, drop, take, arith, FlowModel}
-use Rattle.stated_text.proofs.Common.{Refusal, bytes_eq, is_current, lines, inl, inr, bytes_eq-Decides, IsListing, Line, first_line, first_line_before, listing}
-use Rattle.stated_text.proofs.Common.{listing_in, or_bad_listing, end_line, all_step_lines, first_text, times, append_cancel_right, append-nil, ListedStep}
-use Rattle.stated_text.proofs.Common.{listings_were_written, ZonePair}
+use Rattle.stated_text.proofs.Common.{◌≡◌, ◌-◌, ◌++◌, ℕ, Bool, true, false, List, [], ◌∷◌, Result, Ok, Err, refl, sym, ap, drop, take, arith, FlowModel, Refusal, bytes_eq, is_current, lines, inl, inr}
+use Rattle.stated_text.proofs.Common.{bytes_eq-Decides, IsListing, Line, first_line, first_line_before, listing, listing_in, or_bad_listing, end_line, all_step_lines, first_text, times}
+use Rattle.stated_text.proofs.Common.{append_cancel_right, append-nil, ListedStep, listings_were_written, ZonePair}
 
 same_rows : (a b : Line) → bytes_eq (a ++ (10 ∷ [])) (b ++ (10 ∷ [])) ≡ bytes_eq a b
 same_rows a b = grind (arith, bytes_eq-Decides, append_cancel_right)

@@ -1,8 +1,7 @@
 -- One text says one model.
-use Rattle.stated_text.proofs.Common.{◌≡◌, ◌≤◌, ◌+◌, ◌∷◌, ◌++◌, ◌∙◌, ℕ, ℤ, pos, List, [], Option, Some, None, Ok, Result, refl, sym, ap, subst, arith, length}
-use Rattle.stated_text.proofs.Common.{map, All, File, FlowModel, IsWritable, Limits, OneTextOneModel, Refusal, TextFile, bytes_under, codes, file_of, file_text}
-use Rattle.stated_text.proofs.Common.{file_texts, file_line, unsigned_abs, with_limit, zone_file, zone_name, zoned_files, zoned_text, deck_name, lines, cut_at}
-use Rattle.stated_text.proofs.Common.{reads, HasSize, zoned_reads, no_zones_there, zones_read, zones_there, append_cancel_left, length-append}
+use Rattle.stated_text.proofs.Common.{◌≡◌, ◌≤◌, ◌+◌, ◌∷◌, ◌++◌, ◌∙◌, ℕ, ℤ, pos, List, [], Option, Some, None, Ok, Result, refl, sym, ap, subst, arith, length, map, All, File, FlowModel, IsWritable}
+use Rattle.stated_text.proofs.Common.{Limits, OneTextOneModel, Refusal, TextFile, bytes_under, codes, file_of, file_text, file_texts, file_line, unsigned_abs, with_limit, zone_file, zone_name}
+use Rattle.stated_text.proofs.Common.{zoned_files, zoned_text, deck_name, lines, cut_at, reads, HasSize, zoned_reads, no_zones_there, zones_read, zones_there, append_cancel_left, length-append}
 use Rattle.zone_pairs.specs.{AreZones}
 use Rattle.stated_text.proofs.DeckCuts.{decks_are_cut}
 use Rattle.zone_file.specs.{zones_of}

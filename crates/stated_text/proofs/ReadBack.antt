@@ -1,18 +1,13 @@
 -- The text of decks and a listing are read back.
-use Rattle.stated_text.proofs.Common.{◌≡◌, ◌≤◌, ◌-◌, ◌∷◌, ◌++◌, ◌∙◌, ℕ, Bool, true, false, List, [], Option, Some, None, Ok, Result, refl, sym, ap, subst}
-use Rattle.stated_text.proofs.Common.{append-nil, append_assoc, map, length, All, AreReadBack, DecksAreReadBack, File, FileSet, FlowModel, CanBeRead, Limits}
-use Rattle.stated_text.proofs.Common.{Line, ListingIsReadBack, ListingsAreReadBack, Part, Refusal, TextFile, at_lines, begins_part, bytes_eq, deck_name}
-use Rattle.stated_text.proofs.Common.{deck_names, end_line, file_of, files_of, first_line, has_zones, is_current, later_by, line_after, lines, list_any}
-use Rattle.stated_text.proofs.Common.{listing, listing_in, most_bytes, package_file, packages, part_at, parts_in, times, unwrap_or, with_limit, written}
-use Rattle.stated_text.proofs.Common.{zone_file, zone_name, zoned_files, zoned_model, zoned_text, zones_in, IsListing, first_text, all_step_lines}
-use Rattle.stated_text.proofs.Common.{bytes_eq-Decides, codes, drop, filter, first_line_before, inl, inr, or_bad_listing, take, ◌||◌, listings_were_written}
-use Rattle.stated_text.proofs.Common.{ListedStep, all_lines, listing_at, text_of, ZonePair, reads, has, zoned_reads, zones_read}
-use Rattle.stated_text.proofs.DeckCuts.{deck_begins, decks_are_cut}
-use Rattle.stated_text.proofs.DueTexts.{due_there}
-use Rattle.stated_text.proofs.OneModel.{files_fit, size_of, unsigned_back}
+use Rattle.stated_text.proofs.Common.{◌≡◌, ◌≤◌, ◌-◌, ◌∷◌, ◌++◌, ◌∙◌, ℕ, Bool, true, false, List, [], Option, Some, None, Ok, Result, refl, sym, ap, subst, append-nil, append_assoc, map, length, All}
+use Rattle.stated_text.proofs.Common.{AreReadBack, DecksAreReadBack, File, FileSet, FlowModel, CanBeRead, Limits, Line, ListingIsReadBack, ListingsAreReadBack, Part, Refusal, TextFile, at_lines}
+use Rattle.stated_text.proofs.Common.{begins_part, bytes_eq, deck_name, deck_names, end_line, file_of, files_of, first_line, has_zones, is_current, later_by, line_after, lines, list_any, listing}
+use Rattle.stated_text.proofs.Common.{listing_in, most_bytes, package_file, packages, part_at, parts_in, times, unwrap_or, with_limit, written, zone_file, zone_name, zoned_files, zoned_model}
+use Rattle.stated_text.proofs.Common.{zoned_text, zones_in, IsListing, first_text, all_step_lines, bytes_eq-Decides, codes, drop, filter, first_line_before, inl, inr, or_bad_listing, take, ◌||◌}
+use Rattle.stated_text.proofs.Common.{listings_were_written, ListedStep, all_lines, listing_at, text_of, ZonePair, reads, has, zoned_reads, zones_read}
+use Rattle.stated_text.proofs.{DeckCuts.deck_begins, DeckCuts.decks_are_cut, DueTexts.due_there, OneModel.files_fit, OneModel.size_of, OneModel.unsigned_back}
 use Rattle.listing_io.proofs.Feeds.{listings_are_read_again}
-use Rattle.name_file.specs.declared.package.Package.{Package}
-use Rattle.name_file.specs.declared.package.Package.TheVariants.{Dis}
+use Rattle.name_file.specs.{declared.package.Package.Package, declared.package.Package.TheVariants.Dis}
 
 -- whether there is a file of zones, by the files of the deck
 named_there : (files : List TextFile) → has_zones files ≡ list_any (λ (f : File). bytes_eq f.name zone_name) (map file_of files)

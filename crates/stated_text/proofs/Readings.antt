@@ -1,6 +1,6 @@
 -- What is read of a text, part by part.
-use Rattle.stated_text.proofs.Common.{◌≡◌, ℕ, true, false, List, Option, Some, None, Result, Ok, Err, refl, Limits, FlowModel, StopsText, TextFile, begins_part}
-use Rattle.stated_text.proofs.Common.{cut_at, lines, or_bad, part_at, part_of, parts_in, zoned_model, HasText, TextFault, Part}
+use Rattle.stated_text.proofs.Common.{◌≡◌, ℕ, true, false, List, Option, Some, None, Result, Ok, Err, refl, Limits, FlowModel, StopsText, TextFile, begins_part, cut_at, lines, or_bad, part_at}
+use Rattle.stated_text.proofs.Common.{part_of, parts_in, zoned_model, HasText, TextFault, Part}
 use Rattle.stated_text.proofs.Faults.{stops_first, stops_then}
 use Rattle.outside.specs.declared.inputs.TextFault.TheVariants as texts
 

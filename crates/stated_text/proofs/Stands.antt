@@ -1,7 +1,7 @@
 -- What stands in a text that is read.
-use Rattle.stated_text.proofs.Common.{◌≡◌, ℕ, Bool, true, false, List, ◌++◌, append_assoc, append-nil, Option, Some, None, Result, Ok, Err, refl, sym, ap, ◌∙◌}
-use Rattle.stated_text.proofs.Common.{◌>>=◌, Refusal, Limits, FlowModel, StandsIn, TextFile, after_due, begins_part, cut_at, last_of, lines, or_bad, part_at}
-use Rattle.stated_text.proofs.Common.{part_of, parts_in, second_at, zoned_model, option_map, unwrap_or, zoned_text, GivesOnly, Part}
+use Rattle.stated_text.proofs.Common.{◌≡◌, ℕ, Bool, true, false, List, ◌++◌, append_assoc, append-nil, Option, Some, None, Result, Ok, Err, refl, sym, ap, ◌∙◌, ◌>>=◌, Refusal, Limits, FlowModel}
+use Rattle.stated_text.proofs.Common.{StandsIn, TextFile, after_due, begins_part, cut_at, last_of, lines, or_bad, part_at, part_of, parts_in, second_at, zoned_model, option_map, unwrap_or, zoned_text}
+use Rattle.stated_text.proofs.Common.{GivesOnly, Part}
 use Rattle.stated_text.proofs.DueTexts.{due_stands}
 use Rattle.record_lines.proofs.Readings.{ok_gives_only, goes_on, err_gives_only}
 use Rattle.stated_text.specs.declared.part.Parts.{Parts}

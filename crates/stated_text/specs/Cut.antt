@@ -3,8 +3,7 @@ use Rattle.std.specs.Prelude.{ℕ, ◌+◌, ◌==◌, Bool, false, ◌&&◌, if�
 use Rattle.std.specs.Str.{bytes_eq}
 use Rattle.outside.specs.{File, FileSet, is_good_name, with_limit}
 use Rattle.record_lines.specs.{next_number, ◌>>=◌}
-use Rattle.model_types.specs.{most_bytes}
-use Rattle.model_types.specs.declared.limits.Limits.{Limits}
+use Rattle.model_types.specs.{most_bytes, declared.limits.Limits.Limits}
 use Rattle.listing_io.specs.{Line, ended_line}
 
 -- a line FILE, with a good name of a file after the word

@@ -1,14 +1,11 @@
 -- What calls return.
 use Rattle.std.specs.Prelude.{◌≡◌, ℕ, List, ◌∷◌, ◌++◌, Result, Ok}
-use Rattle.outside.specs.declared.inputs.Refusal.{Refusal}
-use Rattle.outside.specs.declared.inputs.InputFault.{InputFault}
+use Rattle.outside.specs.{declared.inputs.Refusal.Refusal, declared.inputs.InputFault.InputFault, declared.inputs.TextFault.TextFault}
 use Rattle.outside.specs.declared.inputs.InputFault.TheVariants as input
-use Rattle.outside.specs.declared.inputs.TextFault.{TextFault}
 use Rattle.outside.specs.declared.inputs.TextFault.TheVariants as texts
 use Rattle.record_lines.specs.{◌>>=◌}
 use Rattle.listing_io.specs.{Line}
-use Rattle.stated_text.specs.Cut.{TextFile, later, pieces}
-use Rattle.stated_text.specs.Parts.{in_text}
+use Rattle.stated_text.specs.{Cut.TextFile, Cut.later, Cut.pieces, Parts.in_text}
 
 -- a file that is begun, with the bytes that follow and the files after them
 abbrev pub after : TextFile → List ℕ × List TextFile → Result (List TextFile) ℕ

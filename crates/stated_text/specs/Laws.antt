@@ -2,18 +2,12 @@
 use Rattle.std.specs.Prelude.{◌≡◌, ◌≤◌, ℕ, Bool, false, List, [], ◌∷◌, ◌++◌, map, length, codes, IfSome, MatchResult, Option, Ok, option_map}
 use Rattle.std.specs.List.{flat_map}
 use Rattle.outside.specs.{lines}
-use Rattle.model_types.specs.declared.limits.Limits.{Limits}
-use Rattle.model_types.specs.declared.model.FlowModel.{FlowModel}
-use Rattle.model_types.specs.{most_bytes}
+use Rattle.model_types.specs.{declared.limits.Limits.Limits, declared.model.FlowModel.FlowModel, most_bytes}
 use Rattle.model_text.specs.{IsWritable, file_texts, zoned_files, zoned_text}
-use Rattle.zone_pairs.specs.{AreZones}
-use Rattle.zone_pairs.specs.declared.pair.ZonePair.{ZonePair}
-use Rattle.listing_io.specs.declared.listing.ListedStep.{ListedStep}
-use Rattle.listing_io.specs.{AreListed, AreZonePairs, IsWritable as CanBeListed, Line, ended_line, listing, text_of}
-use Rattle.stated_text.specs.Cut.{TextFile, after_byte, after_due, cut_at, file_of, first_is}
-use Rattle.stated_text.specs.Parts.{begins_part, last_of, parts_in, steps_after}
-use Rattle.stated_text.specs.Stated.{parts_text}
-use Rattle.stated_text.specs.declared.part.Parts.{Parts}
+use Rattle.zone_pairs.specs.{AreZones, declared.pair.ZonePair.ZonePair}
+use Rattle.listing_io.specs.{declared.listing.ListedStep.ListedStep, AreListed, AreZonePairs, IsWritable as CanBeListed, Line, ended_line, listing, text_of}
+use Rattle.stated_text.specs.{Cut.TextFile, Cut.after_byte, Cut.after_due, Cut.cut_at, Cut.file_of, Cut.first_is, Parts.begins_part, Parts.last_of}
+use Rattle.stated_text.specs.{Parts.parts_in, Parts.steps_after, Stated.parts_text, declared.part.Parts.Parts}
 
 -- A text of a deck has one cut: whatever follows it, its files are those of the deck.
 pub record IsCutInto (m : FlowModel) (zones : Option (List ℕ)) (n : ℕ) (rest : List ℕ) : Type 0 where

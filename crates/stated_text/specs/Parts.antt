@@ -1,25 +1,19 @@
 -- The decks, the zones and the listing that are read from a text.
 use Rattle.std.specs.Prelude.{ℕ, ◌-◌, Bool, true, false, cond, if◌then◌else◌, List, [], ◌∷◌, unsigned_abs, map, option_map, unwrap_or, Option, Some, None}
 use Rattle.std.specs.Prelude.{Result, Ok, Err}
-use Rattle.std.specs.List.{list_any}
-use Rattle.std.specs.Str.{bytes_eq}
-use Rattle.outside.specs.{FileSet, lines, refusal}
-use Rattle.outside.specs.declared.codes.Code.TheVariants.{BadListing, NotAlike}
-use Rattle.outside.specs.declared.inputs.Refusal.{Refusal}
+use Rattle.std.specs.{List.list_any, Str.bytes_eq}
+use Rattle.outside.specs.{FileSet, lines, refusal, declared.codes.Code.TheVariants.BadListing, declared.codes.Code.TheVariants.NotAlike}
+use Rattle.outside.specs.{declared.inputs.Refusal.Refusal}
 use Rattle.record_lines.specs.{◌>>=◌}
-use Rattle.model_types.specs.declared.limits.Limits.{Limits}
-use Rattle.model_types.specs.declared.model.FlowModel.{FlowModel}
-use Rattle.model_types.specs.{place}
+use Rattle.model_types.specs.{declared.limits.Limits.Limits, declared.model.FlowModel.FlowModel, place}
 use Rattle.model_reader.specs.{reads}
 use Rattle.zone_file.specs.{zones_of}
 use Rattle.zone_pairs.specs.declared.pair.ZonePair.{ZonePair}
 use Rattle.model_text.specs.{deck_name, deck_names, has, zone_name, zoned_text}
 use Rattle.deck_span.specs.declared.difference.Difference.{Difference}
-use Rattle.listing_io.specs.declared.listing.ListedStep.{ListedStep}
-use Rattle.listing_io.specs.{Line, first_line, listing_in}
-use Rattle.stated_text.specs.Cut.{TextFile, after_due, cut_at, files_of, is_file_line, later}
-use Rattle.stated_text.specs.declared.part.Part.{Part}
-use Rattle.stated_text.specs.declared.part.Parts.{Parts}
+use Rattle.listing_io.specs.{declared.listing.ListedStep.ListedStep, Line, first_line, listing_in}
+use Rattle.stated_text.specs.{Cut.TextFile, Cut.after_due, Cut.cut_at, Cut.files_of, Cut.is_file_line, Cut.later, declared.part.Part.Part}
+use Rattle.stated_text.specs.{declared.part.Parts.Parts}
 
 -- the line of a text where a file of this name has its line FILE
 abbrev pub line_of : List ℕ → List TextFile → Option ℕ

@@ -4,8 +4,7 @@ use Rattle.outside.specs.{lines}
 use Rattle.model_types.specs.declared.model.FlowModel.{FlowModel}
 use Rattle.model_text.specs.{zoned_text}
 use Rattle.zone_pairs.specs.declared.pair.ZonePair.{ZonePair}
-use Rattle.listing_io.specs.declared.listing.ListedStep.{ListedStep}
-use Rattle.listing_io.specs.{AreListed, listing}
+use Rattle.listing_io.specs.{declared.listing.ListedStep.ListedStep, AreListed, listing}
 
 -- the text of a model's deck with zones, if there is a model
 abbrev pub text_if : Option FlowModel → Option (List ℕ) → List ℕ

@@ -1,9 +1,8 @@
 -- Kinds of cells by their tests, indices of variable cells, and the range of a step's heads.
-use Rattle.step_chain.proofs.Common.{◌≡◌, ℕ, ◌<◌, inl, inr, true, false, List, length, get_or, sym, ap, ◌∙◌, subst, arith, ℤ, cases_Bool, and_parts}
-use Rattle.step_chain.proofs.Common.{false_from_ne_true, not-true, true≢false, Bound, IsHead, no_bound, lower_at, upper_at, AreWords, Entries, FlowModel}
-use Rattle.step_chain.proofs.Common.{TimeStep, cell_count, is_active, is_variable, is_constant, index_of, variable_cells, map, Decks, IsConstantPairFor}
-use Rattle.step_chain.proofs.Common.{AreGridHeads, bound_at, AreHeadsOf, ◌&&◌, not, ints, ExactCell, cell_at, no_cell, ◌+◌, ◌≤◌, cond, set, cases_order}
-use Rattle.step_chain.proofs.Common.{kind_of, HasConstantHeadFor, variable_active, constant_active}
+use Rattle.step_chain.proofs.Common.{◌≡◌, ℕ, ◌<◌, inl, inr, true, false, List, length, get_or, sym, ap, ◌∙◌, subst, arith, ℤ, cases_Bool, and_parts, false_from_ne_true, not-true, true≢false, Bound}
+use Rattle.step_chain.proofs.Common.{IsHead, no_bound, lower_at, upper_at, AreWords, Entries, FlowModel, TimeStep, cell_count, is_active, is_variable, is_constant, index_of, variable_cells, map}
+use Rattle.step_chain.proofs.Common.{Decks, IsConstantPairFor, AreGridHeads, bound_at, AreHeadsOf, ◌&&◌, not, ints, ExactCell, cell_at, no_cell, ◌+◌, ◌≤◌, cond, set, cases_order, kind_of}
+use Rattle.step_chain.proofs.Common.{HasConstantHeadFor, variable_active, constant_active}
 use Rattle.std.proofs.lemmas.List.{get_or_default, get_or-map, length-map, length-set, get_or-set_same, get_or-set_other}
 use Rattle.model_types.proofs.Ranks.{passing, rank_below, at_rank}
 use Rattle.flow_equations.proofs.Links.{below_is, index_is}

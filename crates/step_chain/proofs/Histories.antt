@@ -1,8 +1,7 @@
 -- Histories of choices between two decks lie within the heads of their steps, by induction on the time steps.
-use Rattle.step_chain.proofs.Common.{Limits, ◌-◌, ◌<◌, ℕ, inl, inr, List, [], ◌∷◌, Contains, refl, arith, ℤ, Fraction, Bound, FlowModel, TimeStep, heads_of}
-use Rattle.step_chain.proofs.Common.{AreGridHeads, HeadsEnclose, AreDecks, IsBefore, StartHeadsFit, StartHeadsEnclose, Solved, LiesWithin, StepEncloses}
-use Rattle.step_chain.proofs.Common.{HeadsFit, PairKind, HistoriesLieWithin, Choice, two, AreSteps, LieWithin, times, In-Contains, IsChoiceBetween}
-use Rattle.step_chain.proofs.Common.{SolvesChoicesFrom}
+use Rattle.step_chain.proofs.Common.{Limits, ◌-◌, ◌<◌, ℕ, inl, inr, List, [], ◌∷◌, Contains, refl, arith, ℤ, Fraction, Bound, FlowModel, TimeStep, heads_of, AreGridHeads, HeadsEnclose, AreDecks}
+use Rattle.step_chain.proofs.Common.{IsBefore, StartHeadsFit, StartHeadsEnclose, Solved, LiesWithin, StepEncloses, HeadsFit, PairKind, HistoriesLieWithin, Choice, two, AreSteps, LieWithin, times}
+use Rattle.step_chain.proofs.Common.{In-Contains, IsChoiceBetween, SolvesChoicesFrom}
 use Rattle.model_types.proofs.Members.{Contains-In}
 use Rattle.std.specs.List.{AllZip}
 

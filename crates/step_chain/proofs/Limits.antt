@@ -1,13 +1,10 @@
 -- Barriers by limits: each is a cut one, from which settling begins at a barrier of heads.
-use Rattle.step_chain.proofs.Common.{ℕ, ◌<◌, List, length, ℤ, Edges, head_at, IsProblem, Entries, IsBarrierBy, edges_by, Limits, Plain, Wide, IsCutBarrierOf}
-use Rattle.step_chain.proofs.Common.{EnclosesUncut, ClampedPairEncloses, SettledPairEncloses, LiesBetweenBy, Result, Ok, Err, IfOk, BoundFault, IsBarrier}
-use Rattle.step_chain.proofs.Common.{IsSettledPair, ExactCell, EnclosesStep, SolvesStep, clamped_fits, inl, inr, arith, Bound, PairKind, IsPairOf}
-use Rattle.step_chain.proofs.Common.{IsCertificate, lower_at, upper_at, no_bound, ints, clamps, NoBound, AreInside, IsGiven, settled, certified}
-use Rattle.step_chain.proofs.Common.{either_certifies, given_is, clamped_edges, clamped_at, IsRangeRefusal, IsNoCertificate, Bool, SettledPairExists, TimeStep}
-use Rattle.step_chain.proofs.Common.{step_from, variable_heads, Decks, EnclosesChoices, IsProblemFor, Solved, AreHeadsOf, IsStepBy, IsHeldBelow, IsCellFloor}
-use Rattle.step_chain.proofs.Common.{IsCellCeiling, LeadsBy, LeadsOrRests, LeadsWithout}
-use Rattle.barrier_vector.proofs.Floors.{encloses_all}
-use Rattle.barrier_vector.proofs.Cutting.{barrier_is_cut, cut_encloses, cut_holds}
+use Rattle.step_chain.proofs.Common.{ℕ, ◌<◌, List, length, ℤ, Edges, head_at, IsProblem, Entries, IsBarrierBy, edges_by, Limits, Plain, Wide, IsCutBarrierOf, EnclosesUncut, ClampedPairEncloses}
+use Rattle.step_chain.proofs.Common.{SettledPairEncloses, LiesBetweenBy, Result, Ok, Err, IfOk, BoundFault, IsBarrier, IsSettledPair, ExactCell, EnclosesStep, SolvesStep, clamped_fits, inl, inr}
+use Rattle.step_chain.proofs.Common.{arith, Bound, PairKind, IsPairOf, IsCertificate, lower_at, upper_at, no_bound, ints, clamps, NoBound, AreInside, IsGiven, settled, certified, either_certifies}
+use Rattle.step_chain.proofs.Common.{given_is, clamped_edges, clamped_at, IsRangeRefusal, IsNoCertificate, Bool, SettledPairExists, TimeStep, step_from, variable_heads, Decks, EnclosesChoices}
+use Rattle.step_chain.proofs.Common.{IsProblemFor, Solved, AreHeadsOf, IsStepBy, IsHeldBelow, IsCellFloor, IsCellCeiling, LeadsBy, LeadsOrRests, LeadsWithout}
+use Rattle.barrier_vector.proofs.{Floors.encloses_all, Cutting.barrier_is_cut, Cutting.cut_encloses, Cutting.cut_holds}
 use Rattle.certificate_check.proofs.Cut.{excludes_refusal}
 
 pub cut_by : (limits : Limits) (p : List Entries) (b : Edges) → IsBarrierBy limits p b → IsCutBarrierOf p b

@@ -1,16 +1,12 @@
 -- A time has one step, or one refusal, from the heads before it.
-use Rattle.step_chain.proofs.Common.{◌≡◌, ℕ, suc, ◌<◌, inl, inr, List, [], ◌∷◌, length, sym, ap, ◌∙◌, subst, refl, arith, ℤ, cases_Bool, Bound, IsProblem}
-use Rattle.step_chain.proofs.Common.{Entries, Edges, lower_at, upper_at, SettledPairIsOne, AreSettled, IsBarrierBy, edges_by, CutBarrierIsOne, Limits, Plain}
-use Rattle.step_chain.proofs.Common.{TimeStep, cell_count, is_active, is_variable, Decks, IsBefore, ProblemFits, ConstantPairIsOne, ConstantPairFits, Solved}
-use Rattle.step_chain.proofs.Common.{bound_at, AreHeadsOf, StepIsOne, HeadsFit, WideKeepsSteps, IsPairOf, clamped_fits, ◌^◌, true, pos, ◌*ℤ◌, ◌≤ℤ◌, Fraction}
-use Rattle.step_chain.proofs.Common.{IsCertificate, AreWords, CertificateEncloses, is_constant, index_of, variable_heads, IsActive, map, variable_cells}
-use Rattle.step_chain.proofs.Common.{ProblemEncloses, ConstantPairEncloses, Choice, EnclosesChoice, step_from, IsMove, EnclosesMove, EnclosesMoves}
-use Rattle.step_chain.proofs.Common.{StepEncloses, PairKind, settled, certified, EnclosesStep, CellEncloses, LiesBetween, EnclosesSolutions, EnclosesSigned}
-use Rattle.step_chain.proofs.Common.{same_problem}
-use Rattle.deck_problems.proofs.OneProblem.{chosen_cells}
-use Rattle.step_chain.proofs.Limits.{cut_by, held_by, uncut_by}
-use Rattle.deck_problems.proofs.Counted.{problem_count}
-use Rattle.step_chain.proofs.Assembled.{active_constant, heads_in_range, index_below, count_of, number_of}
+use Rattle.step_chain.proofs.Common.{◌≡◌, ℕ, suc, ◌<◌, inl, inr, List, [], ◌∷◌, length, sym, ap, ◌∙◌, subst, refl, arith, ℤ, cases_Bool, Bound, IsProblem, Entries, Edges, lower_at, upper_at}
+use Rattle.step_chain.proofs.Common.{SettledPairIsOne, AreSettled, IsBarrierBy, edges_by, CutBarrierIsOne, Limits, Plain, TimeStep, cell_count, is_active, is_variable, Decks, IsBefore, ProblemFits}
+use Rattle.step_chain.proofs.Common.{ConstantPairIsOne, ConstantPairFits, Solved, bound_at, AreHeadsOf, StepIsOne, HeadsFit, WideKeepsSteps, IsPairOf, clamped_fits, ◌^◌, true, pos, ◌*ℤ◌, ◌≤ℤ◌}
+use Rattle.step_chain.proofs.Common.{Fraction, IsCertificate, AreWords, CertificateEncloses, is_constant, index_of, variable_heads, IsActive, map, variable_cells, ProblemEncloses}
+use Rattle.step_chain.proofs.Common.{ConstantPairEncloses, Choice, EnclosesChoice, step_from, IsMove, EnclosesMove, EnclosesMoves, StepEncloses, PairKind, settled, certified, EnclosesStep}
+use Rattle.step_chain.proofs.Common.{CellEncloses, LiesBetween, EnclosesSolutions, EnclosesSigned, same_problem}
+use Rattle.deck_problems.proofs.{OneProblem.chosen_cells, Counted.problem_count}
+use Rattle.step_chain.proofs.{Limits.cut_by, Limits.held_by, Limits.uncut_by, Assembled.active_constant, Assembled.heads_in_range, Assembled.index_below, Assembled.count_of, Assembled.number_of}
 use Rattle.decimal_input.proofs.FloorLaws.{whole_signed}
 use Rattle.cell_balance.proofs.Zips.{AllZip-length}
 

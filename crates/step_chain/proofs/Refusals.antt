@@ -1,8 +1,7 @@
 -- A step that is posed has no refusal before it settles, a settled step none at all, and a time at most one.
-use Rattle.step_chain.proofs.Common.{◌≡◌, ℕ, inl, inr, subst, List, Bound, Entries, Edges, IsProblem, AreSettled, IsPairOf, PairKind, SettledPairIsOne, Solved}
-use Rattle.step_chain.proofs.Common.{Decks, TimeStep, IsBefore, ProblemFits, CutBarrierExcludesRefusal, CutBarrierIsOne, IsBarrierBy, edges_by, Limits, Plain}
-use Rattle.step_chain.proofs.Common.{Wide, StepExcludesRefusal, RefusalIsOne, NoBound, settled, CutRefusalIsOne, IsRangeRefusal, CertificateExcludesRefusal}
-use Rattle.step_chain.proofs.Common.{RangeRefusalIsOne, HasNoBarrier, HasNoPose, IsPosed, IsStepBy, LeavesRange, IsProblemFor, BoundFault, FailsBy}
+use Rattle.step_chain.proofs.Common.{◌≡◌, ℕ, inl, inr, subst, List, Bound, Entries, Edges, IsProblem, AreSettled, IsPairOf, PairKind, SettledPairIsOne, Solved, Decks, TimeStep, IsBefore, ProblemFits}
+use Rattle.step_chain.proofs.Common.{CutBarrierExcludesRefusal, CutBarrierIsOne, IsBarrierBy, edges_by, Limits, Plain, Wide, StepExcludesRefusal, RefusalIsOne, NoBound, settled, CutRefusalIsOne}
+use Rattle.step_chain.proofs.Common.{IsRangeRefusal, CertificateExcludesRefusal, RangeRefusalIsOne, HasNoBarrier, HasNoPose, IsPosed, IsStepBy, LeavesRange, IsProblemFor, BoundFault, FailsBy}
 use Rattle.step_chain.proofs.Common.{IsNoCertificate, SettlesNot, HasNoHeads, BarrierExcludesRefusal, not_refused, same_problem, same_refusal}
 use Rattle.barrier_vector.specs.{RefusalIsOne as BarrierRefusalIsOne}
 use Rattle.step_chain.proofs.OneStep.{settled_one}

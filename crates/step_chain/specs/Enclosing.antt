@@ -1,24 +1,18 @@
 -- How a step's heads enclose every solution of the exact equations.
 use Rattle.std.specs.Prelude.{ℕ, ◌^◌, ◌<◌, List, length, ℤ, pos, neg_ℤ, ◌*ℤ◌, ◌≤ℤ◌, ◌≡◌, ◌⊎◌, Bool, false}
 use Rattle.decimal_input.specs.{Fraction}
-use Rattle.step_problem.specs.declared.heads.Bound.{Bound}
-use Rattle.step_problem.specs.Entries.{Entries}
-use Rattle.step_problem.specs.{head_limit, lower_at, upper_at, Edges, IsSettledPair}
+use Rattle.step_problem.specs.{declared.heads.Bound.Bound, Entries.Entries, head_limit, lower_at, upper_at, Edges, IsSettledPair}
+use Rattle.step_problem.specs.{declared.place.NoBound.NoBound, declared.refusal.BoundFault.BoundFault}
+use Rattle.step_problem.specs.{declared.refusal.BoundFault.TheVariants.NoBound as IsNoBound, declared.refusal.BoundFault.TheVariants.Memory}
 use Rattle.cell_balance.specs.{EnclosesStep, LiesBetween}
-use Rattle.model_types.specs.declared.limits.Limits.{Limits}
-use Rattle.model_types.specs.declared.limits.Limits.TheVariants.{Plain, Wide}
-use Rattle.model_types.specs.declared.model.FlowModel.{FlowModel}
-use Rattle.model_types.specs.declared.time_steps.TimeStep.{TimeStep}
+use Rattle.model_types.specs.{declared.limits.Limits.Limits, declared.limits.Limits.TheVariants.Plain, declared.limits.Limits.TheVariants.Wide}
+use Rattle.model_types.specs.{declared.model.FlowModel.FlowModel, declared.time_steps.TimeStep.TimeStep}
 use Rattle.flow_equations.specs.{variable_heads}
 use Rattle.deck_span.specs.{Choice, SolvesChoiceAt, step_from}
 use Rattle.problem_builder.specs.{IsActive, HeadsEnclose}
 use Rattle.step_chain.specs.declared.solved.Solved.{Solved}
-use Rattle.step_problem.specs.declared.place.NoBound.{NoBound}
 use Rattle.barrier_vector.specs.{IsBarrierOf, IsRefused, IsCutBarrierOf, IsUnbounded, clamped_edges}
-use Rattle.step_problem.specs.declared.refusal.BoundFault.{BoundFault}
-use Rattle.step_problem.specs.declared.refusal.BoundFault.TheVariants.{NoBound as IsNoBound, Memory}
-use Rattle.deck_problems.specs.declared.decks.Decks.{Decks}
-use Rattle.deck_problems.specs.{EachChoice, IsProblemFor}
+use Rattle.deck_problems.specs.{declared.decks.Decks.Decks, EachChoice, IsProblemFor}
 
 -- The vector X over d lies between the heads, which are in units of 10^-9, at each active cell.
 pub record LiesWithin (m : FlowModel) (heads : List Bound) (d : ℕ) (X : ℕ → ℤ) : Type 0 where

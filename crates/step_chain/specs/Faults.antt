@@ -1,23 +1,16 @@
 -- The cause of each result without heads.
 use Rattle.std.specs.Prelude.{ℕ, List}
-use Rattle.step_problem.specs.declared.heads.Bound.{Bound}
-use Rattle.step_problem.specs.declared.heads.SettleFault.{SettleFault}
+use Rattle.step_problem.specs.{declared.heads.Bound.Bound, declared.heads.SettleFault.SettleFault, declared.place.NoBound.NoBound, Entries.Entries, Edges}
+use Rattle.step_problem.specs.{OpenHeads, AreSettled, IsUnfinished, declared.refusal.BoundFault.BoundFault}
 use Rattle.step_problem.specs.declared.heads.SettleFault.TheVariants as settle
-use Rattle.step_problem.specs.declared.place.NoBound.{NoBound}
-use Rattle.step_problem.specs.Entries.{Entries}
-use Rattle.step_problem.specs.{Edges, OpenHeads, AreSettled, IsUnfinished}
 use Rattle.barrier_vector.specs.{clamped_edges}
-use Rattle.step_problem.specs.declared.refusal.BoundFault.{BoundFault}
 use Rattle.step_problem.specs.declared.refusal.BoundFault.TheVariants as bound
 use Rattle.certificate_check.specs.{IsRangeRefusal}
 use Rattle.deck_problems.specs.declared.decks.Decks.{Decks}
-use Rattle.model_types.specs.declared.limits.Limits.{Limits}
-use Rattle.model_types.specs.declared.limits.Limits.TheVariants.{Plain, Wide}
-use Rattle.model_types.specs.declared.time_steps.TimeStep.{TimeStep}
-use Rattle.step_chain.specs.declared.solved.StepFault.{StepFault}
+use Rattle.model_types.specs.{declared.limits.Limits.Limits, declared.limits.Limits.TheVariants.Plain, declared.limits.Limits.TheVariants.Wide}
+use Rattle.model_types.specs.{declared.time_steps.TimeStep.TimeStep}
+use Rattle.step_chain.specs.{declared.solved.StepFault.StepFault, Enclosing.edges_by, Steps.IsPosed, Steps.HasNoHeads}
 use Rattle.step_chain.specs.declared.solved.StepFault.TheVariants as fault
-use Rattle.step_chain.specs.Enclosing.{edges_by}
-use Rattle.step_chain.specs.Steps.{IsPosed, HasNoHeads}
 
 -- a settler with this many rounds gave up, and these don't settle the step
 pub record IsOpenStep (limits : Limits) (d : Decks) (s : ℕ) (at : TimeStep) (old : List Bound) (rounds : ℕ) (o : OpenHeads) : Type 0 where

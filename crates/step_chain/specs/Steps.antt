@@ -1,19 +1,14 @@
 -- A time step of one deck, or of two: its problem, from the heads before it, its barrier, its settled pair, and the heads of all cells; or why it has none.
 use Rattle.std.specs.Prelude.{ℕ, ◌⊎◌, List, ℤ, [], ◌∷◌, Some, ◌≡◌, ◌<◌, true, false, length}
-use Rattle.step_problem.specs.declared.heads.Bound.{Bound}
-use Rattle.step_problem.specs.declared.place.NoBound.{NoBound}
-use Rattle.step_problem.specs.Entries.{Entries}
-use Rattle.step_problem.specs.{Edges, lower_at, upper_at, IsCertificate, RoundsSettleBoth, no_bound, PairKind, AreSettled, IsPairOf, settled}
+use Rattle.step_problem.specs.{declared.heads.Bound.Bound, declared.place.NoBound.NoBound, Entries.Entries, Edges, lower_at, upper_at, IsCertificate}
+use Rattle.step_problem.specs.{RoundsSettleBoth, no_bound, PairKind, AreSettled, IsPairOf, settled}
 use Rattle.certificate_check.specs.{IsRangeRefusal}
-use Rattle.model_types.specs.declared.limits.Limits.{Limits}
-use Rattle.model_types.specs.declared.limits.Limits.TheVariants.{Plain, Wide}
-use Rattle.model_types.specs.declared.time_steps.TimeStep.{TimeStep}
-use Rattle.deck_problems.specs.declared.decks.Decks.{Decks}
-use Rattle.deck_problems.specs.{IsProblemFor, HasNoProblemFor, AreDecks, AreStartHeadsFor, IsConstantPairFor, EachChoice, IsBefore}
+use Rattle.model_types.specs.{declared.limits.Limits.Limits, declared.limits.Limits.TheVariants.Plain, declared.limits.Limits.TheVariants.Wide}
+use Rattle.model_types.specs.{declared.time_steps.TimeStep.TimeStep, declared.model.FlowModel.FlowModel, times, cell_count, is_active, is_variable, is_constant}
+use Rattle.model_types.specs.{index_of}
+use Rattle.deck_problems.specs.{declared.decks.Decks.Decks, IsProblemFor, HasNoProblemFor, AreDecks, AreStartHeadsFor, IsConstantPairFor, EachChoice, IsBefore}
 use Rattle.step_chain.specs.declared.solved.Solved.{Solved}
 use Rattle.step_chain.specs.Enclosing.{IsBarrierBy, HasNoBarrier, edges_by, LiesWithin, EnclosesMoves}
-use Rattle.model_types.specs.declared.model.FlowModel.{FlowModel}
-use Rattle.model_types.specs.{times, cell_count, is_active, is_variable, is_constant, index_of}
 use Rattle.problem_builder.specs.{AreGridHeads, bound_at}
 use Rattle.decimal_input.specs.{Fraction}
 use Rattle.deck_span.specs.{AreChoices, Choice, SolvesChoices}

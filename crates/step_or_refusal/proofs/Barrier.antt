@@ -1,13 +1,10 @@
 -- A problem has a barrier or a first cause against one, and a cut barrier or a cell without a bound: both at the least cell that has the cause.
-use Rattle.step_or_refusal.proofs.Common.{◌≡◌, ℕ, ◌<◌, ◌≤◌, ◌⊎◌, inl, inr, refl, sym, subst, arith, List, length, map, ℤ, pos, neg_ℤ, cases_lt, ints, by_lt_z}
-use Rattle.step_or_refusal.proofs.Common.{Side, Low, High, IsProblem, head_limit, Entries, entries_at, IsBoundOn, HasNoBound, IsOutOfRange, no_barrier_on}
-use Rattle.step_or_refusal.proofs.Common.{range_on, Nowhere, IsLeastWith, Names, IsRefusedOn, NoBound, CutBarrierOrRefusal, cut_on, IsCutBoundOn, AreCutBounds}
-use Rattle.step_or_refusal.proofs.Common.{RefusesOn, Refuses, BarrierOrRefusal, range_with_len, length-map-range_with_len, get_or-map-range_with_len, head_at}
+use Rattle.step_or_refusal.proofs.Common.{◌≡◌, ℕ, ◌<◌, ◌≤◌, ◌⊎◌, inl, inr, refl, sym, subst, arith, List, length, map, ℤ, pos, neg_ℤ, cases_lt, ints, by_lt_z, Side, Low, High, IsProblem, head_limit}
+use Rattle.step_or_refusal.proofs.Common.{Entries, entries_at, IsBoundOn, HasNoBound, IsOutOfRange, no_barrier_on, range_on, Nowhere, IsLeastWith, Names, IsRefusedOn, NoBound, CutBarrierOrRefusal}
+use Rattle.step_or_refusal.proofs.Common.{cut_on, IsCutBoundOn, AreCutBounds, RefusesOn, Refuses, BarrierOrRefusal, range_with_len, length-map-range_with_len, get_or-map-range_with_len, head_at}
 use Rattle.step_or_refusal.proofs.Common.{number_of, IsWholeSide, Decided, IsFirstBelow, first_or_none}
-use Rattle.barrier_vector.proofs.Uniques.{has_a_bound}
-use Rattle.step_problem.specs.declared.refusal.StepRefusal.{StepRefusal}
-use Rattle.step_problem.specs.declared.place.Place.TheVariants.{Cell}
-use Rattle.barrier_vector.proofs.Sides.{cut_nowhere_without, refused_out_of_range, side_is_whole}
+use Rattle.barrier_vector.proofs.{Uniques.has_a_bound, Sides.cut_nowhere_without, Sides.refused_out_of_range, Sides.side_is_whole}
+use Rattle.step_problem.specs.{declared.refusal.StepRefusal.StepRefusal, declared.place.Place.TheVariants.Cell}
 use Rattle.step_or_refusal.proofs.Bounds.{bound_or_none}
 
 -- a number for each cell, as a list

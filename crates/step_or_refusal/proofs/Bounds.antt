@@ -1,10 +1,7 @@
 -- Each cell of a problem has a floor or a cause against one, and a ceiling or a cause against one.
-use Rattle.step_or_refusal.proofs.Common.{ℕ, ◌+◌, ◌<◌, ◌⊎◌, inl, inr, refl, arith, List, length, ℤ, pos, ◌-ℤ◌, cases_lt, Side, Low, High, IsProblem, entries_at}
-use Rattle.step_or_refusal.proofs.Common.{Entries, anchor_on, AnchorRoot, IsUnanchored, moved_out, IsAnchoredBound, IsBoundOn, need, ceil_over, IsPath}
-use Rattle.step_or_refusal.proofs.Common.{HasNoBound, base_on, Decided, first_or_none, lead_is_path}
-use Rattle.barrier_vector.proofs.CarriedRoots.{reaches_within}
-use Rattle.barrier_vector.proofs.Components.{carried_decided, inner_path, longest_path_exists}
-use Rattle.barrier_vector.proofs.Ways.{LeadTo, leading_decided}
+use Rattle.step_or_refusal.proofs.Common.{ℕ, ◌+◌, ◌<◌, ◌⊎◌, inl, inr, refl, arith, List, length, ℤ, pos, ◌-ℤ◌, cases_lt, Side, Low, High, IsProblem, entries_at, Entries, anchor_on, AnchorRoot}
+use Rattle.step_or_refusal.proofs.Common.{IsUnanchored, moved_out, IsAnchoredBound, IsBoundOn, need, ceil_over, IsPath, HasNoBound, base_on, Decided, first_or_none, lead_is_path}
+use Rattle.barrier_vector.proofs.{CarriedRoots.reaches_within, Components.carried_decided, Components.inner_path, Components.longest_path_exists, Ways.LeadTo, Ways.leading_decided}
 
 module _ (p : List Entries) (ok : IsProblem p) where
   module _ (side : Side) (q : ℕ) where

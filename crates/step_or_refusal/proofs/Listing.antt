@@ -1,12 +1,9 @@
 -- A model has a whole listing, or a first refusal at one of its times.
-use Rattle.step_or_refusal.proofs.Common.{ℕ, ◌⊎◌, inl, inr, Option, List, [], ◌∷◌, refl, sym, subst, Bound, FlowModel, TimeStep, StartHeadsFit, one_deck}
-use Rattle.step_or_refusal.proofs.Common.{StepOrRefusal, ListingOrRefusal, Bool, ProblemFits, NoBound, IsBefore, Solved, edges_fit, IsSettledStep, AreGridHeads}
-use Rattle.step_or_refusal.proofs.Common.{times, IsModel, HeadsFit, edges_by, each_cell, start_bound}
+use Rattle.step_or_refusal.proofs.Common.{ℕ, ◌⊎◌, inl, inr, Option, List, [], ◌∷◌, refl, sym, subst, Bound, FlowModel, TimeStep, StartHeadsFit, one_deck, StepOrRefusal, ListingOrRefusal, Bool}
+use Rattle.step_or_refusal.proofs.Common.{ProblemFits, NoBound, IsBefore, Solved, edges_fit, IsSettledStep, AreGridHeads, times, IsModel, HeadsFit, edges_by, each_cell, start_bound}
 use Rattle.step_problem.proofs.Pairs.{settled_is}
 use Rattle.model_types.specs.declared.limits.Limits.{Limits}
-use Rattle.listing_run.specs.declared.solving.Step.{Step}
-use Rattle.listing_run.specs.declared.steps.Task.{Task}
-use Rattle.listing_run.specs.{budget_at, IsSolved, IsStep, HasNoBound, no_heads, no_budget, no_zones, one_task, pairs_of, flows_or_large, Steps}
+use Rattle.listing_run.specs.{declared.solving.Step.Step, declared.steps.Task.Task, budget_at, IsSolved, IsStep, HasNoBound, no_heads, no_budget, no_zones, one_task, pairs_of, flows_or_large, Steps}
 use Rattle.zone_pairs.specs.{AreZones}
 use Rattle.listing_run.proofs.Unique.{IsRest, rest_whole, rest_more}
 use Rattle.step_chain.proofs.Histories.{first_in}

@@ -1,10 +1,8 @@
 -- A problem with a barrier has a settled pair as a list, and the heads of all cells by that pair.
-use Rattle.step_or_refusal.proofs.Common.{◌≡◌, ℕ, ◌<◌, ◌∙◌, inl, inr, Bool, true, false, List, length, map, refl, sym, ap, subst, arith, ℤ, Bound, Edges}
-use Rattle.step_or_refusal.proofs.Common.{no_bound, lower_at, upper_at, IsSettledPair, FlowModel, TimeStep, one_deck, Entries, range_with_len, cases_Bool}
-use Rattle.step_or_refusal.proofs.Common.{false≢true, length-map-range_with_len, get_or-map-range_with_len, IsProblem, IsConstantPair, bound_at, AreHeadsOf}
-use Rattle.step_or_refusal.proofs.Common.{AreSettled, IsFirstSettled, cell_count, is_variable, index_of, is_active, not, ◌&&◌}
-use Rattle.step_problem.proofs.BothSides.{low_side, high_side}
-use Rattle.step_problem.proofs.Sides.{IsSide, same_as_tight, as_tight_trans, same_settled}
+use Rattle.step_or_refusal.proofs.Common.{◌≡◌, ℕ, ◌<◌, ◌∙◌, inl, inr, Bool, true, false, List, length, map, refl, sym, ap, subst, arith, ℤ, Bound, Edges, no_bound, lower_at, upper_at, IsSettledPair}
+use Rattle.step_or_refusal.proofs.Common.{FlowModel, TimeStep, one_deck, Entries, range_with_len, cases_Bool, false≢true, length-map-range_with_len, get_or-map-range_with_len, IsProblem}
+use Rattle.step_or_refusal.proofs.Common.{IsConstantPair, bound_at, AreHeadsOf, AreSettled, IsFirstSettled, cell_count, is_variable, index_of, is_active, not, ◌&&◌}
+use Rattle.step_problem.proofs.{BothSides.low_side, BothSides.high_side, Sides.IsSide, Sides.same_as_tight, Sides.as_tight_trans, Sides.same_settled}
 use Rattle.problem_builder.proofs.Members.{variable_active, constant_active}
 
 -- being the first settled vector is of the cells below n alone

@@ -1,13 +1,11 @@
 -- A time of a valid model, from heads of all its cells, has a settled step or a refusal.
-use Rattle.step_or_refusal.proofs.Common.{inl, inr, ℕ, ℤ, List, pos, arith, ◌≤ℤ◌, ◌<ℤ◌, ◌⊎◌, ProblemFits, StepOrRefusal, IsConstantPair, Bound, Edges, lower_at}
-use Rattle.step_or_refusal.proofs.Common.{upper_at, head_at, FlowModel, TimeStep, one_deck, IsBefore, NoBound, Entries, entries_at, IsCertificate, Solved}
-use Rattle.step_or_refusal.proofs.Common.{HasNoHeads, IsSettledStep, edges_fit, BarrierOrRefusal, CutBarrierOrRefusal, by_lt_z, ints, Side, Low, High}
-use Rattle.step_or_refusal.proofs.Common.{clamped_edges, range_on, SettledPairExists, lower_balance, upper_balance, Decided, ◌≡◌, refl, problem_of}
-use Rattle.step_or_refusal.proofs.Common.{constant_bound, Result, Ok, Err}
-use Rattle.step_or_refusal.proofs.Settled.{settled_list, heads_list}
+use Rattle.step_or_refusal.proofs.Common.{inl, inr, ℕ, ℤ, List, pos, arith, ◌≤ℤ◌, ◌<ℤ◌, ◌⊎◌, ProblemFits, StepOrRefusal, IsConstantPair, Bound, Edges, lower_at, upper_at, head_at, FlowModel, TimeStep}
+use Rattle.step_or_refusal.proofs.Common.{one_deck, IsBefore, NoBound, Entries, entries_at, IsCertificate, Solved, HasNoHeads, IsSettledStep, edges_fit, BarrierOrRefusal, CutBarrierOrRefusal, by_lt_z}
+use Rattle.step_or_refusal.proofs.Common.{ints, Side, Low, High, clamped_edges, range_on, SettledPairExists, lower_balance, upper_balance, Decided, ◌≡◌, refl, problem_of, constant_bound, Result, Ok}
+use Rattle.step_or_refusal.proofs.Common.{Err}
+use Rattle.step_or_refusal.proofs.{Settled.settled_list, Settled.heads_list, Barrier.refuses_or_not}
 use Rattle.step_problem.proofs.BothSettle.{pair_certifies}
 use Rattle.model_types.specs.declared.limits.Limits.TheVariants.{Plain, Wide}
-use Rattle.step_or_refusal.proofs.Barrier.{refuses_or_not}
 use Rattle.certificate_check.specs.{HoldsAt, IsRangeRefusal}
 
 -- one of two comparisons holds, or none does

@@ -1,19 +1,11 @@
 -- Steps and listings exist, or a refusal says why not.
 use Rattle.std.specs.Prelude.{ℕ, ◌⊎◌, List, Bool, Option}
-use Rattle.step_problem.specs.declared.heads.Bound.{Bound}
-use Rattle.step_problem.specs.declared.place.NoBound.{NoBound}
-use Rattle.model_types.specs.declared.limits.Limits.{Limits}
-use Rattle.model_types.specs.declared.model.FlowModel.{FlowModel}
-use Rattle.model_types.specs.declared.time_steps.TimeStep.{TimeStep}
-use Rattle.model_types.specs.{IsModel}
+use Rattle.step_problem.specs.{declared.heads.Bound.Bound, declared.place.NoBound.NoBound, IsProblem, Edges, Entries.Entries}
+use Rattle.model_types.specs.{declared.limits.Limits.Limits, declared.model.FlowModel.FlowModel, declared.time_steps.TimeStep.TimeStep, IsModel}
 use Rattle.deck_problems.specs.{one_deck, IsBefore}
-use Rattle.step_chain.specs.declared.solved.Solved.{Solved}
-use Rattle.step_chain.specs.{IsSettledStep, HasNoHeads}
-use Rattle.listing_run.specs.declared.solving.Step.{Step}
-use Rattle.listing_run.specs.{AllSteps, one_task}
+use Rattle.step_chain.specs.{declared.solved.Solved.Solved, IsSettledStep, HasNoHeads}
+use Rattle.listing_run.specs.{declared.solving.Step.Step, AllSteps, one_task}
 use Rattle.zone_pairs.specs.{AreZones}
-use Rattle.step_problem.specs.{IsProblem, Edges}
-use Rattle.step_problem.specs.Entries.{Entries}
 use Rattle.barrier_vector.specs.{IsBarrierOf, IsRefused, IsCutBarrierOf, IsUnbounded}
 use Rattle.listing_run.specs.declared.text.ListingEnd.TheVariants as ends
 

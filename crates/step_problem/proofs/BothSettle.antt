@@ -1,9 +1,8 @@
 -- Both sides of a problem can be searched, so there is one settled pair, and it is a certificate.
-use Rattle.step_problem.proofs.Common.{◌≡◌, ℕ, ◌⊎◌, inl, inr, arith, ℤ, pos, negsuc, ◌+ℤ◌, ◌-ℤ◌, ◌≤ℤ◌, List, ints, by_lt_z, up, Entries, entries_at, IsHead}
-use Rattle.step_problem.proofs.Common.{head_limit, Ge, CanRise, CanSink, head_at, SettledPairExists, SettledPairIsOne, SettledPairCertifies, Low, High}
-use Rattle.step_problem.proofs.Falls.{balance_falls}
-use Rattle.step_problem.proofs.BothSides.{low_side, high_side, le_trans, le_anti}
-use Rattle.step_problem.proofs.SidesSettled.{IsSearchable, first_settled_is_there, first_settled_certifies}
+use Rattle.step_problem.proofs.Common.{◌≡◌, ℕ, ◌⊎◌, inl, inr, arith, ℤ, pos, negsuc, ◌+ℤ◌, ◌-ℤ◌, ◌≤ℤ◌, List, ints, by_lt_z, up, Entries, entries_at, IsHead, head_limit, Ge, CanRise, CanSink, head_at}
+use Rattle.step_problem.proofs.Common.{SettledPairExists, SettledPairIsOne, SettledPairCertifies, Low, High}
+use Rattle.step_problem.proofs.{Falls.balance_falls, BothSides.low_side, BothSides.high_side, BothSides.le_trans, BothSides.le_anti, SidesSettled.IsSearchable, SidesSettled.first_settled_is_there}
+use Rattle.step_problem.proofs.{SidesSettled.first_settled_certifies}
 
 -- how many heads are above v, and below it
 above : ℤ → ℕ

@@ -1,9 +1,7 @@
 -- The lower and the upper side of a problem are sides.
-use Rattle.step_problem.proofs.Common.{ℕ, ◌<◌, arith, ℤ, ◌≤ℤ◌, List, length, ints, All, All-weaker, Link, Entries, entries_at, IsProblem, Ge, CanRise, CanSink}
-use Rattle.step_problem.proofs.Common.{pos, neg_ℤ, ◌+ℤ◌, ◌-ℤ◌, ◌<ℤ◌, clamps, by_lt_z, int_min, int_max, IsHead, head_limit, AreHeads, IsSettled, LowerShifts}
-use Rattle.step_problem.proofs.Common.{UpperShifts, Low, High}
-use Rattle.step_problem.proofs.Falls.{balance_rises, balance_moves}
-use Rattle.step_problem.proofs.Sides.{IsSide}
+use Rattle.step_problem.proofs.Common.{ℕ, ◌<◌, arith, ℤ, ◌≤ℤ◌, List, length, ints, All, All-weaker, Link, Entries, entries_at, IsProblem, Ge, CanRise, CanSink, pos, neg_ℤ, ◌+ℤ◌, ◌-ℤ◌, ◌<ℤ◌, clamps}
+use Rattle.step_problem.proofs.Common.{by_lt_z, int_min, int_max, IsHead, head_limit, AreHeads, IsSettled, LowerShifts, UpperShifts, Low, High}
+use Rattle.step_problem.proofs.{Falls.balance_rises, Falls.balance_moves, Sides.IsSide}
 pub use Rattle.decimal_input.proofs.FloorLaws.{le-trans as le_trans, le-antisym as le_anti}
 
 pub le_refl : (x : ℤ) → x ≤ℤ x

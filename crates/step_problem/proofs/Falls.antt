@@ -1,7 +1,6 @@
 -- A balance falls weakly in its own head and rises weakly in the heads at the other ends.
-use Rattle.step_problem.proofs.Common.{ℕ, arith, ℤ, pos, neg_ℤ, ◌+ℤ◌, ◌-ℤ◌, ◌*ℤ◌, ◌≤ℤ◌, List, [], ◌∷◌, get_or, ints, clamps, All, All-head, All-tail, Link}
-use Rattle.step_problem.proofs.Common.{Entries, total, FallsInOwnHead, RisesInOtherHeads, branch_flow, flow_bound, link_flow, fixed_flow, river_flow}
-use Rattle.step_problem.proofs.Common.{drain_flow, evap_flow, balance, Side, Low, High}
+use Rattle.step_problem.proofs.Common.{ℕ, arith, ℤ, pos, neg_ℤ, ◌+ℤ◌, ◌-ℤ◌, ◌*ℤ◌, ◌≤ℤ◌, List, [], ◌∷◌, get_or, ints, clamps, All, All-head, All-tail, Link, Entries, total, FallsInOwnHead}
+use Rattle.step_problem.proofs.Common.{RisesInOtherHeads, branch_flow, flow_bound, link_flow, fixed_flow, river_flow, drain_flow, evap_flow, balance, Side, Low, High}
 use Rattle.step_problem.proofs.Leasts.{mul_mono, least_rises, most_rises}
 
 -- sums of terms none of which is greater, for each element of the list, or for each that there is

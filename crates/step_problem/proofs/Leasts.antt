@@ -1,8 +1,7 @@
 -- Order laws of the least and the greatest flow over a conductance that is known by bounds.
-use Rattle.step_problem.proofs.Common.{◌≡◌, ℕ, zero, suc, ◌*◌, ◌≤◌, refl, ap, ◌∙◌, arith, ℤ, pos, negsuc, neg_ℤ, ◌*ℤ◌, ◌≤ℤ◌, ◌+ℤ◌, ◌-ℤ◌, mul-le-mul_left, ◌<ℤ◌}
-use Rattle.step_problem.proofs.Common.{mul-le-mul_right, ints, least, most, le_out, Side, Low, High, bound_on, branch_flow}
-pub use Rattle.decimal_input.proofs.Differences.{as_diff, diffs, same_diff}
-pub use Rattle.decimal_input.proofs.FloorLaws.{neg_times as neg_mul}
+use Rattle.step_problem.proofs.Common.{◌≡◌, ℕ, zero, suc, ◌*◌, ◌≤◌, refl, ap, ◌∙◌, arith, ℤ, pos, negsuc, neg_ℤ, ◌*ℤ◌, ◌≤ℤ◌, ◌+ℤ◌, ◌-ℤ◌, mul-le-mul_left, ◌<ℤ◌, mul-le-mul_right, ints, least, most}
+use Rattle.step_problem.proofs.Common.{le_out, Side, Low, High, bound_on, branch_flow}
+pub use Rattle.decimal_input.proofs.{Differences.as_diff, Differences.diffs, Differences.same_diff, FloorLaws.neg_times as neg_mul}
 
 -- Ring laws and order laws of whole numbers, by differences of natural ones.
 pub mul_add : (a b c : ℤ) → a *ℤ (b +ℤ c) ≡ a *ℤ b +ℤ a *ℤ c

@@ -1,10 +1,8 @@
 -- Settled heads that have left a barrier inside another one are the first settled ones past the other.
-use Rattle.step_problem.proofs.Common.{ℕ, zero, suc, ◌*◌, ◌<◌, ◌⊎◌, inl, inr, ⊎_elim, arith, ℤ, ◌≤ℤ◌, ◌<ℤ◌, List, length, ints, clamps, by_lt_z, Entries}
-use Rattle.step_problem.proofs.Common.{IsHead, IsProblem, head_limit, AsTight, AreHeads, IsSettled, IsFirstSettled, Ge, CanRise, CanSink, head_at}
-use Rattle.step_problem.proofs.Common.{LeavingSettles}
+use Rattle.step_problem.proofs.Common.{ℕ, zero, suc, ◌*◌, ◌<◌, ◌⊎◌, inl, inr, ⊎_elim, arith, ℤ, ◌≤ℤ◌, ◌<ℤ◌, List, length, ints, clamps, by_lt_z, Entries, IsHead, IsProblem, head_limit, AsTight}
+use Rattle.step_problem.proofs.Common.{AreHeads, IsSettled, IsFirstSettled, Ge, CanRise, CanSink, head_at, LeavingSettles}
 use Rattle.decimal_input.proofs.FloorLaws.{lt-not-le}
-use Rattle.step_problem.proofs.Sides.{IsSide, as_tight_trans}
-use Rattle.step_problem.proofs.BothSides.{low_side, high_side, raised, sunk, raised_settled, sunk_settled}
+use Rattle.step_problem.proofs.{Sides.IsSide, Sides.as_tight_trans, BothSides.low_side, BothSides.high_side, BothSides.raised, BothSides.sunk, BothSides.raised_settled, BothSides.sunk_settled}
 
 -- all heads of a side can be made tighter by so many units
 record IsShiftable (Le : ℤ → ℤ → Type 0) (Moves : ℕ → ℤ → (ℕ → ℤ) → Type 0) (n : ℕ) : Type 0 where

@@ -1,12 +1,9 @@
 -- A pair of either kind is a certificate, and what a settler gives is a pair of its kind.
-use Rattle.step_problem.proofs.Common.{Result, Ok, Err, Entries, IsProblem, Edges, IsBarrier, lower_at, upper_at, inl, inr, PairKind, AreCertified, AreSettled}
-use Rattle.step_problem.proofs.Common.{IsGiven, IsPairOf, Gives, settled, certified}
+use Rattle.step_problem.proofs.Common.{Result, Ok, Err, Entries, IsProblem, Edges, IsBarrier, lower_at, upper_at, inl, inr, PairKind, AreCertified, AreSettled, IsGiven, IsPairOf, Gives, settled}
+use Rattle.step_problem.proofs.Common.{certified}
 use Rattle.std.specs.Prelude.{ℕ, List}
-use Rattle.std.specs.declared.vec.Vec.{Vec}
-use Rattle.std.specs.declared.alloc.Global.{Global}
-use Rattle.step_problem.specs.declared.heads.Bound.{Bound}
-use Rattle.step_problem.specs.declared.heads.SettleFault.{SettleFault}
-use Rattle.step_problem.specs.declared.heads.SettleFault.TheVariants.{Unfinished, Memory}
+use Rattle.std.specs.{declared.vec.Vec.Vec, declared.alloc.Global.Global}
+use Rattle.step_problem.specs.{declared.heads.Bound.Bound, declared.heads.SettleFault.SettleFault, declared.heads.SettleFault.TheVariants.Unfinished, declared.heads.SettleFault.TheVariants.Memory}
 use Rattle.step_problem.proofs.BothSettle.{pair_certifies}
 
 -- the settled pair is a pair of either kind

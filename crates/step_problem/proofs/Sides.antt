@@ -1,6 +1,6 @@
 -- One side of the heads: what its order of tightness and its moves keep, and what follows of relaxed heads.
-use Rattle.step_problem.proofs.Common.{◌≡◌, ℕ, ◌<◌, ◌⊎◌, ℤ, sym, subst, inl, inr, ⊎_elim, IsHead, AsTight, AreHeads, IsRelaxed, IsPast, IsSettled, IsCertified}
-use Rattle.step_problem.proofs.Common.{IsFirstSettled, IsOnTheWay, zero, suc, IsRound, Rounds, RoundsSettle, IsNoTighterThanSettled, KeepsOrder}
+use Rattle.step_problem.proofs.Common.{◌≡◌, ℕ, ◌<◌, ◌⊎◌, ℤ, sym, subst, inl, inr, ⊎_elim, IsHead, AsTight, AreHeads, IsRelaxed, IsPast, IsSettled, IsCertified, IsFirstSettled, IsOnTheWay, zero, suc}
+use Rattle.step_problem.proofs.Common.{IsRound, Rounds, RoundsSettle, IsNoTighterThanSettled, KeepsOrder}
 
 -- tightness is an order, and a cell may go as far from heads that are as tight
 pub record IsSide (Le : ℤ → ℤ → Type 0) (Moves : ℕ → ℤ → (ℕ → ℤ) → Type 0) (n : ℕ) : Type 0 where

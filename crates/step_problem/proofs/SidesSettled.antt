@@ -1,6 +1,6 @@
 -- On one side the first settled heads are there: rounds from the barrier reach them, since each makes the room that is left less.
-use Rattle.step_problem.proofs.Common.{◌≡◌, ℕ, zero, suc, ◌+◌, ◌<◌, ◌≤◌, sym, subst, arith, ℤ, ⊎_elim, ◌⊎◌, refl, inl, inr, cases_lt, cases_eq, AsTight}
-use Rattle.step_problem.proofs.Common.{AreHeads, IsRound, IsSettled, IsCertified, IsFirstSettled, IsOnTheWay, IsHead, IsRelaxed}
+use Rattle.step_problem.proofs.Common.{◌≡◌, ℕ, zero, suc, ◌+◌, ◌<◌, ◌≤◌, sym, subst, arith, ℤ, ⊎_elim, ◌⊎◌, refl, inl, inr, cases_lt, cases_eq, AsTight, AreHeads, IsRound, IsSettled, IsCertified}
+use Rattle.step_problem.proofs.Common.{IsFirstSettled, IsOnTheWay, IsHead, IsRelaxed}
 use Rattle.step_problem.proofs.Sides.{IsSide, edge_kept, first_settled, first_settled_is_one, same_certified, round_tightens, round_on_the_way}
 
 -- On one side the relaxed heads are there: a search over the range of heads finds each.

@@ -1,6 +1,5 @@
 -- One exchange on one side: a word goes to the tighter of itself and a relaxed head from heads that were seen.
-use Rattle.step_problem.proofs.Common.{◌≡◌, ℕ, ◌<◌, ◌⊎◌, ℤ, refl, sym, ◌∙◌, subst, inr, ⊎_elim, cases_eq, IsHead, AsTight, IsRelaxed, IsSettled, IsOnTheWay}
-use Rattle.step_problem.proofs.Common.{AreSeen, IsExchange}
+use Rattle.step_problem.proofs.Common.{◌≡◌, ℕ, ◌<◌, ◌⊎◌, ℤ, refl, sym, ◌∙◌, subst, inr, ⊎_elim, cases_eq, IsHead, AsTight, IsRelaxed, IsSettled, IsOnTheWay, AreSeen, IsExchange}
 use Rattle.step_problem.proofs.Sides.{IsSide, as_tight_refl, as_tight_trans, relaxed_head, turn_under, edge_or_move_stays}
 
 -- a fact of each cell, by whether it is cell c

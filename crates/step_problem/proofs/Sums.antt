@@ -1,8 +1,7 @@
 -- Sums of flows: how far each lies from zero, and one step of a loop that makes them.
-use Rattle.step_problem.proofs.Common.{◌≡◌, refl, ℕ, suc, ◌+◌, ◌*◌, ◌^◌, ◌<◌, ◌≤◌, ap, arith, ℤ, pos, negsuc, ◌+ℤ◌, ◌-ℤ◌, ◌*ℤ◌, List, length, get_or, min, take}
-use Rattle.step_problem.proofs.Common.{drop, sum_by, FitsSigned, w128, at_drop_more, get_or-map, mul-le-mul, mul-le-mul_right, ints, clamps, Link, ends_in}
-use Rattle.step_problem.proofs.Common.{neg_ℤ, int_max, link_at, branch_flow, link_flow, river_flow, deep_river, head_limit, total, IsMagnitudeAtMost, RiverFits}
-use Rattle.step_problem.proofs.Common.{Side, Low, High}
+use Rattle.step_problem.proofs.Common.{◌≡◌, refl, ℕ, suc, ◌+◌, ◌*◌, ◌^◌, ◌<◌, ◌≤◌, ap, arith, ℤ, pos, negsuc, ◌+ℤ◌, ◌-ℤ◌, ◌*ℤ◌, List, length, get_or, min, take, drop, sum_by, FitsSigned, w128}
+use Rattle.step_problem.proofs.Common.{at_drop_more, get_or-map, mul-le-mul, mul-le-mul_right, ints, clamps, Link, ends_in, neg_ℤ, int_max, link_at, branch_flow, link_flow, river_flow, deep_river}
+use Rattle.step_problem.proofs.Common.{head_limit, total, IsMagnitudeAtMost, RiverFits, Side, Low, High}
 use Rattle.step_problem.specs.declared.entry.River.{River}
 use Rattle.std.proofs.lemmas.List.Sums.{sum_by_more, sum_by-take-le}
 

@@ -2,15 +2,9 @@
 -- finite-difference equation), over entries that are known by bounds.
 use Rattle.std.specs.Prelude.{ℕ, ℤ, pos, neg_ℤ, ◌+ℤ◌, ◌-ℤ◌, List, [], ◌∷◌, ◌*◌, negsuc, suc}
 use Rattle.std.specs.Int.{int_max, int_min}
-use Rattle.step_problem.specs.declared.entry.Link.{Link}
-use Rattle.step_problem.specs.declared.entry.Fixed.{Fixed}
-use Rattle.step_problem.specs.declared.entry.River.{River}
-use Rattle.step_problem.specs.declared.entry.Drain.{Drain}
-use Rattle.step_problem.specs.declared.entry.Evap.{Evap}
-use Rattle.step_problem.specs.Entries.{Entries}
-use Rattle.step_problem.specs.declared.heads.Side.{Side}
-use Rattle.step_problem.specs.declared.heads.Side.TheVariants.{Low, High}
-use Rattle.step_problem.specs.declared.entry.Flow.{Flow}
+use Rattle.step_problem.specs.{declared.entry.Link.Link, declared.entry.Fixed.Fixed, declared.entry.River.River, declared.entry.Drain.Drain}
+use Rattle.step_problem.specs.{declared.entry.Evap.Evap, Entries.Entries, declared.heads.Side.Side, declared.heads.Side.TheVariants.Low}
+use Rattle.step_problem.specs.{declared.heads.Side.TheVariants.High, declared.entry.Flow.Flow}
 
 -- Flows over a conductance that is known by two bounds.
 -- the least of c * d, for a conductance c from lo to hi

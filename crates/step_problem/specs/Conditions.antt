@@ -1,14 +1,8 @@
 -- The conditions on a list of cells that make it a step's problem.
 use Rattle.std.specs.Prelude.{◌≡◌, ℕ, ℤ, pos, neg_ℤ, List, All, Contains, length, max, sum_by, unsigned_abs, ◌+◌, ◌*◌, ◌^◌, ◌<◌, ◌≤◌, ◌-ℤ◌, ◌≤ℤ◌}
-use Rattle.step_problem.specs.declared.entry.Link.{Link}
-use Rattle.step_problem.specs.declared.entry.Fixed.{Fixed}
-use Rattle.step_problem.specs.declared.entry.River.{River}
-use Rattle.step_problem.specs.declared.entry.Drain.{Drain}
-use Rattle.step_problem.specs.declared.entry.Evap.{Evap}
-use Rattle.step_problem.specs.Entries.{Entries, entries_at, link_at}
-use Rattle.step_problem.specs.declared.heads.Side.{Side}
-use Rattle.step_problem.specs.declared.heads.Side.TheVariants.{Low, High}
-use Rattle.step_problem.specs.Balances.{bound_on, branch_flow}
+use Rattle.step_problem.specs.{declared.entry.Link.Link, declared.entry.Fixed.Fixed, declared.entry.River.River, declared.entry.Drain.Drain}
+use Rattle.step_problem.specs.{declared.entry.Evap.Evap, Entries.Entries, Entries.entries_at, Entries.link_at, declared.heads.Side.Side}
+use Rattle.step_problem.specs.{declared.heads.Side.TheVariants.Low, declared.heads.Side.TheVariants.High, Balances.bound_on, Balances.branch_flow}
 
 -- z lies from -b to b
 pub record IsMagnitudeAtMost (z : ℤ) (b : ℕ) : Type 0 where

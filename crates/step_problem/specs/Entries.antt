@@ -1,11 +1,7 @@
 -- The data of a step's problem, as lists.
 use Rattle.std.specs.Prelude.{ℕ, ℤ, List, [], map, slice_index_or}
-use Rattle.step_problem.specs.declared.entry.Link.{Link}
-use Rattle.step_problem.specs.declared.entry.Fixed.{Fixed}
-use Rattle.step_problem.specs.declared.entry.River.{River}
-use Rattle.step_problem.specs.declared.entry.Drain.{Drain}
-use Rattle.step_problem.specs.declared.entry.Evap.{Evap}
-use Rattle.step_problem.specs.declared.entry.Flow.{Flow}
+use Rattle.step_problem.specs.{declared.entry.Link.Link, declared.entry.Fixed.Fixed, declared.entry.River.River, declared.entry.Drain.Drain}
+use Rattle.step_problem.specs.{declared.entry.Evap.Evap, declared.entry.Flow.Flow}
 
 -- a variable cell: its cell number, and its entries by kind
 pub record Entries : Type 0 where

@@ -1,11 +1,7 @@
 -- Both sides of a problem's heads: raise and sink values, the settled pair, the certificate.
 use Rattle.std.specs.Prelude.{◌≡◌, ℕ, ◌<◌, ◌⊎◌, List, length, ℤ, pos, ◌≤ℤ◌, slice_index_or}
-use Rattle.step_problem.specs.declared.heads.Bound.{Bound}
-use Rattle.step_problem.specs.declared.heads.Side.{Side}
-use Rattle.step_problem.specs.Entries.{Entries, entries_at}
-use Rattle.step_problem.specs.Balances.{lower_balance, upper_balance}
-use Rattle.step_problem.specs.Conditions.{IsHead}
-use Rattle.step_problem.specs.Sides.{IsRelaxed, RoundsSettle, IsFirstSettled, IsOnTheWay}
+use Rattle.step_problem.specs.{declared.heads.Bound.Bound, declared.heads.Side.Side, Entries.Entries, Entries.entries_at, Balances.lower_balance}
+use Rattle.step_problem.specs.{Balances.upper_balance, Conditions.IsHead, Sides.IsRelaxed, Sides.RoundsSettle, Sides.IsFirstSettled, Sides.IsOnTheWay}
 
 -- the floor and the ceiling of a barrier, a head for each variable cell
 pub record Edges : Type 0 where

@@ -1,10 +1,7 @@
 -- Laws of balances, rounds and settled heads.
 use Rattle.std.specs.Prelude.{◌≡◌, ℕ, ◌<◌, List, length, ℤ, ◌≤ℤ◌, All, ◌⊎◌, pos, ◌+ℤ◌, ◌-ℤ◌, ◌<ℤ◌}
-use Rattle.step_problem.specs.Entries.{Entries}
-use Rattle.step_problem.specs.Conditions.{IsProblem}
-use Rattle.step_problem.specs.Sides.{AsTight, IsRound}
-use Rattle.step_problem.specs.Heads.{Edges, Ge, CanRise, CanSink, IsBarrier, IsSettledPair, IsCertificate, head_at}
-use Rattle.step_problem.specs.Balances.{lower_balance, upper_balance}
+use Rattle.step_problem.specs.{Entries.Entries, Conditions.IsProblem, Sides.AsTight, Sides.IsRound, Heads.Edges, Heads.Ge, Heads.CanRise, Heads.CanSink}
+use Rattle.step_problem.specs.{Heads.IsBarrier, Heads.IsSettledPair, Heads.IsCertificate, Heads.head_at, Balances.lower_balance, Balances.upper_balance}
 
 -- a balance falls weakly in its own head
 abbrev pub FallsInOwnHead : (Entries → ℤ → (ℕ → ℤ) → ℤ) → Type 0

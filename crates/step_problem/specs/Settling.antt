@@ -1,15 +1,11 @@
 -- What a settler returns: the pair of a problem, by its kind, or why there is none.
 use Rattle.std.specs.Prelude.{◌≡◌, ◌⊎◌, ℕ, ◌<◌, List, length, All, ℤ, pos, neg_ℤ, ◌<ℤ◌, Result, Ok, Err}
-use Rattle.std.specs.declared.vec.Vec.{Vec}
-use Rattle.std.specs.declared.alloc.Global.{Global}
-use Rattle.step_problem.specs.declared.heads.Bound.{Bound}
-use Rattle.step_problem.specs.declared.heads.Side.{Side}
-use Rattle.step_problem.specs.declared.heads.Side.TheVariants.{Low, High}
-use Rattle.step_problem.specs.declared.heads.SettleFault.{SettleFault}
-use Rattle.step_problem.specs.declared.heads.SettleFault.TheVariants.{Unfinished, Memory}
-use Rattle.step_problem.specs.Entries.{Entries}
-use Rattle.step_problem.specs.Conditions.{IsHead, head_limit}
-use Rattle.step_problem.specs.Heads.{Edges, OpenHeads, lower_at, upper_at, CanRise, CanSink, IsSettledPair, IsCertificate, RoundsSettleBoth, AreOnTheWay}
+use Rattle.std.specs.{declared.vec.Vec.Vec, declared.alloc.Global.Global}
+use Rattle.step_problem.specs.{declared.heads.Bound.Bound, declared.heads.Side.Side, declared.heads.Side.TheVariants.Low, declared.heads.Side.TheVariants.High}
+use Rattle.step_problem.specs.{declared.heads.SettleFault.SettleFault, declared.heads.SettleFault.TheVariants.Unfinished}
+use Rattle.step_problem.specs.{declared.heads.SettleFault.TheVariants.Memory, Entries.Entries, Conditions.IsHead, Conditions.head_limit, Heads.Edges}
+use Rattle.step_problem.specs.{Heads.OpenHeads, Heads.lower_at, Heads.upper_at, Heads.CanRise, Heads.CanSink, Heads.IsSettledPair, Heads.IsCertificate}
+use Rattle.step_problem.specs.{Heads.RoundsSettleBoth, Heads.AreOnTheWay}
 
 -- A settler gives the settled pair, or any pair that is a certificate, by a test.
 pub data PairKind : Type 0 where

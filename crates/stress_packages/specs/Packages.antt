@@ -1,14 +1,11 @@
 -- The packages of wells, rivers, drains and general heads (TM 6-A16, WEL, RIV, DRN, GHB).
-use Rattle.model_types.specs.declared.entry.Entry.{Entry}
+use Rattle.model_types.specs.{declared.entry.Entry.Entry, declared.model.FlowModel.FlowModel}
 use Rattle.list_package.specs.declared.entries.ListKind.TheVariants.{Wells, Rivers, Drains, Generals}
 use Rattle.list_package.specs.{kind_of, Kind}
 use Rattle.std.specs.Prelude.{ℕ, false, List, [], Result, Ok}
-use Rattle.outside.specs.{FileSet}
-use Rattle.outside.specs.declared.inputs.Refusal.{Refusal}
+use Rattle.outside.specs.{FileSet, declared.inputs.Refusal.Refusal}
 use Rattle.record_lines.specs.{◌>>=◌}
-use Rattle.model_types.specs.declared.model.FlowModel.{FlowModel}
-use Rattle.period_arrays.specs.{ArrayKind, arrays_in}
-use Rattle.period_arrays.specs.declared.read.ArrayFile.{ArrayFile}
+use Rattle.period_arrays.specs.{ArrayKind, arrays_in, declared.read.ArrayFile.ArrayFile}
 
 abbrev pub wells : Kind Entry
 wells = kind_of Wells

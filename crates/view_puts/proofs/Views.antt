@@ -1,10 +1,8 @@
 -- One view more, as a put more.
-use Rattle.view_puts.proofs.Common.{◌≡◌, ℕ, ◌+◌, refl, sym, ap, ◌∙◌, subst, arith, false, List, [], ◌∷◌, ◌++◌, length, map, Result, Ok, Err, Option, Some, None}
-use Rattle.view_puts.proofs.Common.{is_some, IfOk, Put, whole_put, failed_put}
-use Rattle.std.specs.Result.{result_err}
+use Rattle.view_puts.proofs.Common.{◌≡◌, ℕ, ◌+◌, refl, sym, ap, ◌∙◌, subst, arith, false, List, [], ◌∷◌, ◌++◌, length, map, Result, Ok, Err, Option, Some, None, is_some, IfOk, Put, whole_put}
+use Rattle.view_puts.proofs.Common.{failed_put}
+use Rattle.std.specs.{Result.result_err, declared.vec.Vec.Vec, declared.alloc.Global.Global}
 use Rattle.std.proofs.lemmas.List.{append-nil, append_assoc}
-use Rattle.std.specs.declared.vec.Vec.{Vec}
-use Rattle.std.specs.declared.alloc.Global.{Global}
 use Rattle.outside.specs.declared.traits.SinkError.{SinkError}
 use Rattle.step_problem.specs.declared.heads.Bound.{Bound}
 use Rattle.view_puts.specs.{IsPutOf, IsStopPut, AreAllShown, LeadOn, ViewPuts}

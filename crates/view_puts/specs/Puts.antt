@@ -2,10 +2,8 @@
 use Rattle.std.specs.Prelude.{◌≡◌, ◌⊎◌, ℕ, List, [], ◌∷◌, ◌++◌, map, length, refl, Option, Some, None, Result, Ok, Err}
 use Rattle.std.proofs.Common.{subst, sym}
 use Rattle.std.proofs.lemmas.List.{append-nil}
-use Rattle.std.specs.declared.vec.Vec.{Vec}
-use Rattle.std.specs.declared.alloc.Global.{Global}
-use Rattle.outside.specs.{Put, whole_put, failed_put}
-use Rattle.outside.specs.declared.traits.SinkError.{SinkError}
+use Rattle.std.specs.{declared.vec.Vec.Vec, declared.alloc.Global.Global}
+use Rattle.outside.specs.{Put, whole_put, failed_put, declared.traits.SinkError.SinkError}
 use Rattle.outside.specs.declared.traits.SinkError.TheVariants as error
 use Rattle.step_problem.specs.declared.heads.Bound.{Bound}
 

@@ -1,22 +1,18 @@
 -- The saturated thickness lies between its two decimals, at all heads within the bounds.
-use Rattle.water_conductances.proofs.Common.{◌≡◌, ℕ, ◌*◌, ◌^◌, ◌<◌, ◌≤◌, Bool, true, false, cond, refl, subst, arith, ℤ, pos, negsuc, neg_ℤ, ◌-ℤ◌, ◌*ℤ◌, ◌≤ℤ◌}
-use Rattle.water_conductances.proofs.Common.{◌<ℤ◌, List, mul-pos, by_lt_z, clamps, ints, int_min, int_lt, not, unsigned_abs, ◌||◌, units_ceiling, units_floor}
-use Rattle.water_conductances.proofs.Common.{IsBetween, thick_span, floor_ceiling_enclose, mul_mono_right, last_factors_swap, EnclosesSigned, Fraction, IsOver}
-use Rattle.water_conductances.proofs.Common.{IsShare, Ratio, number, den, gap, IsModel, bottom_at, cell_count, is_active, thickness, top_at, Lower, Upper}
-use Rattle.water_conductances.proofs.Common.{is_rounded, rounded_positive, span_positive, thick_between, Span, Dec, FlowModel, HeadsEnclose, Bound, lower_at}
-use Rattle.water_conductances.proofs.Common.{upper_at, ConvertibleLayers, is_convertible, has_depth, least_units, most_units, saturated_span}
+use Rattle.water_conductances.proofs.Common.{◌≡◌, ℕ, ◌*◌, ◌^◌, ◌<◌, ◌≤◌, Bool, true, false, cond, refl, subst, arith, ℤ, pos, negsuc, neg_ℤ, ◌-ℤ◌, ◌*ℤ◌, ◌≤ℤ◌, ◌<ℤ◌, List, mul-pos, by_lt_z, clamps}
+use Rattle.water_conductances.proofs.Common.{ints, int_min, int_lt, not, unsigned_abs, ◌||◌, units_ceiling, units_floor, IsBetween, thick_span, floor_ceiling_enclose, mul_mono_right}
+use Rattle.water_conductances.proofs.Common.{last_factors_swap, EnclosesSigned, Fraction, IsOver, IsShare, Ratio, number, den, gap, IsModel, bottom_at, cell_count, is_active, thickness, top_at, Lower}
+use Rattle.water_conductances.proofs.Common.{Upper, is_rounded, rounded_positive, span_positive, thick_between, Span, Dec, FlowModel, HeadsEnclose, Bound, lower_at, upper_at, ConvertibleLayers}
+use Rattle.water_conductances.proofs.Common.{is_convertible, has_depth, least_units, most_units, saturated_span}
 use Rattle.std.proofs.Math.Nat.{mul-le-mul_right, le_of_mul-le-mul_right}
-use Rattle.cell_balance.proofs.Deep.{sub_mul}
-use Rattle.cell_balance.proofs.Denominators.{Goes-first, Goes-second, fraction_over, left_goes, right_goes}
-use Rattle.cell_balance.proofs.Enclosed.{between_over}
-use Rattle.cell_balance.proofs.Scaling.{IsOver-lesser, min_times}
+use Rattle.cell_balance.proofs.{Deep.sub_mul, Denominators.Goes-first, Denominators.Goes-second, Denominators.fraction_over, Denominators.left_goes, Denominators.right_goes, Enclosed.between_over}
+use Rattle.cell_balance.proofs.{Scaling.IsOver-lesser, Scaling.min_times}
 use Rattle.cell_balance.specs.{lesser}
 use Rattle.decimal_input.specs.Ratios.{den as ratio_den}
 use Rattle.step_problem.proofs.Leasts.{mul_assoc}
 use Rattle.pair_flows.proofs.Ordered.{is_less}
 use Rattle.water_enclosure.proofs.Thick.{gap_share}
-use Rattle.decimal_input.proofs.Orders.{AtMost-trans}
-use Rattle.decimal_input.proofs.Powers.{den_scaled, num_scaled}
+use Rattle.decimal_input.proofs.{Orders.AtMost-trans, Powers.den_scaled, Powers.num_scaled}
 unfoldable use Rattle.water_conductances.specs.{span_of_units}
 unfoldable use Rattle.decimal_input.specs.{scaled_ratio}
 unfoldable use Rattle.conductance_bounds.specs.{units_at}

@@ -1,16 +1,13 @@
 -- The pair of a face encloses its conductance at all heads within the bounds.
-use Rattle.water_conductances.proofs.Common.{◌≡◌, ℕ, zero, suc, ◌+◌, ◌^◌, ◌<◌, inl, inr, Bool, true, false, cond, refl, sym, ap, ◌∙◌, subst, arith, List}
-use Rattle.water_conductances.proofs.Common.{and_parts, cases_Bool, eq-eqb, false≢true, ne_eqb, ◌&&◌, ◌==◌, Encloses, Fraction, Ratio, number, size, Dec, Axis}
-use Rattle.water_conductances.proofs.Common.{FlowModel, IsModel, bed_thickness, bottom_at, cell_count, dec_at, delc_at, delr_at, has_bed, hk_at, is_active}
-use Rattle.water_conductances.proofs.Common.{is_ratio, layer_size, lowest, one, stride, vka_at, vkcb_at, cell_below_means_layers, no_gap, IsReady, is_ready}
-use Rattle.water_conductances.proofs.Common.{span_positive, thick_between, Pair, Span, Bed, VertHalf, Number, PairEncloses, Quotient, Within, area_formula}
-use Rattle.water_conductances.proofs.Common.{bed_of, bed_span, column_k, column_of, resistance_sum, row_of, vertical_half_of, vertical_of, capped_encloses}
-use Rattle.water_conductances.proofs.Common.{HeadsEnclose, IsBranch, no_pair, no_span, Bound, ConvertibleLayers, conductance_at, PairsEnclose, bed_below}
-use Rattle.water_conductances.proofs.Common.{column_half, face_formula, has_depth, layer_half, row_half, saturated_span}
+use Rattle.water_conductances.proofs.Common.{◌≡◌, ℕ, zero, suc, ◌+◌, ◌^◌, ◌<◌, inl, inr, Bool, true, false, cond, refl, sym, ap, ◌∙◌, subst, arith, List, and_parts, cases_Bool, eq-eqb, false≢true}
+use Rattle.water_conductances.proofs.Common.{ne_eqb, ◌&&◌, ◌==◌, Encloses, Fraction, Ratio, number, size, Dec, Axis, FlowModel, IsModel, bed_thickness, bottom_at, cell_count, dec_at, delc_at, delr_at}
+use Rattle.water_conductances.proofs.Common.{has_bed, hk_at, is_active, is_ratio, layer_size, lowest, one, stride, vka_at, vkcb_at, cell_below_means_layers, no_gap, IsReady, is_ready, span_positive}
+use Rattle.water_conductances.proofs.Common.{thick_between, Pair, Span, Bed, VertHalf, Number, PairEncloses, Quotient, Within, area_formula, bed_of, bed_span, column_k, column_of, resistance_sum}
+use Rattle.water_conductances.proofs.Common.{row_of, vertical_half_of, vertical_of, capped_encloses, HeadsEnclose, IsBranch, no_pair, no_span, Bound, ConvertibleLayers, conductance_at, PairsEnclose}
+use Rattle.water_conductances.proofs.Common.{bed_below, column_half, face_formula, has_depth, layer_half, row_half, saturated_span}
 use Rattle.model_types.specs.declared.face.Axis.TheVariants.{Column, Row, Vertical}
-use Rattle.conductance_bounds.proofs.LayerBounds.{IsBedded, layers_give, no_bed, some_bed}
-use Rattle.conductance_bounds.proofs.Manual.{Gives, term_pair_encloses, row_gives}
-use Rattle.conductance_bounds.proofs.Sides.{IsFactor, exact_positive, product_is_factor, size_positive, within_is_factor}
+use Rattle.conductance_bounds.proofs.{LayerBounds.IsBedded, LayerBounds.layers_give, LayerBounds.no_bed, LayerBounds.some_bed, Manual.Gives, Manual.term_pair_encloses, Manual.row_gives}
+use Rattle.conductance_bounds.proofs.{Sides.IsFactor, Sides.exact_positive, Sides.product_is_factor, Sides.size_positive, Sides.within_is_factor}
 use Rattle.water_conductances.proofs.Depths.{IsSpanOf, span_is}
 unfoldable use Rattle.conductance_bounds.specs.{bound, capped_pair, pair}
 unfoldable use Rattle.water_table.specs.{column_branch, row_branch, saturated_thickness, vertical_branch, vertical_part}

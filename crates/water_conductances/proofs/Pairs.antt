@@ -1,7 +1,6 @@
 -- The pair of a face, from the decimals of its two cells; and the bed below a cell.
-use Rattle.water_conductances.proofs.Common.{◌≡◌, ℕ, ◌+◌, ◌⊎◌, inl, inr, Bool, true, false, cond, sym, ap, ◌∙◌, List, arith, eq-eqb, ne_eqb, ◌&&◌, ◌==◌, Axis}
-use Rattle.water_conductances.proofs.Common.{FlowModel, bed_thickness, stride, Pair, Span, bed_span, IsBedOf, IsNoBed, no_pair, no_span, Bound}
-use Rattle.water_conductances.proofs.Common.{ConvertibleLayers, formula_of, has_depth, pair_at_heads, saturated_span}
+use Rattle.water_conductances.proofs.Common.{◌≡◌, ℕ, ◌+◌, ◌⊎◌, inl, inr, Bool, true, false, cond, sym, ap, ◌∙◌, List, arith, eq-eqb, ne_eqb, ◌&&◌, ◌==◌, Axis, FlowModel, bed_thickness, stride, Pair}
+use Rattle.water_conductances.proofs.Common.{Span, bed_span, IsBedOf, IsNoBed, no_pair, no_span, Bound, ConvertibleLayers, formula_of, has_depth, pair_at_heads, saturated_span}
 unfoldable use Rattle.conductance_bounds.specs.{capped_pair}
 
 module _ (m : FlowModel) (w : ConvertibleLayers) (heads : List Bound) (s : ℕ) (axis : Axis) (a b : ℕ) (next : b ≡ a + stride m.grid axis) where

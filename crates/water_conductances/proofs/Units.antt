@@ -1,8 +1,7 @@
 -- Units of the elevations of an active cell, where a single call finds them too large.
-use Rattle.water_conductances.proofs.Common.{◌≡◌, ℕ, ◌^◌, ◌<◌, ◌≤◌, arith, ℤ, pos, negsuc, neg_ℤ, ◌≤ℤ◌, ◌<ℤ◌, List, clamps, ints, unsigned_abs, bottom_small}
-use Rattle.water_conductances.proofs.Common.{lower_end, top_small, upper_end, units_ceiling, units_floor, floor_ceiling_enclose, cancel_right, mul_mono_right}
-use Rattle.water_conductances.proofs.Common.{Dec, IsSignedCeiling, IsSignedFloor, number, den, FlowModel, IsThick, bottom_at, top_at, Lower, Upper, Bound}
-use Rattle.water_conductances.proofs.Common.{lower_at, upper_at, least_units, most_units}
+use Rattle.water_conductances.proofs.Common.{◌≡◌, ℕ, ◌^◌, ◌<◌, ◌≤◌, arith, ℤ, pos, negsuc, neg_ℤ, ◌≤ℤ◌, ◌<ℤ◌, List, clamps, ints, unsigned_abs, bottom_small, lower_end, top_small, upper_end}
+use Rattle.water_conductances.proofs.Common.{units_ceiling, units_floor, floor_ceiling_enclose, cancel_right, mul_mono_right, Dec, IsSignedCeiling, IsSignedFloor, number, den, FlowModel, IsThick}
+use Rattle.water_conductances.proofs.Common.{bottom_at, top_at, Lower, Upper, Bound, lower_at, upper_at, least_units, most_units}
 unfoldable use Rattle.conductance_bounds.specs.{units_at}
 
 module _ (top bottom : Dec) (k : IsThick top bottom) where

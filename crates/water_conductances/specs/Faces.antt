@@ -1,24 +1,16 @@
 -- The bounds of the conductance of a face at heads that are known by bounds: the formulas of a confined model's faces over the bounds of the saturated
 -- thickness.
-use Rattle.std.specs.Prelude.{ℕ, ◌+◌, ◌≡◌, ◌<◌, ◌^◌, ◌&&◌, ◌==◌, cond, true, List, ◌≤ℤ◌}
+use Rattle.std.specs.Prelude.{ℕ, ◌+◌, ◌<◌, ◌^◌, ◌&&◌, ◌==◌, cond, List, ◌≤ℤ◌}
 use Rattle.decimal_input.specs.{Encloses, Fraction}
-use Rattle.step_problem.specs.declared.heads.Bound.{Bound}
-use Rattle.step_problem.specs.{lower_at, upper_at}
-use Rattle.model_types.specs.declared.model.FlowModel.{FlowModel}
-use Rattle.model_types.specs.declared.face.Axis.{Axis}
-use Rattle.model_types.specs.declared.face.Axis.TheVariants.{Row, Column, Vertical}
-use Rattle.model_types.specs.{IsModel, bed_thickness, cell_count, delc_at, delr_at, hani_at, hk_at, is_ratio, one, stride, vka_at, vkcb_at}
-use Rattle.conductance_bounds.specs.declared.pair.Pair.{Pair}
-use Rattle.conductance_bounds.specs.declared.span.Span.{Span}
-use Rattle.conductance_bounds.specs.declared.horizontal.Half.{Half}
-use Rattle.conductance_bounds.specs.declared.horizontal.ColHalf.{ColHalf}
-use Rattle.conductance_bounds.specs.declared.vertical.VertHalf.{VertHalf}
-use Rattle.conductance_bounds.specs.declared.vertical.Bed.{Bed}
-use Rattle.conductance_bounds.specs.{Term, bed_span, column_of, row_of, vertical_of}
+use Rattle.step_problem.specs.{declared.heads.Bound.Bound, lower_at, upper_at}
+use Rattle.model_types.specs.{declared.model.FlowModel.FlowModel, declared.face.Axis.Axis, declared.face.Axis.TheVariants.Row}
+use Rattle.model_types.specs.{declared.face.Axis.TheVariants.Column, declared.face.Axis.TheVariants.Vertical, IsModel, bed_thickness, cell_count, delc_at}
+use Rattle.model_types.specs.{delr_at, hani_at, hk_at, is_ratio, one, stride, vka_at, vkcb_at}
+use Rattle.conductance_bounds.specs.{declared.pair.Pair.Pair, declared.span.Span.Span, declared.horizontal.Half.Half, declared.horizontal.ColHalf.ColHalf}
+use Rattle.conductance_bounds.specs.{declared.vertical.VertHalf.VertHalf, declared.vertical.Bed.Bed, Term, bed_span, column_of, row_of, vertical_of}
 unfoldable use Rattle.conductance_bounds.specs.{capped_pair}
 use Rattle.problem_builder.specs.{HeadsEnclose, IsBranch, no_pair, no_span}
-use Rattle.water_table.specs.declared.convertible_layers.ConvertibleLayers.{ConvertibleLayers}
-use Rattle.water_table.specs.{conductance_at}
+use Rattle.water_table.specs.{declared.convertible_layers.ConvertibleLayers.ConvertibleLayers, conductance_at}
 use Rattle.water_conductances.specs.Spans.{has_depth, saturated_span}
 
 -- a cell's half of a branch along each axis, with a thickness of its own

@@ -3,15 +3,11 @@ use Rattle.std.specs.Prelude.{ℕ, ℤ, pos, neg_ℤ, ◌-ℤ◌, ◌*ℤ◌, �
 use Rattle.std.specs.Int.{int_min}
 unfoldable use Rattle.decimal_input.specs.{scaled_ratio}
 use Rattle.scaled_decimal.specs.{Lower, Upper, rounded_decimal}
-use Rattle.step_problem.specs.declared.heads.Bound.{Bound}
-use Rattle.step_problem.specs.{lower_at, upper_at}
-use Rattle.model_types.specs.declared.model.FlowModel.{FlowModel}
-use Rattle.model_types.specs.{top_at, bottom_at}
-use Rattle.conductance_bounds.specs.declared.span.Span.{Span}
-use Rattle.conductance_bounds.specs.{thick_span}
+use Rattle.step_problem.specs.{declared.heads.Bound.Bound, lower_at, upper_at}
+use Rattle.model_types.specs.{declared.model.FlowModel.FlowModel, top_at, bottom_at}
+use Rattle.conductance_bounds.specs.{declared.span.Span.Span, thick_span}
 unfoldable use Rattle.conductance_bounds.specs.{units_at}
-use Rattle.water_table.specs.declared.convertible_layers.ConvertibleLayers.{ConvertibleLayers}
-use Rattle.water_table.specs.{is_convertible}
+use Rattle.water_table.specs.{declared.convertible_layers.ConvertibleLayers.ConvertibleLayers, is_convertible}
 
 -- the decimals of two numbers of units of 10^-18 that aren't negative, rounded to 18 digits down and up
 unfoldable pub span_of_units : ℤ → ℤ → Span

@@ -1,14 +1,11 @@
 -- The numbers of active cells of a valid model: what is above 0, and elevations that fall.
-use Rattle.water_enclosure.proofs.Common.{refl, ◌≡◌, ℕ, zero, suc, negsuc, ◌+◌, ◌-◌, ◌<◌, inl, inr, Bool, true, false, cond, ℤ, pos, ap, sym, ◌∙◌, subst, arith}
-use Rattle.water_enclosure.proofs.Common.{and_parts, cases_Bool, ints, int_lt, nat_lt, not, unsigned_abs, ◌==◌, IsBelow, over-positive, times-positive}
-use Rattle.water_enclosure.proofs.Common.{Fraction, Ratio, number, size, AtMost, size_positive, FlowModel, IsModel, IsThick, bottom_at, cell_count, dec_at}
-use Rattle.water_enclosure.proofs.Common.{delc_at, delr_at, hani_at, has_bed, hk_at, int_at, is_active, is_ratio, is_variable, layer_size, lowest, top_at, two}
+use Rattle.water_enclosure.proofs.Common.{refl, ◌≡◌, ℕ, zero, suc, negsuc, ◌+◌, ◌-◌, ◌<◌, inl, inr, Bool, true, false, cond, ℤ, pos, ap, sym, ◌∙◌, subst, arith, and_parts, cases_Bool, ints, int_lt}
+use Rattle.water_enclosure.proofs.Common.{nat_lt, not, unsigned_abs, ◌==◌, IsBelow, over-positive, times-positive, Fraction, Ratio, number, size, AtMost, size_positive, FlowModel, IsModel, IsThick}
+use Rattle.water_enclosure.proofs.Common.{bottom_at, cell_count, dec_at, delc_at, delr_at, hani_at, has_bed, hk_at, int_at, is_active, is_ratio, is_variable, layer_size, lowest, top_at, two}
 use Rattle.water_enclosure.proofs.Common.{vertical_conductivity, vka_at}
 use Rattle.std.proofs.lemmas.Bool.Decides.{nat_tests}
-use Rattle.conductance_bounds.proofs.Ready.{delc_positive, delr_positive}
-use Rattle.conductance_bounds.proofs.SpanBounds.{gap_positive}
-use Rattle.decimal_input.specs.declared.dec.Dec.{Dec}
-use Rattle.decimal_input.specs.Ratios.{times}
+use Rattle.conductance_bounds.proofs.{Ready.delc_positive, Ready.delr_positive, SpanBounds.gap_positive}
+use Rattle.decimal_input.specs.{declared.dec.Dec.Dec, Ratios.times}
 unfoldable use Rattle.decimal_input.specs.{over, ratio}
 
 thick_room : (top bottom : Dec) → IsThick top bottom → IsBelow (number bottom) (number top)

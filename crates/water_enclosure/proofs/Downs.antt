@@ -1,10 +1,9 @@
 -- Branches between a cell and the full cell below it, in whole numbers: their conductance, and that flows keep the order of gentle heads.
-use Rattle.water_enclosure.proofs.Common.{◌≡◌, ℕ, suc, ◌+◌, ◌*◌, ◌-◌, ◌<◌, ◌≤◌, ◌⊎◌, inl, inr, ℤ, pos, ◌-ℤ◌, ◌*ℤ◌, ◌≤ℤ◌, ap, sym, ◌∙◌, arith, mul-pos}
-use Rattle.water_enclosure.proofs.Common.{mul-le-mul_left, ints, IsShare, Ratio, den, IsValue, own_value, value_over, value_plus, value_two, two}
+use Rattle.water_enclosure.proofs.Common.{◌≡◌, ℕ, suc, ◌+◌, ◌*◌, ◌-◌, ◌<◌, ◌≤◌, ◌⊎◌, inl, inr, ℤ, pos, ◌-ℤ◌, ◌*ℤ◌, ◌≤ℤ◌, ap, sym, ◌∙◌, arith, mul-pos, mul-le-mul_left, ints, IsShare, Ratio, den}
+use Rattle.water_enclosure.proofs.Common.{IsValue, own_value, value_over, value_plus, value_two, two}
 use Rattle.pair_flows.proofs.Vertical.{falls_faster, rises_faster}
 use Rattle.water_enclosure.proofs.Rows.{flows_in_order, share_some}
-unfoldable use Rattle.decimal_input.specs.{over}
-unfoldable use Rattle.decimal_input.specs.Ratios.{plus}
+unfoldable use Rattle.decimal_input.specs.{over, Ratios.plus}
 
 -- half of a cell's resistance: (s / 2) / k
 abbrev pub half_way : Ratio → Ratio → Ratio

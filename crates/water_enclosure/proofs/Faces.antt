@@ -1,17 +1,13 @@
 -- Over each face of a cell the flow keeps the order of gentle heads: into cell i, whose head doesn't rise, from a neighbour j, whose head doesn't fall, it doesn't fall.
-use Rattle.water_enclosure.proofs.Common.{◌≡◌, ℕ, zero, suc, refl, ◌+◌, ◌-ℤ◌, ◌*◌, ◌<◌, ◌⊎◌, inl, inr, true, false, ℤ, pos, ◌≤ℤ◌, ap, sym, ◌∙◌, subst, arith}
-use Rattle.water_enclosure.proofs.Common.{mul-pos, cases_Bool, or_left, or_right, ints, over_le, minus, ◌||◌, AtMost-trans, Fraction, IsShare, Ratio}
-use Rattle.water_enclosure.proofs.Common.{as_fraction, number, size, AtMost, times, den, times-positive, Axis, Column, Row, Vertical, FlowModel, IsModel}
-use Rattle.water_enclosure.proofs.Common.{bed_thickness, bottom_at, cell_count, delc_at, delr_at, hani_at, hk_at, is_active, layer_size, stride, top_at, two}
+use Rattle.water_enclosure.proofs.Common.{◌≡◌, ℕ, zero, suc, refl, ◌+◌, ◌-ℤ◌, ◌*◌, ◌<◌, ◌⊎◌, inl, inr, true, false, ℤ, pos, ◌≤ℤ◌, ap, sym, ◌∙◌, subst, arith, mul-pos, cases_Bool, or_left, or_right}
+use Rattle.water_enclosure.proofs.Common.{ints, over_le, minus, ◌||◌, AtMost-trans, Fraction, IsShare, Ratio, as_fraction, number, size, AtMost, times, den, times-positive, Axis, Column, Row}
+use Rattle.water_enclosure.proofs.Common.{Vertical, FlowModel, IsModel, bed_thickness, bottom_at, cell_count, delc_at, delr_at, hani_at, hk_at, is_active, layer_size, stride, top_at, two}
 use Rattle.water_enclosure.proofs.Common.{vertical_conductivity, vkcb_at, ConvertibleLayers, FallsGently, FallsWithin, IsFull, branch, is_convertible}
 use Rattle.decimal_input.specs.Ratios.{times as product, plus as ratio_plus}
-use Rattle.water_enclosure.proofs.Cells.{conductivity_some, delc_some, delr_some, factor_some, hani_some, hk_some, tops_below}
-use Rattle.water_enclosure.proofs.Downs.{half_way, lower_flows_in_order, per_unit, rest, upper_flows_in_order, way_share, whole_way}
-use Rattle.water_enclosure.proofs.Fractions.{flows_at_most}
-use Rattle.water_enclosure.proofs.Pairs.{ArePair, IsWetCell, into, out, share_g, share_h, some_g, some_h, thick_g, thick_h, thicker, thicker_within, thinner}
-use Rattle.water_enclosure.proofs.Pairs.{thinner_within}
-use Rattle.water_enclosure.proofs.Rows.{part, row_flows_in_order, series_share}
-use Rattle.water_enclosure.proofs.Thick.{thick, thick_stays, thick_to_bottom}
+use Rattle.water_enclosure.proofs.{Cells.conductivity_some, Cells.delc_some, Cells.delr_some, Cells.factor_some, Cells.hani_some, Cells.hk_some, Cells.tops_below, Downs.half_way}
+use Rattle.water_enclosure.proofs.{Downs.lower_flows_in_order, Downs.per_unit, Downs.rest, Downs.upper_flows_in_order, Downs.way_share, Downs.whole_way, Fractions.flows_at_most, Pairs.ArePair}
+use Rattle.water_enclosure.proofs.{Pairs.IsWetCell, Pairs.into, Pairs.out, Pairs.share_g, Pairs.share_h, Pairs.some_g, Pairs.some_h, Pairs.thick_g, Pairs.thick_h, Pairs.thicker, Pairs.thicker_within}
+use Rattle.water_enclosure.proofs.{Pairs.thinner, Pairs.thinner_within, Rows.part, Rows.row_flows_in_order, Rows.series_share, Thick.thick, Thick.thick_stays, Thick.thick_to_bottom}
 unfoldable use Rattle.decimal_input.specs.{over}
 unfoldable use Rattle.model_types.specs.{half, in_a_row}
 unfoldable use Rattle.water_table.specs.{column_branch, row_branch, saturated_thickness, vertical_branch, vertical_part}

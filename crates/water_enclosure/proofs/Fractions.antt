@@ -1,6 +1,6 @@
 -- From whole numbers back to fractions.
-use Rattle.water_enclosure.proofs.Common.{over_multiple, ◌≡◌, ℕ, ◌*◌, ◌<◌, ℤ, pos, ◌-ℤ◌, ◌*ℤ◌, ◌≤ℤ◌, arith, mul-pos, subst, le_over, IsOver-minus}
-use Rattle.water_enclosure.proofs.Common.{IsOver-signed, IsOver-times, minus, Fraction, IsOver, IsShare, Ratio, as_fraction, AtMost, times}
+use Rattle.water_enclosure.proofs.Common.{over_multiple, ◌≡◌, ℕ, ◌*◌, ◌<◌, ℤ, pos, ◌-ℤ◌, ◌*ℤ◌, ◌≤ℤ◌, arith, mul-pos, subst, le_over, IsOver-minus, IsOver-signed, IsOver-times, minus, Fraction, IsOver}
+use Rattle.water_enclosure.proofs.Common.{IsShare, Ratio, as_fraction, AtMost, times}
 
 -- two flows whose conductances are U over V and U' over V', over one denominator of their heads
 pub flows_at_most : (C C' : Ratio) (U V U' V' M : ℕ) (f g f' g' : Fraction) (a b a' b' : ℤ) → IsShare V C U → IsShare V' C' U' → 0 < V → 0 < V' → 0 < M →

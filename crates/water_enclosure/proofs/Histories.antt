@@ -1,15 +1,12 @@
 -- Step by step: what lies between the listed heads at one step gives the order of the old heads at the next.
-use Rattle.water_enclosure.proofs.Common.{refl, ◌≡◌, ℕ, ◌<◌, List, [], ◌∷◌, All, true, ℤ, inl, inr, sym, ◌∙◌, subst, arith, cases_Bool, ints, All-from_get_or}
-use Rattle.water_enclosure.proofs.Common.{All-get_or, not, ◌&&◌, ◌^◌, below_over, over_le, IsBelow, share, Fraction, Ratio, as_fraction, opposite, AtMost}
-use Rattle.water_enclosure.proofs.Common.{FlowModel, TimeStep, IsModel, cell_count, index_of, is_active, is_constant, is_variable, start_head, variable_cells}
-use Rattle.water_enclosure.proofs.Common.{ConvertibleLayers, GainsAtLeast, HasSignsAt, HasSignsFrom, IsWithin, LieInPairs, LiesInPair, ListedPair, LosesAtLeast}
-use Rattle.water_enclosure.proofs.Common.{NearlySolvesAt, NearlySolvesFrom, heads_at, listed_heads, variable_cell, water_balance, AtMost-of, among}
-use Rattle.water_enclosure.proofs.Common.{common_denominator_exists, FlowsLieAt, FlowsLieFrom, OwnFlowsAreAtMost, SignsEncloseFlows, SignsEncloseHistories, map}
-use Rattle.water_enclosure.proofs.Common.{SignsCertify, flow_unit, pair_of, below_then_at_most, less_is_below}
+use Rattle.water_enclosure.proofs.Common.{refl, ◌≡◌, ℕ, ◌<◌, List, [], ◌∷◌, All, true, ℤ, inl, inr, sym, ◌∙◌, subst, arith, cases_Bool, ints, All-from_get_or, All-get_or, not, ◌&&◌, ◌^◌, below_over}
+use Rattle.water_enclosure.proofs.Common.{over_le, IsBelow, share, Fraction, Ratio, as_fraction, opposite, AtMost, FlowModel, TimeStep, IsModel, cell_count, index_of, is_active, is_constant}
+use Rattle.water_enclosure.proofs.Common.{is_variable, start_head, variable_cells, ConvertibleLayers, GainsAtLeast, HasSignsAt, HasSignsFrom, IsWithin, LieInPairs, LiesInPair, ListedPair}
+use Rattle.water_enclosure.proofs.Common.{LosesAtLeast, NearlySolvesAt, NearlySolvesFrom, heads_at, listed_heads, variable_cell, water_balance, AtMost-of, among, common_denominator_exists, FlowsLieAt}
+use Rattle.water_enclosure.proofs.Common.{FlowsLieFrom, OwnFlowsAreAtMost, SignsEncloseFlows, SignsEncloseHistories, map, SignsCertify, flow_unit, pair_of, below_then_at_most, less_is_below}
 use Rattle.model_types.specs.{times}
-use Rattle.water_enclosure.proofs.Cells.{variable_active}
-use Rattle.water_enclosure.proofs.Linked.{index_within, index_names_cell, variable_at}
-use Rattle.water_enclosure.proofs.Order.{greater_balances_lie_lower, known_at, own_flows_at_most, variable_at_head}
+use Rattle.water_enclosure.proofs.{Cells.variable_active, Linked.index_within, Linked.index_names_cell, Linked.variable_at, Order.greater_balances_lie_lower, Order.known_at, Order.own_flows_at_most}
+use Rattle.water_enclosure.proofs.{Order.variable_at_head}
 
 then_below : (f u g : Fraction) → AtMost f u → IsBelow u g → IsBelow f g
 then_below f u g le less =

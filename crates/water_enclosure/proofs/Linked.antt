@@ -1,8 +1,7 @@
 -- The links of a step at given heads: other variable cells, each once, and the same conductance at both ends.
-use Rattle.water_enclosure.proofs.Common.{◌≡◌, ℕ, ◌<◌, Bool, true, List, length, get_or, map, refl, sym, ap, ◌∙◌, subst, arith, get_or-map, length-map}
-use Rattle.water_enclosure.proofs.Common.{AreLinked, ExactCell, ExactLink, HasLinkBack, no_cell, no_link, Fraction, Same, IsFaceOf, passing_are, passing_have}
-use Rattle.water_enclosure.proofs.Common.{end_within, face_back, turned, ends_ascend, All-In, Contains-In, In, In-map, Ordered, Ordered-at, map-In, Face}
-use Rattle.water_enclosure.proofs.Common.{FlowModel, TimeStep, HasSize, cell_count, index_of, is_variable, variable_cells, variable_faces, ConvertibleLayers}
+use Rattle.water_enclosure.proofs.Common.{◌≡◌, ℕ, ◌<◌, Bool, true, List, length, get_or, map, refl, sym, ap, ◌∙◌, subst, arith, get_or-map, length-map, AreLinked, ExactCell, ExactLink, HasLinkBack}
+use Rattle.water_enclosure.proofs.Common.{no_cell, no_link, Fraction, Same, IsFaceOf, passing_are, passing_have, end_within, face_back, turned, ends_ascend, All-In, Contains-In, In, In-map, Ordered}
+use Rattle.water_enclosure.proofs.Common.{Ordered-at, map-In, Face, FlowModel, TimeStep, HasSize, cell_count, index_of, is_variable, variable_cells, variable_faces, ConvertibleLayers}
 use Rattle.water_enclosure.proofs.Common.{convertible_cell, convertible_step, variable_branch, variable_cell}
 use Rattle.cell_balance.specs.{cell_at}
 use Rattle.flow_equations.proofs.Links.{Ordered-map, below_is, index_is}

@@ -1,10 +1,8 @@
 -- Over the faces of a variable cell: at two vectors of gentle heads of one step each flow is in order.
-use Rattle.water_enclosure.proofs.Common.{◌≡◌, ℕ, ◌+◌, ◌-◌, ◌<◌, ◌⊎◌, inl, inr, true, ap, sym, ◌∙◌, subst, arith, mod-le, minus, Fraction, as_fraction, AtMost}
-use Rattle.water_enclosure.proofs.Common.{times, IsFaceOf, before_le, end_within, face_back, passing_have, turned, In-All, Axis, Vertical, Face, FlowModel}
-use Rattle.water_enclosure.proofs.Common.{IsModel, cell_count, is_active, is_variable, layer_size, span, stride, variable_faces, ConvertibleLayers, FallsGently}
-use Rattle.water_enclosure.proofs.Common.{IsGentle, conductance_at}
-use Rattle.water_enclosure.proofs.Faces.{AreOverBottom, over_after, over_before}
-use Rattle.water_enclosure.proofs.Pairs.{IsWetCell, are_pair}
+use Rattle.water_enclosure.proofs.Common.{◌≡◌, ℕ, ◌+◌, ◌-◌, ◌<◌, ◌⊎◌, inl, inr, true, ap, sym, ◌∙◌, subst, arith, mod-le, minus, Fraction, as_fraction, AtMost, times, IsFaceOf, before_le, end_within}
+use Rattle.water_enclosure.proofs.Common.{face_back, passing_have, turned, In-All, Axis, Vertical, Face, FlowModel, IsModel, cell_count, is_active, is_variable, layer_size, span, stride}
+use Rattle.water_enclosure.proofs.Common.{variable_faces, ConvertibleLayers, FallsGently, IsGentle, conductance_at}
+use Rattle.water_enclosure.proofs.{Faces.AreOverBottom, Faces.over_after, Faces.over_before, Pairs.IsWetCell, Pairs.are_pair}
 
 module _ (m : FlowModel) (w : ConvertibleLayers) (valid : IsModel m) (p : ℕ) (h g : ℕ → Fraction) (gentle_h : IsGentle m w p h) (gentle_g : IsGentle m w p g) where
   -- an active cell is wet at both

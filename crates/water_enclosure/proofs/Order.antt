@@ -1,27 +1,20 @@
 -- Gentle heads at which cells gain more lie lower: both steps in whole numbers over one denominator, and the comparison over pair flows.
-use Rattle.water_enclosure.proofs.Common.{◌≡◌, ℕ, zero, suc, ◌*◌, ◌+◌, ◌<◌, inl, inr, List, All, length, Bool, true, false, cond, ℤ, pos, neg_ℤ, ◌+ℤ◌, ◌-ℤ◌}
-use Rattle.water_enclosure.proofs.Common.{◌*ℤ◌, ◌≤ℤ◌, ◌<ℤ◌, refl, ap, sym, ◌∙◌, subst, arith, mul-pos, and_parts, cases_eq, cond-false, cond-true, eq-eqb}
-use Rattle.water_enclosure.proofs.Common.{ne_eqb, get_or_past, nat_eq, not, ◌&&◌, ints, All-from_get_or, All-get_or, AllZip, Goes-first, Goes-second}
-use Rattle.water_enclosure.proofs.Common.{Goes-trans, step_common, IsMutual, weight, below_over, le_over, over_le, CellOver, DrainOver, EvapOver, FixedOver}
-use Rattle.water_enclosure.proofs.Common.{FlowOver, RiverOver, balance_over, drain_over, evap_over, fixed_over, river_over, IsOver-minus, IsOver-plus}
-use Rattle.water_enclosure.proofs.Common.{IsOver-signed, IsOver-times, IsOver-total, AllZip-at, AllZip-length, WholeCell, no_whole, whole_at, whole_balance}
-use Rattle.water_enclosure.proofs.Common.{whole_drain, whole_evap, whole_fixed, whole_river, ExactCell, IsBelow, drain_flow, evap_flow, fixed_flow, minus}
-use Rattle.water_enclosure.proofs.Common.{no_cell, river_flow, share, Fraction, IsOver, as_fraction, fraction_total, AtMost, plus, times, end_within}
-use Rattle.water_enclosure.proofs.Common.{passing_are, All-In, In, In-All, Face, FlowModel, TimeStep, IsModel, cell_count, constant_faces, is_active}
-use Rattle.water_enclosure.proofs.Common.{is_constant, is_variable, variable_cells, variable_faces, CellFlows, AreComparable, ConvertibleLayers, FallsGently}
-use Rattle.water_enclosure.proofs.Common.{IsGentle, conductance_at, constant_branch, convertible_cell, convertible_step, heads_at, variable_branch}
-use Rattle.water_enclosure.proofs.Common.{variable_cell, water_balance, AtMost-of, common_denominator_exists, plus_rises, GreaterBalancesLieLower}
-use Rattle.water_enclosure.proofs.Common.{OwnFlowsAreAtMost, mul_neg}
-use Rattle.cell_balance.proofs.Encloses.{whole_step}
-use Rattle.cell_balance.proofs.Mutual.{mutual_whole}
+use Rattle.water_enclosure.proofs.Common.{◌≡◌, ℕ, zero, suc, ◌*◌, ◌+◌, ◌<◌, inl, inr, List, All, length, Bool, true, false, cond, ℤ, pos, neg_ℤ, ◌+ℤ◌, ◌-ℤ◌, ◌*ℤ◌, ◌≤ℤ◌, ◌<ℤ◌, refl, ap, sym, ◌∙◌}
+use Rattle.water_enclosure.proofs.Common.{subst, arith, mul-pos, and_parts, cases_eq, cond-false, cond-true, eq-eqb, ne_eqb, get_or_past, nat_eq, not, ◌&&◌, ints, All-from_get_or, All-get_or, AllZip}
+use Rattle.water_enclosure.proofs.Common.{Goes-first, Goes-second, Goes-trans, step_common, IsMutual, weight, below_over, le_over, over_le, CellOver, DrainOver, EvapOver, FixedOver, FlowOver}
+use Rattle.water_enclosure.proofs.Common.{RiverOver, balance_over, drain_over, evap_over, fixed_over, river_over, IsOver-minus, IsOver-plus, IsOver-signed, IsOver-times, IsOver-total, AllZip-at}
+use Rattle.water_enclosure.proofs.Common.{AllZip-length, WholeCell, no_whole, whole_at, whole_balance, whole_drain, whole_evap, whole_fixed, whole_river, ExactCell, IsBelow, drain_flow, evap_flow}
+use Rattle.water_enclosure.proofs.Common.{fixed_flow, minus, no_cell, river_flow, share, Fraction, IsOver, as_fraction, fraction_total, AtMost, plus, times, end_within, passing_are, All-In, In}
+use Rattle.water_enclosure.proofs.Common.{In-All, Face, FlowModel, TimeStep, IsModel, cell_count, constant_faces, is_active, is_constant, is_variable, variable_cells, variable_faces, CellFlows}
+use Rattle.water_enclosure.proofs.Common.{AreComparable, ConvertibleLayers, FallsGently, IsGentle, conductance_at, constant_branch, convertible_cell, convertible_step, heads_at, variable_branch}
+use Rattle.water_enclosure.proofs.Common.{variable_cell, water_balance, AtMost-of, common_denominator_exists, plus_rises, GreaterBalancesLieLower, OwnFlowsAreAtMost, mul_neg}
+use Rattle.cell_balance.proofs.{Encloses.whole_step, Mutual.mutual_whole}
 use Rattle.pair_flows.specs.{balance as pair_balance}
 use Rattle.pair_flows.proofs.Ordered.{greater_balances_lie_lower as pairs_lie_lower}
 use Rattle.water_table.proofs.Waters.{storage_flow_rises}
-use Rattle.water_enclosure.proofs.Linked.{are_linked, cell_is, index_names_cell, step_length, variable_at}
-use Rattle.water_enclosure.proofs.Cells.{variable_active}
-use Rattle.water_enclosure.proofs.Neighbours.{face_in_order, variable_in_order}
-use Rattle.water_enclosure.proofs.Own.{drain_falls, evap_falls, fixed_falls, front_falls, river_falls, total_falls}
-use Rattle.water_enclosure.proofs.Wholes.{EachInOrder, apart, everywhere, gain_is, links_by_cell, own_whole, spread, weights_in_order}
+use Rattle.water_enclosure.proofs.{Linked.are_linked, Linked.cell_is, Linked.index_names_cell, Linked.step_length, Linked.variable_at, Cells.variable_active, Neighbours.face_in_order}
+use Rattle.water_enclosure.proofs.{Neighbours.variable_in_order, Own.drain_falls, Own.evap_falls, Own.fixed_falls, Own.front_falls, Own.river_falls, Own.total_falls, Wholes.EachInOrder, Wholes.apart}
+use Rattle.water_enclosure.proofs.{Wholes.everywhere, Wholes.gain_is, Wholes.links_by_cell, Wholes.own_whole, Wholes.spread, Wholes.weights_in_order}
 unfoldable use Rattle.model_types.specs.{constant_head}
 unfoldable use Rattle.water_table.specs.{storage_flow}
 

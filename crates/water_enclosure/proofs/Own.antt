@@ -1,8 +1,7 @@
 -- Flows that follow from a cell's own head fall weakly with it.
-use Rattle.water_enclosure.proofs.Common.{◌*◌, ◌++◌, List, [], ◌∷◌, All, map, arith, mul-pos, refl, clamps, ints, All-head, All-tail, le_over, over_le}
-use Rattle.water_enclosure.proofs.Common.{DrainOver, EvapOver, FixedOver, RiverOver, drain_over, evap_over, fixed_over, river_over, WholeEntry, ExactDrain}
-use Rattle.water_enclosure.proofs.Common.{ExactEvap, ExactFixed, ExactRiver, drain_flow, evap_flow, fixed_flow, river_flow, Fraction, fraction_total, AtMost}
-use Rattle.water_enclosure.proofs.Common.{den, mul_mono, AtMost-of, among, common_denominator_exists, plus_rises}
+use Rattle.water_enclosure.proofs.Common.{◌*◌, ◌++◌, List, [], ◌∷◌, All, map, arith, mul-pos, refl, clamps, ints, All-head, All-tail, le_over, over_le, DrainOver, EvapOver, FixedOver, RiverOver}
+use Rattle.water_enclosure.proofs.Common.{drain_over, evap_over, fixed_over, river_over, WholeEntry, ExactDrain, ExactEvap, ExactFixed, ExactRiver, drain_flow, evap_flow, fixed_flow, river_flow}
+use Rattle.water_enclosure.proofs.Common.{Fraction, fraction_total, AtMost, den, mul_mono, AtMost-of, among, common_denominator_exists, plus_rises}
 use Rattle.step_problem.proofs.Falls.{loss_falls}
 
 module _ (v v' : Fraction) (falls : AtMost v' v) where

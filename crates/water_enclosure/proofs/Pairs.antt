@@ -1,10 +1,8 @@
 -- Two neighbours at two vectors of heads, in whole numbers over one denominator.
-use Rattle.water_enclosure.proofs.Common.{◌≡◌, ℕ, ◌<◌, ◌≤◌, ◌⊎◌, inl, inr, true, ℤ, pos, ◌-ℤ◌, ◌≤ℤ◌, ◌<ℤ◌, [], ◌∷◌, arith, ints, below_over, over_le}
-use Rattle.water_enclosure.proofs.Common.{IsOver-minus, IsOver-signed, IsBelow, Fraction, IsOver, IsShare, number, AtMost, FlowModel, IsModel, bottom_at}
-use Rattle.water_enclosure.proofs.Common.{cell_count, is_active, top_at, ConvertibleLayers, FallsWithin, IsFull, is_convertible, among}
+use Rattle.water_enclosure.proofs.Common.{◌≡◌, ℕ, ◌<◌, ◌≤◌, ◌⊎◌, inl, inr, true, ℤ, pos, ◌-ℤ◌, ◌≤ℤ◌, ◌<ℤ◌, [], ◌∷◌, arith, ints, below_over, over_le, IsOver-minus, IsOver-signed, IsBelow, Fraction}
+use Rattle.water_enclosure.proofs.Common.{IsOver, IsShare, number, AtMost, FlowModel, IsModel, bottom_at, cell_count, is_active, top_at, ConvertibleLayers, FallsWithin, IsFull, is_convertible, among}
 use Rattle.water_enclosure.proofs.Common.{common_denominator_exists}
-use Rattle.water_enclosure.proofs.Cells.{bottom_is_below_top}
-use Rattle.water_enclosure.proofs.Thick.{CellOver, thick, thick_rises, thick_share, thick_some, thick_stays, thick_within}
+use Rattle.water_enclosure.proofs.{Cells.bottom_is_below_top, Thick.CellOver, Thick.thick, Thick.thick_rises, Thick.thick_share, Thick.thick_some, Thick.thick_stays, Thick.thick_within}
 unfoldable use Rattle.water_table.specs.{saturated_thickness}
 
 module _ (m : FlowModel) (w : ConvertibleLayers) where

@@ -1,7 +1,6 @@
 -- Branches of two halves in series, in whole numbers: their conductance, and that flows keep the order of gentle heads.
-use Rattle.water_enclosure.proofs.Common.{◌≡◌, ℕ, suc, ◌+◌, ◌*◌, ◌-◌, ◌<◌, ◌≤◌, ◌⊎◌, inl, inr, ℤ, pos, negsuc, neg_ℤ, ◌-ℤ◌, ◌*ℤ◌, ◌≤ℤ◌, refl, ap, sym, ◌∙◌}
-use Rattle.water_enclosure.proofs.Common.{arith, mul-pos, mul-le-mul_left, cases_eq, ints, neg_times, IsShare, Ratio, den, IsValue, own_value, value_one}
-use Rattle.water_enclosure.proofs.Common.{value_over, value_plus, value_times, two, mul_neg}
+use Rattle.water_enclosure.proofs.Common.{◌≡◌, ℕ, suc, ◌+◌, ◌*◌, ◌-◌, ◌<◌, ◌≤◌, ◌⊎◌, inl, inr, ℤ, pos, negsuc, neg_ℤ, ◌-ℤ◌, ◌*ℤ◌, ◌≤ℤ◌, refl, ap, sym, ◌∙◌, arith, mul-pos, mul-le-mul_left, cases_eq}
+use Rattle.water_enclosure.proofs.Common.{ints, neg_times, IsShare, Ratio, den, IsValue, own_value, value_one, value_over, value_plus, value_times, two, mul_neg}
 use Rattle.pair_flows.proofs.Horizontal.{thicknesses_keep_order}
 unfoldable use Rattle.decimal_input.specs.Ratios.{times}
 unfoldable use Rattle.model_types.specs.{half, in_a_row}

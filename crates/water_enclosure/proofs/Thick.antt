@@ -1,8 +1,7 @@
 -- Saturated thickness in whole numbers over one denominator: it rises with the head, by no more than the head does, and stays where the cell is full.
-use Rattle.water_enclosure.proofs.Common.{◌≡◌, ℕ, suc, ◌*◌, ◌-◌, ◌<◌, ◌≤◌, ◌⊎◌, inl, inr, Bool, true, false, cond, ℤ, pos, negsuc, neg_ℤ, ◌+ℤ◌, ◌-ℤ◌, ◌*ℤ◌}
-use Rattle.water_enclosure.proofs.Common.{◌≤ℤ◌, ◌<ℤ◌, refl, ap, ◌∙◌, arith, mul-pos, true≢false, by_lt_z, clamps, ints, unsigned_abs, IsOver-lesser}
-use Rattle.water_enclosure.proofs.Common.{IsOver-minus, lesser, minus, neg_times, Fraction, IsOver, IsShare, number, FlowModel, bottom_at, gap, thickness}
-use Rattle.water_enclosure.proofs.Common.{top_at, ConvertibleLayers, is_convertible}
+use Rattle.water_enclosure.proofs.Common.{◌≡◌, ℕ, suc, ◌*◌, ◌-◌, ◌<◌, ◌≤◌, ◌⊎◌, inl, inr, Bool, true, false, cond, ℤ, pos, negsuc, neg_ℤ, ◌+ℤ◌, ◌-ℤ◌, ◌*ℤ◌, ◌≤ℤ◌, ◌<ℤ◌, refl, ap, ◌∙◌, arith, mul-pos}
+use Rattle.water_enclosure.proofs.Common.{true≢false, by_lt_z, clamps, ints, unsigned_abs, IsOver-lesser, IsOver-minus, lesser, minus, neg_times, Fraction, IsOver, IsShare, number, FlowModel}
+use Rattle.water_enclosure.proofs.Common.{bottom_at, gap, thickness, top_at, ConvertibleLayers, is_convertible}
 use Rattle.std.specs.Int.{int_min}
 use Rattle.decimal_input.specs.Fractions.{den}
 unfoldable use Rattle.water_table.specs.{saturated_thickness}

@@ -1,8 +1,7 @@
 -- A step at given heads in whole numbers: what each cell gets over its links, and by its own head.
-use Rattle.water_enclosure.proofs.Common.{over_multiple, ◌≡◌, ℕ, zero, suc, ◌*◌, ◌+◌, ◌<◌, ◌≤◌, inl, inr, List, [], ◌∷◌, All, map, ℤ, pos, ◌+ℤ◌, ◌-ℤ◌, ◌*ℤ◌}
-use Rattle.water_enclosure.proofs.Common.{◌≤ℤ◌, refl, ap, sym, ◌∙◌, subst, arith, cases_eq, cases_lt, eq-eqb, ne_eqb, ints, All-head, All-tail, AllZip, Goes}
-use Rattle.water_enclosure.proofs.Common.{by_weight, weight, LinkOver, WholeCell, WholeLink, whole_balance, whole_drain, whole_evap, whole_fixed, whole_link}
-use Rattle.water_enclosure.proofs.Common.{whole_river, ExactLink, sum_below, Fraction, IsOver, IsShare, CellFlows, gain_from_first}
+use Rattle.water_enclosure.proofs.Common.{over_multiple, ◌≡◌, ℕ, zero, suc, ◌*◌, ◌+◌, ◌<◌, ◌≤◌, inl, inr, List, [], ◌∷◌, All, map, ℤ, pos, ◌+ℤ◌, ◌-ℤ◌, ◌*ℤ◌, ◌≤ℤ◌, refl, ap, sym, ◌∙◌, subst, arith}
+use Rattle.water_enclosure.proofs.Common.{cases_eq, cases_lt, eq-eqb, ne_eqb, ints, All-head, All-tail, AllZip, Goes, by_weight, weight, LinkOver, WholeCell, WholeLink, whole_balance, whole_drain}
+use Rattle.water_enclosure.proofs.Common.{whole_evap, whole_fixed, whole_link, whole_river, ExactLink, sum_below, Fraction, IsOver, IsShare, CellFlows, gain_from_first}
 use Rattle.step_problem.specs.{total}
 use Rattle.std.proofs.Math.IntN.{zero-*ℤ}
 use Rattle.cell_balance.proofs.Deep.{add_mul}

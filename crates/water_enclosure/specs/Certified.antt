@@ -1,12 +1,9 @@
 -- What a listing of a model with convertible layers promises, where its heads are gentle and have the signs.
 use Rattle.std.specs.Prelude.{ℕ, ℤ, List, map, ◌+◌, ◌^◌}
 use Rattle.decimal_input.specs.{Ratio, ratio}
-use Rattle.step_problem.specs.declared.heads.Bound.{Bound}
-use Rattle.step_problem.specs.{lower_at, upper_at}
-use Rattle.model_types.specs.declared.model.FlowModel.{FlowModel}
-use Rattle.model_types.specs.{IsModel, start_head, times}
-use Rattle.water_table.specs.declared.convertible_layers.ConvertibleLayers.{ConvertibleLayers}
-use Rattle.water_table.specs.{HasSigns, LieInPairs, ListedPair, NearlySolves}
+use Rattle.step_problem.specs.{declared.heads.Bound.Bound, lower_at, upper_at}
+use Rattle.model_types.specs.{declared.model.FlowModel.FlowModel, IsModel, start_head, times}
+use Rattle.water_table.specs.{declared.convertible_layers.ConvertibleLayers.ConvertibleLayers, HasSigns, LieInPairs, ListedPair, NearlySolves}
 use Rattle.water_enclosure.specs.Enclosure.{FlowsLieFrom}
 
 -- one unit of flow in a listing with s digits of conductances

@@ -1,14 +1,11 @@
 -- What signs of the balances at gentle heads say of all other gentle heads of a model with convertible layers.
 use Rattle.std.specs.Prelude.{ℕ, ℤ, List, [], ◌∷◌, All}
-use Rattle.decimal_input.specs.{Fraction, Ratio}
-use Rattle.decimal_input.specs.Fractions.{AtMost}
+use Rattle.decimal_input.specs.{Fraction, Ratio, Fractions.AtMost}
 use Rattle.cell_balance.specs.{IsBelow, drain_flow, evap_flow, fixed_flow, river_flow, share}
-use Rattle.model_types.specs.declared.model.FlowModel.{FlowModel}
-use Rattle.model_types.specs.declared.time_steps.TimeStep.{TimeStep}
-use Rattle.model_types.specs.{IsModel, constant_faces, start_head, times, variable_cells}
-use Rattle.water_table.specs.declared.convertible_layers.ConvertibleLayers.{ConvertibleLayers}
-use Rattle.water_table.specs.{HasSigns, IsGentle, LieInPairs, ListedPair, NearlySolves, constant_branch, convertible_cell, general_branches, heads_at}
-use Rattle.water_table.specs.{listed_heads, water_balance}
+use Rattle.model_types.specs.{declared.model.FlowModel.FlowModel, declared.time_steps.TimeStep.TimeStep, IsModel, constant_faces, start_head, times}
+use Rattle.model_types.specs.{variable_cells}
+use Rattle.water_table.specs.{declared.convertible_layers.ConvertibleLayers.ConvertibleLayers, HasSigns, IsGentle, LieInPairs, ListedPair, NearlySolves}
+use Rattle.water_table.specs.{constant_branch, convertible_cell, general_branches, heads_at, listed_heads, water_balance}
 unfoldable use Rattle.water_table.specs.{storage_flow}
 
 -- At one step, heads X over d and Z over e that are gentle, from old heads of which those for X are nowhere above the others: where each

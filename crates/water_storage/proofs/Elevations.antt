@@ -1,8 +1,7 @@
 -- The floor and the ceiling of the top of an active cell, in units of 10^-9.
-use Rattle.water_storage.proofs.Common.{◌≡◌, ℕ, ◌<◌, ◌^◌, arith, sym, subst, ℤ, pos, neg_ℤ, ◌+ℤ◌, ◌*ℤ◌, ◌≤ℤ◌, ints, by_lt_z, Fraction, number, den, IsTop, ◌<ℤ◌}
-use Rattle.water_storage.proofs.Common.{Option, Some, None, IfNone, IfSome, unsigned_abs, Dec, IsCeilingPast, IsFloorPast, IsSignedCeiling, IsSignedFloor}
-use Rattle.water_storage.proofs.Common.{cancel_right, floor_ceiling_enclose, last_factors_swap, mul_mono_right, Lower, Upper, IsThick, units_ceiling}
-use Rattle.water_storage.proofs.Common.{units_floor}
+use Rattle.water_storage.proofs.Common.{◌≡◌, ℕ, ◌<◌, ◌^◌, arith, sym, subst, ℤ, pos, neg_ℤ, ◌+ℤ◌, ◌*ℤ◌, ◌≤ℤ◌, ints, by_lt_z, Fraction, number, den, IsTop, ◌<ℤ◌, Option, Some, None, IfNone, IfSome}
+use Rattle.water_storage.proofs.Common.{unsigned_abs, Dec, IsCeilingPast, IsFloorPast, IsSignedCeiling, IsSignedFloor, cancel_right, floor_ceiling_enclose, last_factors_swap, mul_mono_right, Lower}
+use Rattle.water_storage.proofs.Common.{Upper, IsThick, units_ceiling, units_floor}
 use Rattle.std.specs.Option.{unwrap_or}
 unfoldable use Rattle.conductance_bounds.specs.{units_at}
 

@@ -1,10 +1,8 @@
 -- The flow of stored water over a step, as falls over the conductances that stand for storage.
-use Rattle.water_storage.proofs.Common.{ap, suc, by_lt_z, ◌≡◌, ℕ, ◌*◌, ◌-◌, ◌^◌, ◌<◌, ◌∙◌, arith, refl, subst, sym, ℤ, pos, ◌+ℤ◌, ◌-ℤ◌, ◌*ℤ◌, [], ◌∷◌, mul-pos}
-use Rattle.water_storage.proofs.Common.{clamps, ints, int_max, int_min, EnclosesSigned, Fraction, IsOver, Ratio, size, over, AtMost, Same, den, plus, times}
-use Rattle.water_storage.proofs.Common.{as_fraction, greater, lesser, minus, whole, Goes-first, Goes-second, fraction_over, between_over, enclosed_over}
-use Rattle.water_storage.proofs.Common.{over_le, same_over, IsOver-greater, IsOver-lesser, IsOver-minus, IsOver-none, IsOver-plus, IsOver-times, Lasts}
-use Rattle.water_storage.proofs.Common.{FlowModel, Period, dec_at, one, storage_capacity, ConvertibleLayers, stored, with_yield, delc_at, delr_at, le-antisym}
-use Rattle.water_storage.proofs.Common.{le-of}
+use Rattle.water_storage.proofs.Common.{ap, suc, by_lt_z, ◌≡◌, ℕ, ◌*◌, ◌-◌, ◌^◌, ◌<◌, ◌∙◌, arith, refl, subst, sym, ℤ, pos, ◌+ℤ◌, ◌-ℤ◌, ◌*ℤ◌, [], ◌∷◌, mul-pos, clamps, ints, int_max, int_min}
+use Rattle.water_storage.proofs.Common.{EnclosesSigned, Fraction, IsOver, Ratio, size, over, AtMost, Same, den, plus, times, as_fraction, greater, lesser, minus, whole, Goes-first, Goes-second}
+use Rattle.water_storage.proofs.Common.{fraction_over, between_over, enclosed_over, over_le, same_over, IsOver-greater, IsOver-lesser, IsOver-minus, IsOver-none, IsOver-plus, IsOver-times, Lasts}
+use Rattle.water_storage.proofs.Common.{FlowModel, Period, dec_at, one, storage_capacity, ConvertibleLayers, stored, with_yield, delc_at, delr_at, le-antisym, le-of}
 use Rattle.decimal_input.specs.Ratios.{den as ratio_den, times as product, Same as SameRatio}
 use Rattle.decimal_input.proofs.Differences.{as_diff, diffs, same_diff}
 use Rattle.flow_equations.proofs.Downwards.{cross_by, own_value, same_by, size_positive, value_one, value_over, value_plus, value_times}

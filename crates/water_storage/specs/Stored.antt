@@ -4,18 +4,13 @@ use Rattle.std.specs.Prelude.{ℕ, ℤ, pos, ◌+◌, ◌^◌, ◌<◌, ◌+ℤ�
 use Rattle.std.specs.Int.{int_max, int_min}
 use Rattle.decimal_input.specs.{EnclosesSigned, Fraction}
 use Rattle.scaled_decimal.specs.{Lower, Upper}
-use Rattle.step_problem.specs.declared.heads.Bound.{Bound}
-use Rattle.step_problem.specs.declared.heads.Side.{Side}
-use Rattle.step_problem.specs.declared.heads.Side.TheVariants.{High, Low}
+use Rattle.step_problem.specs.{declared.heads.Bound.Bound, declared.heads.Side.Side, declared.heads.Side.TheVariants.High, declared.heads.Side.TheVariants.Low}
 use Rattle.step_problem.specs.{branch_flow}
-use Rattle.model_types.specs.declared.model.FlowModel.{FlowModel}
-use Rattle.model_types.specs.declared.time_steps.TimeStep.{TimeStep}
-use Rattle.model_types.specs.{IsModel, period_at, times, top_at}
+use Rattle.model_types.specs.{declared.model.FlowModel.FlowModel, declared.time_steps.TimeStep.TimeStep, IsModel, period_at, times, top_at}
 use Rattle.conductance_bounds.specs.declared.pair.Pair.{Pair}
 unfoldable use Rattle.conductance_bounds.specs.{units_at}
 use Rattle.problem_builder.specs.{IsActive, storage_pair}
-use Rattle.water_table.specs.declared.convertible_layers.ConvertibleLayers.{ConvertibleLayers}
-use Rattle.water_table.specs.{is_convertible, storage_flow, with_yield}
+use Rattle.water_table.specs.{declared.convertible_layers.ConvertibleLayers.ConvertibleLayers, is_convertible, storage_flow, with_yield}
 
 -- the fall from a head to another one: the least on the low side, the greatest on the high side
 abbrev pub fall_on : Side → Bound → Bound → ℤ

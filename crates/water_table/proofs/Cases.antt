@@ -1,12 +1,10 @@
 -- LPF's four cases of storage, in whole numbers over one denominator.
-use Rattle.water_table.proofs.Common.{◌≡◌, ℕ, ◌*◌, ◌<◌, arith, ap, subst, sym, ℤ, pos, ◌+ℤ◌, ◌-ℤ◌, ◌*ℤ◌, [], ◌∷◌, Bool, true, cond, mul-pos, ints, clamps}
-use Rattle.water_table.proofs.Common.{over_le, same_over, IsOver-plus, IsOver-minus, IsOver-times, IsOver-lesser, IsOver-greater, IsOver-none, Fraction, IsOver}
-use Rattle.water_table.proofs.Common.{Ratio, as_fraction, number, whole, AtMost, Same, minus, lesser, greater, mul_sub, FlowModel, ConvertibleLayers, size}
-use Rattle.water_table.proofs.Common.{area, dec_at, storage_capacity, top_at, compressed_water, drainable_water, is_convertible, LosesByCases, over_fall}
+use Rattle.water_table.proofs.Common.{◌≡◌, ℕ, ◌*◌, ◌<◌, arith, ap, subst, sym, ℤ, pos, ◌+ℤ◌, ◌-ℤ◌, ◌*ℤ◌, [], ◌∷◌, Bool, true, cond, mul-pos, ints, clamps, over_le, same_over, IsOver-plus}
+use Rattle.water_table.proofs.Common.{IsOver-minus, IsOver-times, IsOver-lesser, IsOver-greater, IsOver-none, Fraction, IsOver, Ratio, as_fraction, number, whole, AtMost, Same, minus, lesser, greater}
+use Rattle.water_table.proofs.Common.{mul_sub, FlowModel, ConvertibleLayers, size, area, dec_at, storage_capacity, top_at, compressed_water, drainable_water, is_convertible, LosesByCases, over_fall}
 use Rattle.water_table.proofs.Common.{*ℤ-zero}
 use Rattle.std.specs.Int.{int_max, int_min}
-use Rattle.decimal_input.specs.Fractions.{plus, times}
-use Rattle.decimal_input.specs.Ratios.{times as product}
+use Rattle.decimal_input.specs.{Fractions.plus, Fractions.times, Ratios.times as product}
 use Rattle.water_table.proofs.Orders.{common_denominator_exists, among}
 unfoldable use Rattle.water_table.specs.{stored_water}
 

@@ -1,10 +1,8 @@
 -- Fractions in order: their sums, differences, multiples, and the lesser and the greater of two. Each is shown in whole numbers over one denominator.
-use Rattle.water_table.proofs.Common.{◌≡◌, ℕ, zero, suc, ◌*◌, ◌<◌, refl, sym, subst, arith, ℤ, pos, ◌*ℤ◌, List, [], ◌∷◌, inl, inr, cases_eq, mul-pos}
-use Rattle.water_table.proofs.Common.{slice_index_or, ints, clamps, le_over, over_le, IsOver-plus, IsOver-minus, IsOver-times, IsOver-signed, IsOver-lesser}
-use Rattle.water_table.proofs.Common.{IsOver-greater, greater, lesser, minus, Fraction, IsOver, Ratio, as_fraction, whole, AtMost, den, mul_assoc, mul_mono}
-use Rattle.water_table.proofs.Common.{le-add, le-of, below_over, by_lt_z, IsBelow, ◌<ℤ◌}
-use Rattle.decimal_input.specs.Fractions.{plus, times}
-use Rattle.decimal_input.specs.Ratios.{den as ratio_den}
+use Rattle.water_table.proofs.Common.{◌≡◌, ℕ, zero, suc, ◌*◌, ◌<◌, refl, sym, subst, arith, ℤ, pos, ◌*ℤ◌, List, [], ◌∷◌, inl, inr, cases_eq, mul-pos, slice_index_or, ints, clamps, le_over, over_le}
+use Rattle.water_table.proofs.Common.{IsOver-plus, IsOver-minus, IsOver-times, IsOver-signed, IsOver-lesser, IsOver-greater, greater, lesser, minus, Fraction, IsOver, Ratio, as_fraction, whole}
+use Rattle.water_table.proofs.Common.{AtMost, den, mul_assoc, mul_mono, le-add, le-of, below_over, by_lt_z, IsBelow, ◌<ℤ◌}
+use Rattle.decimal_input.specs.{Fractions.plus, Fractions.times, Ratios.den as ratio_den}
 use Rattle.flow_equations.proofs.GivenAtSteps.{over_multiple}
 
 pub own_over : (M : ℕ) (f : Fraction) → IsOver (M * den f) f (f.num *ℤ pos M)

@@ -1,17 +1,14 @@
 -- The pumped cell: all is computed.
-use Rattle.water_table.proofs.Common.{◌≡◌, ℕ, zero, suc, ◌<◌, inl, inr, true, pos, negsuc, [], ◌∷◌, All, refl, arith, ints, false≢true, IsBelow, IsDec}
-use Rattle.water_table.proofs.Common.{IsEntryValid, IsHeadNumber, IsModel, IsNotNegative, IsPositive, IsTimed, no_number, bottom_at, constant_faces}
-use Rattle.water_table.proofs.Common.{is_variable, start_head, variable_cells, variable_faces, HasTwoSolutions, IsGentle, HasSigns, middle_balance, middle_head}
-use Rattle.water_table.proofs.Common.{narrow_pair, only_step, pumped_layers, pumped_model, pumping, FallsGently, FallsWithin, GainsAtLeast, HasSignsAt}
-use Rattle.water_table.proofs.Common.{LosesAtLeast, listed_heads, water_balance, Row, ◌^◌, Fraction, number, sym, zero-*ℤ, neg_times, ◌*◌, ◌*ℤ◌, ◌<ℤ◌, mul-pos}
-use Rattle.water_table.proofs.Common.{Ratio, den, IsWithin, NearlySolves, middle_history}
+use Rattle.water_table.proofs.Common.{◌≡◌, ℕ, zero, suc, ◌<◌, inl, inr, true, pos, negsuc, [], ◌∷◌, All, refl, arith, ints, false≢true, IsBelow, IsDec, IsEntryValid, IsHeadNumber, IsModel}
+use Rattle.water_table.proofs.Common.{IsNotNegative, IsPositive, IsTimed, no_number, bottom_at, constant_faces, is_variable, start_head, variable_cells, variable_faces, HasTwoSolutions, IsGentle}
+use Rattle.water_table.proofs.Common.{HasSigns, middle_balance, middle_head, narrow_pair, only_step, pumped_layers, pumped_model, pumping, FallsGently, FallsWithin, GainsAtLeast, HasSignsAt}
+use Rattle.water_table.proofs.Common.{LosesAtLeast, listed_heads, water_balance, Row, ◌^◌, Fraction, number, sym, zero-*ℤ, neg_times, ◌*◌, ◌*ℤ◌, ◌<ℤ◌, mul-pos, Ratio, den, IsWithin, NearlySolves}
+use Rattle.water_table.proofs.Common.{middle_history}
 use Rattle.std.proofs.lemmas.List.Elements.{All-nil, All-cons, All-head}
 use Rattle.flow_equations.specs.{cell, decimal, period_with}
 use Rattle.flow_equations.proofs.Validity.{row_valid}
-use Rattle.model_types.specs.declared.entry.Entry.TheVariants.{Well}
-use Rattle.model_types.specs.declared.face.Face.{Face}
-unfoldable use Rattle.decimal_input.specs.{over, ratio, scaled_ratio}
-unfoldable use Rattle.decimal_input.specs.Ratios.{plus, times}
+use Rattle.model_types.specs.{declared.entry.Entry.TheVariants.Well, declared.face.Face.Face}
+unfoldable use Rattle.decimal_input.specs.{over, ratio, scaled_ratio, Ratios.plus, Ratios.times}
 unfoldable use Rattle.model_types.specs.{constant_head, entries_of, given_in, half, in_a_row, times as all_times, variable_below}
 unfoldable use Rattle.water_table.specs.{row_branch, saturated_thickness, storage_flow}
 

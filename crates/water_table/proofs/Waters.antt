@@ -1,6 +1,6 @@
 -- More water is stored at a higher head, and a cell gives more from storage from a higher old head and to a lower new one.
-use Rattle.water_table.proofs.Common.{refl, ℕ, Bool, true, false, cond, pos, Fraction, AtMost, as_fraction, number, whole, minus, FlowModel, ConvertibleLayers}
-use Rattle.water_table.proofs.Common.{over, one, period_at, step_length, storage_capacity, top_at, compressed_water, drainable_water, is_convertible}
+use Rattle.water_table.proofs.Common.{refl, ℕ, Bool, true, false, cond, pos, Fraction, AtMost, as_fraction, number, whole, minus, FlowModel, ConvertibleLayers, over, one, period_at, step_length}
+use Rattle.water_table.proofs.Common.{storage_capacity, top_at, compressed_water, drainable_water, is_convertible}
 use Rattle.decimal_input.specs.Fractions.{plus, times}
 use Rattle.water_table.proofs.Orders.{AtMost-of, plus_rises, minus_rises, times_rises, lesser_rises, greater_rises}
 unfoldable use Rattle.water_table.specs.{storage_flow, stored_water}

@@ -1,14 +1,11 @@
 -- Branches between cells that needn't be full (TM 6-A16, chapter 5, LPF, harmonic means): those of a confined model, with a thickness of its own
 -- for each cell in the place of THICK. Model and settings aren't touched.
 use Rattle.std.specs.Prelude.{ℕ, ◌+◌, Bool, cond}
-use Rattle.decimal_input.specs.{number, size, Ratio, Fraction, over}
-use Rattle.decimal_input.specs.Ratios.{times, plus}
+use Rattle.decimal_input.specs.{number, size, Ratio, Fraction, over, Ratios.times, Ratios.plus}
 use Rattle.cell_balance.specs.{lesser}
-use Rattle.model_types.specs.declared.model.FlowModel.{FlowModel}
-use Rattle.model_types.specs.declared.face.Axis.{Axis}
-use Rattle.model_types.specs.declared.face.Axis.TheVariants.{Row, Column, Vertical}
-use Rattle.model_types.specs.{delr_at, delc_at, hk_at, hani_at, vkcb_at, top_at, bottom_at, bed_thickness, thickness, vertical_conductivity, layer_of, int_at}
-use Rattle.model_types.specs.{is_nonzero, gap, half, in_a_row, stride, two}
+use Rattle.model_types.specs.{declared.model.FlowModel.FlowModel, declared.face.Axis.Axis, declared.face.Axis.TheVariants.Row}
+use Rattle.model_types.specs.{declared.face.Axis.TheVariants.Column, declared.face.Axis.TheVariants.Vertical, delr_at, delc_at, hk_at, hani_at, vkcb_at, top_at}
+use Rattle.model_types.specs.{bottom_at, bed_thickness, thickness, vertical_conductivity, layer_of, int_at, is_nonzero, gap, half, in_a_row, stride, two}
 use Rattle.water_table.specs.declared.convertible_layers.ConvertibleLayers.{ConvertibleLayers}
 
 -- The thickness of cell c is `thick c`.

@@ -1,15 +1,12 @@
 -- Gentle heads: those at which each flow between two cells falls weakly with the head that it goes to and rises weakly with the
 -- one that it comes from. LPF's equations for convertible layers may have several solutions; on gentle heads they are monotone.
 use Rattle.std.specs.Prelude.{ℕ, ◌+◌, ◌<◌, ◌≡◌, ◌⊎◌, ◌||◌, true, false, All}
-use Rattle.decimal_input.specs.{number, Fraction, as_fraction}
-use Rattle.decimal_input.specs.Fractions.{AtMost}
+use Rattle.decimal_input.specs.{number, Fraction, as_fraction, Fractions.AtMost}
 use Rattle.cell_balance.specs.{minus, IsBelow}
-use Rattle.model_types.specs.declared.model.FlowModel.{FlowModel}
-use Rattle.model_types.specs.declared.face.Axis.{Axis}
-use Rattle.model_types.specs.declared.face.Axis.TheVariants.{Row, Column, Vertical}
-use Rattle.model_types.specs.{top_at, bottom_at, is_active, is_variable, cell_count, layer_size, variable_faces, constant_faces}
-use Rattle.water_table.specs.declared.convertible_layers.ConvertibleLayers.{ConvertibleLayers}
-use Rattle.water_table.specs.Branches.{is_convertible, saturated_thickness}
+use Rattle.model_types.specs.{declared.model.FlowModel.FlowModel, declared.face.Axis.Axis, declared.face.Axis.TheVariants.Row}
+use Rattle.model_types.specs.{declared.face.Axis.TheVariants.Column, declared.face.Axis.TheVariants.Vertical, top_at, bottom_at, is_active, is_variable}
+use Rattle.model_types.specs.{cell_count, layer_size, variable_faces, constant_faces}
+use Rattle.water_table.specs.{declared.convertible_layers.ConvertibleLayers.ConvertibleLayers, Branches.is_convertible, Branches.saturated_thickness}
 
 module _ (m : FlowModel) (w : ConvertibleLayers) (h : ℕ → Fraction) where
   -- a full cell: its head is at or above its top, or its layer isn't convertible

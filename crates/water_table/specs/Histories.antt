@@ -1,15 +1,10 @@
 -- Histories of gentle heads that nearly solve a model with convertible layers, and listed heads that enclose them. A quadratic
 -- equation has mostly no fraction as its solution, but fractions near to it: so balances are below a unit of flow in magnitude, and not 0.
 use Rattle.std.specs.Prelude.{ℕ, ℤ, List, [], ◌∷◌, All, ◌<◌, ◌^◌}
-use Rattle.decimal_input.specs.{Fraction, Ratio, as_fraction, opposite}
-use Rattle.decimal_input.specs.Fractions.{AtMost}
+use Rattle.decimal_input.specs.{Fraction, Ratio, as_fraction, opposite, Fractions.AtMost}
 use Rattle.cell_balance.specs.{IsBelow, share}
-use Rattle.model_types.specs.declared.model.FlowModel.{FlowModel}
-use Rattle.model_types.specs.declared.time_steps.TimeStep.{TimeStep}
-use Rattle.model_types.specs.{start_head, times, variable_cells}
-use Rattle.water_table.specs.declared.convertible_layers.ConvertibleLayers.{ConvertibleLayers}
-use Rattle.water_table.specs.Gentle.{IsGentle}
-use Rattle.water_table.specs.Steps.{heads_at, water_balance}
+use Rattle.model_types.specs.{declared.model.FlowModel.FlowModel, declared.time_steps.TimeStep.TimeStep, start_head, times, variable_cells}
+use Rattle.water_table.specs.{declared.convertible_layers.ConvertibleLayers.ConvertibleLayers, Gentle.IsGentle, Steps.heads_at, Steps.water_balance}
 
 -- less than the unit in magnitude, at least the unit, and at most minus the unit
 abbrev pub IsWithin : Ratio → Fraction → Type 0

@@ -1,15 +1,10 @@
 -- What the definitions owe to the manual (TM 6-A16, chapter 5, LPF).
-use Rattle.std.specs.Prelude.{ℕ, ◌≡◌, true, false}
-use Rattle.decimal_input.specs.{number, size, Fraction, as_fraction, over, Ratio}
-use Rattle.decimal_input.specs.Fractions.{AtMost, Same, plus, times}
-use Rattle.decimal_input.specs.Ratios.{Same as SameRatio, times as product}
+use Rattle.std.specs.Prelude.{ℕ, ◌≡◌, true}
+use Rattle.decimal_input.specs.{number, size, Fraction, as_fraction, Ratio, Fractions.AtMost, Fractions.Same, Fractions.plus, Fractions.times}
+use Rattle.decimal_input.specs.{Ratios.times as product}
 use Rattle.cell_balance.specs.{minus}
-use Rattle.model_types.specs.declared.model.FlowModel.{FlowModel}
-use Rattle.model_types.specs.declared.face.Axis.{Axis}
-use Rattle.model_types.specs.{thickness, conductance, top_at, dec_at, area, storage_capacity, one, period_at, step_length}
-use Rattle.water_table.specs.declared.convertible_layers.ConvertibleLayers.{ConvertibleLayers}
-use Rattle.water_table.specs.Branches.{branch, is_convertible, saturated_thickness}
-use Rattle.water_table.specs.Storage.{storage_flow, stored_water}
+use Rattle.model_types.specs.{declared.model.FlowModel.FlowModel, declared.face.Axis.Axis, thickness, conductance, top_at, dec_at, area, storage_capacity}
+use Rattle.water_table.specs.{declared.convertible_layers.ConvertibleLayers.ConvertibleLayers, Branches.branch, Branches.is_convertible, Storage.stored_water}
 
 -- With THICK for the thickness of each cell a branch is the confined model's.
 abbrev pub ThickBranchesAreConfined : Type 0

@@ -3,19 +3,14 @@
 -- conductances at these heads, and its storage.
 use Rattle.std.specs.Prelude.{ℕ, ℤ, List, map, ◌++◌, slice_index_or, cond}
 use Rattle.std.specs.List.{filter_map}
-use Rattle.decimal_input.specs.{Fraction}
-use Rattle.decimal_input.specs.Fractions.{plus}
+use Rattle.decimal_input.specs.{Fraction, Fractions.plus}
 use Rattle.step_problem.specs.declared.entry.FixedKind.TheVariants.{Constant}
 use Rattle.cell_balance.specs.{ExactLink, ExactFixed, ExactCell, balance, share}
-use Rattle.model_types.specs.declared.model.FlowModel.{FlowModel}
-use Rattle.model_types.specs.declared.face.Face.{Face}
-use Rattle.model_types.specs.declared.time_steps.TimeStep.{TimeStep}
-use Rattle.model_types.specs.{index_of, constant_head, is_constant, variable_cells, variable_faces, constant_faces, flow_sources, river_sources, drain_sources}
-use Rattle.model_types.specs.{evap_sources, local_entries, as_general, start_head}
+use Rattle.model_types.specs.{declared.model.FlowModel.FlowModel, declared.face.Face.Face, declared.time_steps.TimeStep.TimeStep, index_of, constant_head}
+use Rattle.model_types.specs.{is_constant, variable_cells, variable_faces, constant_faces, flow_sources, river_sources, drain_sources, evap_sources}
+use Rattle.model_types.specs.{local_entries, as_general, start_head}
 use Rattle.flow_equations.specs.{exact_flow, exact_fixed, exact_river, exact_drain, exact_evap}
-use Rattle.water_table.specs.declared.convertible_layers.ConvertibleLayers.{ConvertibleLayers}
-use Rattle.water_table.specs.Branches.{conductance_at}
-use Rattle.water_table.specs.Storage.{storage_flow}
+use Rattle.water_table.specs.{declared.convertible_layers.ConvertibleLayers.ConvertibleLayers, Branches.conductance_at, Storage.storage_flow}
 
 -- the number of the variable cell of an index
 abbrev pub variable_cell : FlowModel → ℕ → ℕ → ℕ

@@ -1,13 +1,9 @@
 -- Water in storage, and what a cell gives from it in a time step (TM 6-A16, chapter 5, LPF: SS, SY and the storage of a cell whose head crosses its top).
 use Rattle.std.specs.Prelude.{ℕ, cond, pos, true}
-use Rattle.decimal_input.specs.{number, size, Fraction, over, whole, as_fraction}
-use Rattle.decimal_input.specs.Fractions.{plus, times}
-use Rattle.decimal_input.specs.Ratios.{times as product}
+use Rattle.decimal_input.specs.{number, size, Fraction, over, whole, as_fraction, Fractions.plus, Fractions.times, Ratios.times as product}
 use Rattle.cell_balance.specs.{minus, lesser, greater}
-use Rattle.model_types.specs.declared.model.FlowModel.{FlowModel}
-use Rattle.model_types.specs.{dec_at, area, top_at, storage_capacity, one, period_at, step_length}
-use Rattle.water_table.specs.declared.convertible_layers.ConvertibleLayers.{ConvertibleLayers}
-use Rattle.water_table.specs.Branches.{is_convertible}
+use Rattle.model_types.specs.{declared.model.FlowModel.FlowModel, dec_at, area, top_at, storage_capacity, one, period_at, step_length}
+use Rattle.water_table.specs.{declared.convertible_layers.ConvertibleLayers.ConvertibleLayers, Branches.is_convertible}
 
 -- the model with SY for a storage coefficient (TM 6-A16, LPF, options and item 13)
 abbrev pub with_yield : FlowModel → ConvertibleLayers → FlowModel

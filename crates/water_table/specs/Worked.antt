@@ -1,17 +1,12 @@
 -- A pumped cell between two known heads, which has two wet solutions by LPF's equations: why gentle heads are asked for. Lengths in metres.
-use Rattle.std.specs.Prelude.{ℕ, ℤ, pos, negsuc, true, List, [], ◌∷◌, ◌≡◌, ◌^◌}
-use Rattle.decimal_input.specs.declared.dec.Dec.{Dec}
-use Rattle.decimal_input.specs.{Fraction, ratio}
-use Rattle.model_types.specs.declared.entry.Entry.TheVariants.{Well}
-use Rattle.model_types.specs.declared.model.FlowModel.{FlowModel}
-use Rattle.model_types.specs.declared.time_steps.TimeStep.{TimeStep}
-use Rattle.model_types.specs.{no_number, start_head, IsModel}
+use Rattle.std.specs.Prelude.{ℕ, ℤ, pos, negsuc, true, [], ◌∷◌, ◌≡◌, ◌^◌}
+use Rattle.decimal_input.specs.{declared.dec.Dec.Dec, Fraction, ratio}
+use Rattle.model_types.specs.{declared.entry.Entry.TheVariants.Well, declared.model.FlowModel.FlowModel, declared.time_steps.TimeStep.TimeStep, no_number}
+use Rattle.model_types.specs.{start_head, IsModel}
 use Rattle.step_problem.specs.{head_at}
 use Rattle.flow_equations.specs.{cell, decimal, period_with, row_model}
-use Rattle.water_table.specs.declared.convertible_layers.ConvertibleLayers.{ConvertibleLayers}
-use Rattle.water_table.specs.Gentle.{IsGentle}
-use Rattle.water_table.specs.Histories.{HasSigns, ListedPair, NearlySolves}
-use Rattle.water_table.specs.Steps.{heads_at, water_balance}
+use Rattle.water_table.specs.{declared.convertible_layers.ConvertibleLayers.ConvertibleLayers, Gentle.IsGentle, Histories.HasSigns, Histories.ListedPair}
+use Rattle.water_table.specs.{Histories.NearlySolves, Steps.heads_at, Steps.water_balance}
 
 -- 0.6 m3/d out of the cell
 abbrev pub pumping : Dec

@@ -1,16 +1,12 @@
 -- Zones that pass the test are within their limits.
-use Rattle.zone_file.proofs.Common.{◌≡◌, false, not, List, None, All, length, slice_index_or, arith, ℕ, ◌≤◌, [], ◌∷◌, Some, Option, Ok, map, unsigned_abs, refl}
-use Rattle.zone_file.proofs.Common.{file_at, FileSet, IsZone, is_zone, wrong_at, zones_of, zones_tested, array_files_have_form, ok_gives_only, goes_on}
-use Rattle.zone_file.proofs.Common.{err_gives_only, then_}
+use Rattle.zone_file.proofs.Common.{◌≡◌, false, not, List, None, All, length, slice_index_or, arith, ℕ, ◌≤◌, [], ◌∷◌, Some, Option, Ok, map, unsigned_abs, refl, file_at, FileSet, IsZone, is_zone}
+use Rattle.zone_file.proofs.Common.{wrong_at, zones_of, zones_tested, array_files_have_form, ok_gives_only, goes_on, err_gives_only, then_}
 use Rattle.std.specs.Prelude.{codes, ℤ, pos, negsuc}
 use Rattle.std.specs.List.{position, position_or_len, AllByRecursion}
-use Rattle.std.proofs.lemmas.Int.{ints}
-use Rattle.std.proofs.lemmas.List.Sums.{fails_before_first}
+use Rattle.std.proofs.{lemmas.Int.ints, lemmas.List.Sums.fails_before_first, lemmas.List.Elements.All-from_recursion, lemmas.List.Elements.recursion_from_All}
 use Rattle.record_lines.proofs.CutLemmas.{place_of_none}
-use Rattle.std.proofs.lemmas.List.Elements.{All-from_recursion, recursion_from_All}
 use Rattle.record_lines.specs.{GivesOnly, name_at, left_from}
-use Rattle.model_types.specs.{cell_count}
-use Rattle.model_types.specs.declared.grid.Grid.{Grid}
+use Rattle.model_types.specs.{cell_count, declared.grid.Grid.Grid}
 
 zone_is : (z : ℤ) → not (is_zone z) ≡ false → IsZone z
 zone_is (pos n) h = grind (arith, ints)

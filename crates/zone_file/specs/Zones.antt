@@ -2,9 +2,7 @@
 -- arrays are those of IBOUND (TM 6-A16, array reader U2DINT).
 use Rattle.std.specs.Prelude.{ℕ, ℤ, pos, negsuc, ◌≤ℤ◌, Bool, false, not, nat_le, List, Option, Some, None, Result, Ok, Err, codes}
 use Rattle.std.specs.List.{position}
-use Rattle.outside.specs.{FileSet, file_at}
-use Rattle.outside.specs.declared.codes.Code.TheVariants.{BadProperty}
-use Rattle.outside.specs.declared.inputs.Refusal.{Refusal}
+use Rattle.outside.specs.{FileSet, file_at, declared.codes.Code.TheVariants.BadProperty, declared.inputs.Refusal.Refusal}
 use Rattle.record_lines.specs.{name_at, left_from, ◌>>=◌}
 use Rattle.array_reader.specs.{layers, whole}
 use Rattle.model_types.specs.declared.grid.Grid.{Grid}

@@ -1,15 +1,12 @@
 -- The bounds of the flows between zones enclose the exact ones.
-use Rattle.zone_flows.proofs.Common.{◌≡◌, ℕ, zero, suc, ◌+◌, ◌<◌, Bool, true, false, refl, ap, ◌∙◌, subst, List, [], ◌∷◌, ◌++◌, length, map, get_or, All, ℤ}
-use Rattle.zone_flows.proofs.Common.{◌-ℤ◌, AllZip, filter, flat_map, All-head, All-tail, All-from_get_or, All-weaker, Fraction, as_fraction, Encloses}
-use Rattle.zone_flows.proofs.Common.{EnclosesSigned, Storage, Constant, General, Fixed, Link, IsProblem, Entries, entries_at, no_entries, least, most, total}
-use Rattle.zone_flows.proofs.Common.{ExactLink, ExactFixed, ExactCell, cell_at, LinkEncloses, FixedEncloses, CellEncloses, EnclosesStep, TermPair, Face}
-use Rattle.zone_flows.proofs.Common.{is_lower_zone, face_from, link_faces, faces_by_kind, fixed_faces, cell_faces, faces, is_between, flows_between, ExactFace}
-use Rattle.zone_flows.proofs.Common.{exact_from, exact_link, exact_by_kind, exact_fixed, exact_cell, exact_faces, is_exact_between, exact_flow, HeadsLieWithin}
-use Rattle.zone_flows.proofs.Common.{Ratio, minus}
+use Rattle.zone_flows.proofs.Common.{◌≡◌, ℕ, zero, suc, ◌+◌, ◌<◌, Bool, true, false, refl, ap, ◌∙◌, subst, List, [], ◌∷◌, ◌++◌, length, map, get_or, All, ℤ, ◌-ℤ◌, AllZip, filter, flat_map, All-head}
+use Rattle.zone_flows.proofs.Common.{All-tail, All-from_get_or, All-weaker, Fraction, as_fraction, Encloses, EnclosesSigned, Storage, Constant, General, Fixed, Link, IsProblem, Entries, entries_at}
+use Rattle.zone_flows.proofs.Common.{no_entries, least, most, total, ExactLink, ExactFixed, ExactCell, cell_at, LinkEncloses, FixedEncloses, CellEncloses, EnclosesStep, TermPair, Face, is_lower_zone}
+use Rattle.zone_flows.proofs.Common.{face_from, link_faces, faces_by_kind, fixed_faces, cell_faces, faces, is_between, flows_between, ExactFace, exact_from, exact_link, exact_by_kind, exact_fixed}
+use Rattle.zone_flows.proofs.Common.{exact_cell, exact_faces, is_exact_between, exact_flow, HeadsLieWithin, Ratio, minus}
 use Rattle.step_problem.specs.declared.entry.FixedKind.{FixedKind}
 use Rattle.decimal_input.specs.Fractions.{times}
-use Rattle.cell_balance.proofs.EntryBounds.{bounds_hold}
-use Rattle.cell_balance.proofs.Enclosing.{total_encloses, AllZip-filter}
+use Rattle.cell_balance.proofs.{EntryBounds.bounds_hold, Enclosing.total_encloses, Enclosing.AllZip-filter}
 
 pub AllZip-append : {X Y : Type 0} (R : X → Y → Type 0) (xs : List X) (ys : List Y) (vs : List X) (ws : List Y) → AllZip R xs ys → AllZip R vs ws → AllZip R (xs ++ vs) (ys ++ ws)
 AllZip-append R [] [] vs ws h k = k

@@ -1,12 +1,10 @@
 -- The loop over a table; and what the flows between zones are: one for each pair that shares a face, each the sums of the faces' flows.
-use Rattle.zone_flows.proofs.Common.{◌≡◌, ℕ, ◌+◌, Bool, true, false, List, [], ◌∷◌, ◌++◌, refl, sym, ap, ◌∙◌, subst, arith, append_assoc, Result, Ok, Err, IfOk}
-use Rattle.zone_flows.proofs.Common.{All, All-cons, All-nil, All-weaker, AllZip, map, filter, append-nil, ◌>>=◌, ZoneFlow, NoBound, Face, Fraction, ints, pos}
-use Rattle.zone_flows.proofs.Common.{ℤ, ◌<ℤ◌, unsigned_abs, total, term_limit, flows_between, EnclosesSigned, ExactCell, EnclosesStep, EncloseEveryStep}
-use Rattle.zone_flows.proofs.Common.{HeadsLieWithin, exact_flow, exact_faces, faces, IsProblem, Entries, and_parts, each_or_first, zone_flows, share, is_small}
-use Rattle.zone_flows.proofs.Common.{flow_or_large, pair_flow, Returns, if◌then◌else◌, pairs_below, zones_of_flow, lt_z}
+use Rattle.zone_flows.proofs.Common.{◌≡◌, ℕ, ◌+◌, Bool, true, false, List, [], ◌∷◌, ◌++◌, refl, sym, ap, ◌∙◌, subst, arith, append_assoc, Result, Ok, Err, IfOk, All, All-cons, All-nil, All-weaker}
+use Rattle.zone_flows.proofs.Common.{AllZip, map, filter, append-nil, ◌>>=◌, ZoneFlow, NoBound, Face, Fraction, ints, pos, ℤ, ◌<ℤ◌, unsigned_abs, total, term_limit, flows_between, EnclosesSigned}
+use Rattle.zone_flows.proofs.Common.{ExactCell, EnclosesStep, EncloseEveryStep, HeadsLieWithin, exact_flow, exact_faces, faces, IsProblem, Entries, and_parts, each_or_first, zone_flows, share}
+use Rattle.zone_flows.proofs.Common.{is_small, flow_or_large, pair_flow, Returns, if◌then◌else◌, pairs_below, zones_of_flow, lt_z}
 use Rattle.zone_pairs.specs.declared.pair.ZonePair.{ZonePair}
-use Rattle.std.specs.declared.vec.Vec.{Vec}
-use Rattle.std.specs.declared.alloc.Global.{Global}
+use Rattle.std.specs.{declared.vec.Vec.Vec, declared.alloc.Global.Global}
 use Rattle.step_problem.specs.declared.refusal.BoundFault.{BoundFault}
 use Rattle.zone_flows.proofs.Enclosed.{sums_enclose}
 

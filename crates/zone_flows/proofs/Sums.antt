@@ -1,12 +1,10 @@
 -- The sums of a list of flows: what they bring in and what they take out, each standing still at 2^126; and the flow that they give.
-use Rattle.zone_flows.proofs.Common.{◌≡◌, ℕ, Bool, true, false, refl, sym, ap, ◌∙◌, arith, List, [], ◌∷◌, ℤ, pos, negsuc, neg_ℤ, unsigned_abs, ◌+ℤ◌, ◌-ℤ◌, ◌≤ℤ◌}
-use Rattle.zone_flows.proofs.Common.{None, Some, ints, clamps, total, TermPair, IsSum, capped_term, plus_pair, parts, term_limit, ZoneSum, add_flow, plus_flows}
-use Rattle.zone_flows.proofs.Common.{IsZoneSum, part, no_flows, no_pair, zone_flow, flow_or_refusal, Result, Ok, if◌then◌else◌, NoBound, ZoneFlow, and_parts}
-use Rattle.zone_flows.proofs.Common.{Face, flow_or_large, pair_flow, flows_between, pair_of, ◌/◌, ◌%◌, lt_z}
+use Rattle.zone_flows.proofs.Common.{◌≡◌, ℕ, Bool, true, false, refl, sym, ap, ◌∙◌, arith, List, [], ◌∷◌, ℤ, pos, negsuc, neg_ℤ, unsigned_abs, ◌+ℤ◌, ◌-ℤ◌, ◌≤ℤ◌, None, Some, ints, clamps, total}
+use Rattle.zone_flows.proofs.Common.{TermPair, IsSum, capped_term, plus_pair, parts, term_limit, ZoneSum, add_flow, plus_flows, IsZoneSum, part, no_flows, no_pair, zone_flow, flow_or_refusal, Result}
+use Rattle.zone_flows.proofs.Common.{Ok, if◌then◌else◌, NoBound, ZoneFlow, and_parts, Face, flow_or_large, pair_flow, flows_between, pair_of, ◌/◌, ◌%◌, lt_z}
 use Rattle.std.specs.Int.{int_max, int_min}
-use Rattle.step_problem.specs.declared.place.Dir.TheVariants.{In, Out}
+use Rattle.step_problem.specs.{declared.place.Dir.TheVariants.In, declared.place.Dir.TheVariants.Out, declared.place.Dir.Dir}
 use Rattle.budget_bounds.proofs.Caps.{capped_twice, nothing_more, part_lo, part_hi, parts_lo, parts_hi}
-use Rattle.step_problem.specs.declared.place.Dir.{Dir}
 
 cap_below : (limit a b : ℤ) → int_min (a +ℤ b) limit ≤ℤ limit
 cap_below limit a b = omega (arith, ints, clamps)

@@ -1,17 +1,11 @@
 -- What a table of sums has gained after more faces, and so the flows of its entries in order.
-use Rattle.zone_flows.proofs.Common.{◌≡◌, ℕ, ◌+◌, ◌*◌, ◌/◌, ◌%◌, ◌<◌, ◌≤◌, Bool, true, false, cond, refl, sym, ap, ◌∙◌, subst, arith, List, [], ◌∷◌, ◌++◌, map}
-use Rattle.zone_flows.proofs.Common.{take, length, get_or, flat_map, filter, Option, None, Some, ZoneSum, Face, TermPair, AreSums, Gains, IsZoneSum, add_flow}
-use Rattle.zone_flows.proofs.Common.{plus_flows, no_flows, flows_between, is_between, share, flow_or_large, flow_or_refusal, each_or_first, zone_flows, Result}
-use Rattle.zone_flows.proofs.Common.{All, All-head, All-tail, All-weaker, cases_lt, inl, inr, true≢false, pair_of, map-append, append-nil, ◌||◌, IfSome}
-use Rattle.zone_flows.proofs.Common.{values_of, take_more, take_all, filter-append}
-use Rattle.std.proofs.lemmas.Bool.Decides.{nat_tests}
-use Rattle.std.specs.BTreeMap.{is_at, BTreeMap, IsOrdered, get, insert_entry, keys}
-use Rattle.std.specs.Ordering.{nat_cmp}
-use Rattle.std.specs.Option.{is_some, unwrap_or}
-use Rattle.std.proofs.lemmas.Cmp.{nat_cmp_total}
-use Rattle.std.proofs.lemmas.Grind.{flat_map-append}
-use Rattle.std.proofs.lemmas.Map.Made.{is_some-lookup}
-use Rattle.std.proofs.lemmas.Map.Views.{All-found, All-values-insert_entry, IfSome-lookup_from_All}
+use Rattle.zone_flows.proofs.Common.{◌≡◌, ℕ, ◌+◌, ◌*◌, ◌/◌, ◌%◌, ◌<◌, ◌≤◌, Bool, true, false, cond, refl, sym, ap, ◌∙◌, subst, arith, List, [], ◌∷◌, ◌++◌, map, take, length, get_or, flat_map, filter}
+use Rattle.zone_flows.proofs.Common.{Option, None, Some, ZoneSum, Face, TermPair, AreSums, Gains, IsZoneSum, add_flow, plus_flows, no_flows, flows_between, is_between, share, flow_or_large}
+use Rattle.zone_flows.proofs.Common.{flow_or_refusal, each_or_first, zone_flows, Result, All, All-head, All-tail, All-weaker, cases_lt, inl, inr, true≢false, pair_of, map-append, append-nil, ◌||◌}
+use Rattle.zone_flows.proofs.Common.{IfSome, values_of, take_more, take_all, filter-append}
+use Rattle.std.proofs.{lemmas.Bool.Decides.nat_tests, lemmas.Cmp.nat_cmp_total, lemmas.Grind.flat_map-append, lemmas.Map.Made.is_some-lookup, lemmas.Map.Views.All-found}
+use Rattle.std.proofs.{lemmas.Map.Views.All-values-insert_entry, lemmas.Map.Views.IfSome-lookup_from_All}
+use Rattle.std.specs.{BTreeMap.is_at, BTreeMap.BTreeMap, BTreeMap.IsOrdered, BTreeMap.get, BTreeMap.insert_entry, BTreeMap.keys, Ordering.nat_cmp, Option.is_some, Option.unwrap_or}
 use Rattle.zone_pairs.proofs.InOrder.{has, pairs_are}
 use Rattle.zone_flows.proofs.Sums.{sums, sums_are, entry_flow, zero_sums}
 

@@ -1,18 +1,11 @@
 -- The faces between cells of two zones, and the bounds of the flow across each. Zone 0 is no zone.
 use Rattle.std.specs.Prelude.{ℕ, ◌==◌, Bool, ◌&&◌, cond, List, [], ◌∷◌, ◌++◌, map, nat_lt, slice_index, ℤ, ◌-ℤ◌, ◌≡◌, ◌≤◌, ◌<◌, All, length, ◌+◌}
 use Rattle.std.specs.List.{filter, flat_map}
-use Rattle.step_problem.specs.declared.entry.FixedKind.{FixedKind}
-use Rattle.step_problem.specs.declared.entry.FixedKind.TheVariants.{Storage, Constant, General}
-use Rattle.step_problem.specs.declared.entry.Fixed.{Fixed}
-use Rattle.step_problem.specs.declared.entry.Link.{Link}
-use Rattle.step_problem.specs.Entries.{Entries}
-use Rattle.step_problem.specs.{entries_at, least, most}
-use Rattle.budget_bounds.specs.declared.pair.TermPair.{TermPair}
-use Rattle.step_problem.specs.declared.heads.Bound.{Bound}
-use Rattle.budget_bounds.specs.{AreHeads}
-use Rattle.decimal_input.specs.{Ratio, Fraction, as_fraction, fraction_total, EnclosesSigned}
-use Rattle.decimal_input.specs.Fractions.{times}
-use Rattle.step_problem.specs.declared.place.ZoneFlow.{ZoneFlow}
+use Rattle.step_problem.specs.{declared.entry.FixedKind.FixedKind, declared.entry.FixedKind.TheVariants.Storage, declared.entry.FixedKind.TheVariants.Constant}
+use Rattle.step_problem.specs.{declared.entry.FixedKind.TheVariants.General, declared.entry.Fixed.Fixed, declared.entry.Link.Link, Entries.Entries, entries_at}
+use Rattle.step_problem.specs.{least, most, declared.heads.Bound.Bound, declared.place.ZoneFlow.ZoneFlow}
+use Rattle.budget_bounds.specs.{declared.pair.TermPair.TermPair, AreHeads}
+use Rattle.decimal_input.specs.{Ratio, Fraction, as_fraction, fraction_total, EnclosesSigned, Fractions.times}
 use Rattle.cell_balance.specs.{ExactLink, ExactFixed, ExactCell, cell_at, minus, EnclosesStep}
 
 -- a face between a cell of the zone from and a cell of the zone to, and the least and the greatest flow across it

@@ -1,18 +1,11 @@
 -- The flows between zones in one time step: one for each pair of zones that share a face, in order of the pairs; or the first pair whose flow is too large.
 use Rattle.std.specs.Prelude.{Bool, ◌&&◌, List, [], ◌∷◌, pos, unsigned_abs, Result, Ok, Err, if◌then◌else◌, ◌≡◌}
-use Rattle.std.specs.List.{filter, list_any}
-use Rattle.std.specs.Int.Signed.{lt_z}
-use Rattle.step_problem.specs.declared.place.NoBound.{NoBound}
-use Rattle.step_problem.specs.declared.place.ZoneFlow.{ZoneFlow}
-use Rattle.step_problem.specs.{total}
+use Rattle.std.specs.{List.filter, List.list_any, Int.Signed.lt_z, declared.vec.Vec.Vec, declared.alloc.Global.Global}
+use Rattle.step_problem.specs.{declared.place.NoBound.NoBound, declared.place.ZoneFlow.ZoneFlow, total, declared.refusal.BoundFault.BoundFault}
 use Rattle.budget_bounds.specs.declared.pair.TermPair.{TermPair}
 use Rattle.budget_bounds.specs.{term_limit, ◌>>=◌}
-use Rattle.zone_pairs.specs.declared.pair.ZonePair.{ZonePair}
-use Rattle.zone_pairs.specs.{pairs_below}
+use Rattle.zone_pairs.specs.{declared.pair.ZonePair.ZonePair, pairs_below}
 use Rattle.zone_flows.specs.Faces.{Face, is_between, flows_between}
-use Rattle.std.specs.declared.vec.Vec.{Vec}
-use Rattle.std.specs.declared.alloc.Global.{Global}
-use Rattle.step_problem.specs.declared.refusal.BoundFault.{BoundFault}
 use Rattle.step_problem.specs.declared.place.Place.TheVariants as places
 use Rattle.step_problem.specs.declared.refusal.BoundFault.TheVariants as faults
 

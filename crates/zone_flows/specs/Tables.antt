@@ -1,20 +1,11 @@
 -- The sums for each pair of zones, in order of the pairs. The pair a, b has the key 1000 * a + b.
 use Rattle.std.specs.Prelude.{◌≡◌, ℕ, ◌≤◌, All, List, [], ◌∷◌, ◌/◌, ◌%◌, Bool, ◌&&◌, if◌then◌else◌, ◌+ℤ◌, ◌-ℤ◌, Result, Ok, Err, Option, Some}
-use Rattle.std.specs.BTreeMap.{BTreeMap, get, values}
-use Rattle.std.specs.Option.{unwrap_or}
-use Rattle.std.specs.Ordering.{nat_cmp}
-use Rattle.step_problem.specs.declared.place.Dir.TheVariants.{In, Out}
-use Rattle.budget_bounds.specs.declared.pair.TermPair.{TermPair}
-use Rattle.budget_bounds.specs.{IsSum, part, term_limit, capped_term, plus_pair, no_pair}
-use Rattle.zone_flows.specs.declared.sum.ZoneSum.{ZoneSum}
-use Rattle.zone_flows.specs.Faces.{Face, cell_faces, face_from, faces, faces_by_kind, flows_between}
-use Rattle.zone_flows.specs.declared.walk.Walk.{Walk}
-use Rattle.step_problem.specs.{lower_at, upper_at}
-use Rattle.step_problem.specs.Entries.{Entries}
-use Rattle.step_problem.specs.declared.entry.FixedKind.{FixedKind}
-use Rattle.std.specs.Int.Signed.{lt_z}
-use Rattle.step_problem.specs.declared.place.NoBound.{NoBound}
-use Rattle.step_problem.specs.declared.place.ZoneFlow.{ZoneFlow}
+use Rattle.std.specs.{BTreeMap.BTreeMap, BTreeMap.get, BTreeMap.values, Option.unwrap_or, Ordering.nat_cmp, Int.Signed.lt_z}
+use Rattle.step_problem.specs.{declared.place.Dir.TheVariants.In, declared.place.Dir.TheVariants.Out, lower_at, upper_at, Entries.Entries}
+use Rattle.step_problem.specs.{declared.entry.FixedKind.FixedKind, declared.place.NoBound.NoBound, declared.place.ZoneFlow.ZoneFlow}
+use Rattle.budget_bounds.specs.{declared.pair.TermPair.TermPair, IsSum, part, term_limit, capped_term, plus_pair, no_pair}
+use Rattle.zone_flows.specs.{declared.sum.ZoneSum.ZoneSum, Faces.Face, Faces.cell_faces, Faces.face_from, Faces.faces, Faces.faces_by_kind, Faces.flows_between}
+use Rattle.zone_flows.specs.{declared.walk.Walk.Walk}
 use Rattle.step_problem.specs.declared.place.Place.TheVariants as places
 
 abbrev pub no_flows : ZoneSum

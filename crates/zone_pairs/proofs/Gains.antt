@@ -1,6 +1,6 @@
 -- What a set of keys has gained after one more face, or one more cell.
-use Rattle.zone_pairs.proofs.Common.{◌≡◌, ℕ, suc, ◌+◌, ◌<◌, ◌≤◌, length, Bool, true, false, ◌||◌, refl, sym, ap, ◌∙◌, List, [], ◌∷◌, take, get_or, arith}
-use Rattle.zone_pairs.proofs.Common.{list_any, nat_cmp, take_all, FlowModel, is_variable, variable_below, ZonePair, Gains, pair_of}
+use Rattle.zone_pairs.proofs.Common.{◌≡◌, ℕ, suc, ◌+◌, ◌<◌, ◌≤◌, length, Bool, true, false, ◌||◌, refl, sym, ap, ◌∙◌, List, [], ◌∷◌, take, get_or, arith, list_any, nat_cmp, take_all, FlowModel}
+use Rattle.zone_pairs.proofs.Common.{is_variable, variable_below, ZonePair, Gains, pair_of}
 use Rattle.std.specs.BTreeSet.{BTreeSet, contains}
 use Rattle.std.proofs.lemmas.List.Folds.{list_any-append, list_any_more}
 use Rattle.model_types.proofs.Ranks.{fails_next, passes_next, passing}

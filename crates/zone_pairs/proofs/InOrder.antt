@@ -1,10 +1,7 @@
 -- Ascending keys are the numbers that pass the test of being one, in order; so their pairs are the pairs that pass it.
-use Rattle.zone_pairs.proofs.Common.{◌≡◌, ℕ, zero, suc, ◌+◌, ◌*◌, ◌<◌, ◌≤◌, inl, inr, Bool, true, false, cond, ◌||◌, refl, sym, ap, ◌∙◌, arith, List, [], ◌∷◌}
-use Rattle.zone_pairs.proofs.Common.{◌++◌, map, flat_map, AllByRecursion, list_any, range_with_len, nat_cmp, cases_order, or_right, map-append, ZonePair}
-use Rattle.zone_pairs.proofs.Common.{pair_of, pairs_below, filter}
-use Rattle.std.specs.BTreeMap.{is_at}
-use Rattle.std.specs.List.Sorted.{IsStrictlySortedBy}
-use Rattle.std.specs.declared.cmp.Ordering.TheVariants.{Less}
+use Rattle.zone_pairs.proofs.Common.{◌≡◌, ℕ, zero, suc, ◌+◌, ◌*◌, ◌<◌, ◌≤◌, inl, inr, Bool, true, false, cond, ◌||◌, refl, sym, ap, ◌∙◌, arith, List, [], ◌∷◌, ◌++◌, map, flat_map, AllByRecursion}
+use Rattle.zone_pairs.proofs.Common.{list_any, range_with_len, nat_cmp, cases_order, or_right, map-append, ZonePair, pair_of, pairs_below, filter}
+use Rattle.std.specs.{BTreeMap.is_at, List.Sorted.IsStrictlySortedBy, declared.cmp.Ordering.TheVariants.Less}
 use Rattle.std.proofs.lemmas.Bool.Decides.{nat_tests}
 
 -- whether q is one of the keys

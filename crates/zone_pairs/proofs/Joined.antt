@@ -1,7 +1,7 @@
 -- What it says that a face joins two zones, and that zones share a face.
-use Rattle.zone_pairs.proofs.Common.{◌≡◌, ℕ, zero, suc, ◌<◌, ◌≤◌, ◌⊎◌, inl, inr, Bool, true, false, ◌&&◌, refl, ap, ◌∙◌, arith, List, [], ◌∷◌, All, Option}
-use Rattle.zone_pairs.proofs.Common.{Some, None, AllByRecursion, list_any, and_from, and_parts, eqb-true, leb-true, or_cases, or_left, or_right, FlowModel}
-use Rattle.zone_pairs.proofs.Common.{faces, variable_cells, is_active, ZonePair, joins, joins_by, share_face, pairs_below, pairs_in, zone_pairs, AreNumbers}
+use Rattle.zone_pairs.proofs.Common.{◌≡◌, ℕ, zero, suc, ◌<◌, ◌≤◌, ◌⊎◌, inl, inr, Bool, true, false, ◌&&◌, refl, ap, ◌∙◌, arith, List, [], ◌∷◌, All, Option, Some, None, AllByRecursion, list_any}
+use Rattle.zone_pairs.proofs.Common.{and_from, and_parts, eqb-true, leb-true, or_cases, or_left, or_right, FlowModel, faces, variable_cells, is_active, ZonePair, joins, joins_by, share_face}
+use Rattle.zone_pairs.proofs.Common.{pairs_below, pairs_in, zone_pairs, AreNumbers}
 use Rattle.std.proofs.lemmas.List.Elements.{recursion_from_All, All-nil, All-weaker, filter_passes}
 use Rattle.std.specs.Prelude.{◌==◌, slice_index}
 use Rattle.model_types.specs.declared.face.Face.{Face}

@@ -1,16 +1,10 @@
 -- The pairs of zones that share a face in a stress period. Zone 0 is no zone.
 use Rattle.std.specs.Prelude.{ℕ, ◌==◌, nat_lt, Bool, false, ◌&&◌, ◌||◌, List, [], filter, map, slice_index, Option, Some, None, ◌≡◌, ◌/◌, ◌%◌, ◌≤◌, All, length}
 use Rattle.std.specs.Prelude.{IfSome, option_map}
-use Rattle.std.specs.List.{flat_map, list_any, range_with_len}
+use Rattle.std.specs.{List.flat_map, List.list_any, List.range_with_len, BTreeSet.BTreeSet, BTreeSet.contains, Ordering.nat_cmp}
 use Rattle.step_problem.specs.declared.place.ZoneFlow.{ZoneFlow}
-use Rattle.model_types.specs.declared.face.Face.{Face}
-use Rattle.model_types.specs.declared.model.FlowModel.{FlowModel}
-use Rattle.model_types.specs.{faces, cell_count, variable_cells, given_heads, is_active, IsModel}
-use Rattle.zone_pairs.specs.declared.pair.ZonePair.{ZonePair}
-use Rattle.std.specs.BTreeSet.{BTreeSet, contains}
-use Rattle.std.specs.Ordering.{nat_cmp}
-use Rattle.zone_pairs.specs.declared.periods.Walk.{Walk}
-use Rattle.zone_pairs.specs.declared.periods.ZonePairs.{ZonePairs}
+use Rattle.model_types.specs.{declared.face.Face.Face, declared.model.FlowModel.FlowModel, faces, cell_count, variable_cells, given_heads, is_active, IsModel}
+use Rattle.zone_pairs.specs.{declared.pair.ZonePair.ZonePair, declared.periods.Walk.Walk, declared.periods.ZonePairs.ZonePairs}
 
 -- the two zones of a flow
 abbrev pub zones_of_flow : ZoneFlow → ZonePair

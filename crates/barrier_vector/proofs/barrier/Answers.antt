@@ -1,6 +1,5 @@
 use Rattle.barrier_vector.proofs.Common.{Low, High, head_at}
-use Rattle.barrier_vector.proofs.Floors.{encloses_all, held_all}
-use Rattle.barrier_vector.proofs.Sides.{stored_fault}
+use Rattle.barrier_vector.proofs.{Floors.encloses_all, Floors.held_all, Sides.stored_fault}
 use Rattle.barrier_vector.proofs.barrier.Goals as goal
 
 pub returns-in-Ok-whole_side-2-clause-held : goal.returns-in-Ok-whole_side-2-clause-held

@@ -1,6 +1,5 @@
 use Rattle.step_problem.specs.declared.heads.Side.TheVariants.{Low, High}
-use Rattle.barrier_vector.proofs.Cutting.{cut_encloses, cut_holds, high_cut_fault}
-use Rattle.barrier_vector.proofs.Sides.{stored_fault, unbounded_refuses}
+use Rattle.barrier_vector.proofs.{Cutting.cut_encloses, Cutting.cut_holds, Cutting.high_cut_fault, Sides.stored_fault, Sides.unbounded_refuses}
 use Rattle.barrier_vector.proofs.cut_barrier.Goals as goal
 
 pub returns-in-Err-cut_side-clause-stored : goal.returns-in-Err-cut_side-clause-stored

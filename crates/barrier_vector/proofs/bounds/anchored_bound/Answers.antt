@@ -1,6 +1,5 @@
 use Rattle.barrier_vector.proofs.Common.{rules, FitsSigned, w64, to_z-of_z, sym, subst, IsHead}
-use Rattle.barrier_vector.proofs.Marking.{base_head}
-use Rattle.barrier_vector.proofs.Uniques.{bound_anchored}
+use Rattle.barrier_vector.proofs.{Marking.base_head, Uniques.bound_anchored}
 use Rattle.barrier_vector.proofs.bounds.anchored_bound.Goals as goal
 
 pub move_out-requires : goal.move_out-requires

@@ -1,7 +1,5 @@
 use Rattle.barrier_vector.proofs.Common.{sym, subst, List, Option, None, ℕ, need, capped_flow, IsAnchoredOrNone, AreAnchorPaths}
-use Rattle.barrier_vector.proofs.Rooting.{searched_as, each_more}
-use Rattle.barrier_vector.proofs.Uniques.{paths_made}
-use Rattle.barrier_vector.proofs.Outlining.{need_whole, drops_on}
+use Rattle.barrier_vector.proofs.{Rooting.searched_as, Rooting.each_more, Uniques.paths_made, Outlining.need_whole, Outlining.drops_on}
 use Rattle.barrier_vector.proofs.bounds.anchored_bounds.Goals as goal
 
 pub anchored_bound-requires-clause-paths : goal.anchored_bound-requires-clause-paths

@@ -1,6 +1,5 @@
 use Rattle.barrier_vector.proofs.Common.{rules, FitsSigned, w64, to_z-of_z}
-use Rattle.barrier_vector.proofs.Outlining.{base_of}
-use Rattle.barrier_vector.proofs.Uniques.{all_bounds, high_bounds}
+use Rattle.barrier_vector.proofs.{Outlining.base_of, Uniques.all_bounds, Uniques.high_bounds}
 use Rattle.barrier_vector.proofs.bounds.bounds_on.Goals as goal
 
 pub anchored_bounds-requires-clause-base : goal.anchored_bounds-requires-clause-base

@@ -1,10 +1,5 @@
-use Rattle.barrier_vector.proofs.Common.{◌≤◌, arith, length, rules, slice_index, slice_index_or, FitsSigned, w64, to_z-of_z, Low, path_limit, sym, subst}
-use Rattle.barrier_vector.proofs.Common.{IsHead, has_label, longest_at}
-use Rattle.barrier_vector.proofs.Spreading.{no_both}
-use Rattle.barrier_vector.proofs.Rooting.{capped_within}
-use Rattle.barrier_vector.proofs.Marking.{base_head}
-use Rattle.barrier_vector.proofs.Carrying.{floor_carried, floor_none}
-use Rattle.barrier_vector.proofs.Gathering.{not_positive, greatest_within}
+use Rattle.barrier_vector.proofs.Common.{◌≤◌, arith, length, rules, slice_index, slice_index_or, FitsSigned, w64, to_z-of_z, Low, path_limit, sym, subst, IsHead, has_label, longest_at}
+use Rattle.barrier_vector.proofs.{Spreading.no_both, Rooting.capped_within, Marking.base_head, Carrying.floor_carried, Carrying.floor_none, Gathering.not_positive, Gathering.greatest_within}
 use Rattle.barrier_vector.proofs.carried.carried_floor.Goals as goal
 
 pub overflow_add-inner : goal.overflow_add-inner

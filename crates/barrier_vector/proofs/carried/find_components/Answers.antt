@@ -1,6 +1,5 @@
 use Rattle.barrier_vector.specs.{lack, capped_flow}
-use Rattle.barrier_vector.proofs.Rooting.{searched_as}
-use Rattle.barrier_vector.proofs.Carrying.{components_made, label_in}
+use Rattle.barrier_vector.proofs.{Rooting.searched_as, Carrying.components_made, Carrying.label_in}
 use Rattle.barrier_vector.proofs.carried.find_components.Goals as goal
 
 pub component_totals-requires-clause-labels : goal.component_totals-requires-clause-labels

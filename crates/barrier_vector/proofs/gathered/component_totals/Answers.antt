@@ -1,7 +1,5 @@
-use Rattle.barrier_vector.proofs.Common.{arith, ◌≡◌, ◌<◌, ◌^◌, length, ap, ◌∙◌, drop, List, FitsSigned, w128, to_z-of_z, refl, rules, Total, slice_index}
-use Rattle.barrier_vector.proofs.Common.{entries_at, deep_low}
-use Rattle.barrier_vector.proofs.Levels.{take_of_append}
-use Rattle.barrier_vector.proofs.Gathering.{sum_more, longest_more, within_more, sum_within}
+use Rattle.barrier_vector.proofs.Common.{arith, ◌≡◌, ◌<◌, ◌^◌, length, ap, ◌∙◌, drop, List, FitsSigned, w128, to_z-of_z, refl, rules, Total, slice_index, entries_at, deep_low}
+use Rattle.barrier_vector.proofs.{Levels.take_of_append, Gathering.sum_more, Gathering.longest_more, Gathering.within_more, Gathering.sum_within}
 use Rattle.barrier_vector.proofs.gathered.component_totals.Goals as goal
 
 pub add_to-requires-clause-label : goal.add_to-requires-clause-label

@@ -1,5 +1,4 @@
-use Rattle.barrier_vector.proofs.Common.{ℕ, ◌≡◌, ◌*◌, ◌^◌, length, slice_index, entries_at, deep_low, sum_inside, has_label, sum_at, longest_at}
-use Rattle.barrier_vector.proofs.Common.{greatest_inside, IsMagnitudeAtMost}
+use Rattle.barrier_vector.proofs.Common.{ℕ, ◌≡◌, ◌*◌, ◌^◌, length, slice_index, entries_at, deep_low, sum_inside, has_label, sum_at, longest_at, greatest_inside, IsMagnitudeAtMost}
 use Rattle.barrier_vector.proofs.gathered.component_totals.Given as goal
 
 abbrev pub invariant-loop-c : goal.invariant-loop-c

@@ -1,5 +1,4 @@
-use Rattle.barrier_vector.proofs.Common.{arith, rules, ◌≡◌, ◌+◌, ◌≤◌, length, subst, ap, ℕ, List, All, ◌<◌, sym, ◌∙◌, drop, inl, inr, Some, Option, mark_at}
-use Rattle.barrier_vector.proofs.Common.{count_unmarked, replicate}
+use Rattle.barrier_vector.proofs.Common.{arith, rules, ◌≡◌, ◌+◌, ◌≤◌, length, subst, ap, ℕ, List, All, ◌<◌, sym, ◌∙◌, drop, inl, inr, Some, Option, mark_at, count_unmarked, replicate}
 use Rattle.std.specs.Prelude.{None}
 use Rattle.barrier_vector.proofs.Starting.{all_none}
 use Rattle.std.proofs.lemmas.Grind.{common_steps}

@@ -1,6 +1,5 @@
 use Rattle.barrier_vector.specs.{mark_at}
-use Rattle.barrier_vector.proofs.Spreading.{none_by, some_by}
-use Rattle.barrier_vector.proofs.Labelling.{labels_fill, labels_skip}
+use Rattle.barrier_vector.proofs.{Spreading.none_by, Spreading.some_by, Labelling.labels_fill, Labelling.labels_skip}
 use Rattle.barrier_vector.proofs.spread.label_from.Goals as goal
 
 pub returns-then-is_none : goal.returns-then-is_none

@@ -1,6 +1,5 @@
 use Rattle.cell_relax.proofs.Common.{length, entries_at, heads_on}
-use Rattle.cell_relax.proofs.Relaxing.{ends_in_range}
-use Rattle.cell_relax.proofs.Sides.{heads_in_range}
+use Rattle.cell_relax.proofs.{Relaxing.ends_in_range, Sides.heads_in_range}
 use Rattle.cell_relax.proofs.relax.relax_in.Goals as goal
 
 pub relax_to-requires-clause-values : goal.relax_to-requires-clause-values

@@ -1,4 +1,4 @@
-use Rattle.check_run.proofs.Common.{ℕ, ◌<◌, sym, ◌∙◌, arith, cell_count, Low, ReachesAt, constant_kind}
+use Rattle.check_run.proofs.Common.{◌<◌, sym, ◌∙◌, arith, cell_count, Low, ReachesAt, constant_kind}
 use Rattle.check_run.proofs.Reached.{all_reached, first_unreached, reached, reached_next, reaches}
 use Rattle.check_run.proofs.constants.first_unreached.Goals as goal
 

@@ -1,6 +1,5 @@
 use Rattle.check_run.proofs.Common.{◌∙◌, List, subst, sym, arith, err_from_is_err_and, Bound, AreWords, digits_of, cut_by}
-use Rattle.check_run.proofs.HeadsChecked.{are_checked, failing_fails, short_fails, unposed_fails}
-use Rattle.check_run.proofs.RunText.{are_words, id_within}
+use Rattle.check_run.proofs.{HeadsChecked.are_checked, HeadsChecked.failing_fails, HeadsChecked.short_fails, HeadsChecked.unposed_fails, RunText.are_words, RunText.id_within}
 use Rattle.check_run.proofs.heads.check_heads.Goals as goal
 
 pub returns-in_err-posed-clause-fault : goal.returns-in_err-posed-clause-fault

@@ -1,7 +1,6 @@
-use Rattle.check_run.proofs.Common.{◌∙◌, ap, ListedStep, ℕ, ◌<◌, ◌≤◌, arith, length, refl, subst, sym, List, option_map, Bound, AreGridHeads, EnclosesStarts}
-use Rattle.check_run.proofs.Common.{step_in, digits_of, AreDeckTables, AreStartHeadsFor, IfOk-weaker}
-use Rattle.check_run.proofs.Checking.{at_first, ends_certified, ends_enclosed, ends_history, flows_here, goes_here, listed_at, not_certified, step_there}
-use Rattle.check_run.proofs.Checking.{stops_here}
+use Rattle.check_run.proofs.Common.{◌∙◌, ap, ListedStep, ℕ, ◌<◌, ◌≤◌, arith, length, refl, subst, sym, List, option_map, Bound, AreGridHeads, EnclosesStarts, step_in, digits_of, AreDeckTables}
+use Rattle.check_run.proofs.Common.{AreStartHeadsFor, IfOk-weaker}
+use Rattle.check_run.proofs.Checking.{at_first, ends_certified, ends_enclosed, ends_history, flows_here, goes_here, listed_at, not_certified, step_there, stops_here}
 use Rattle.check_run.proofs.RunText.{grid_of}
 use Rattle.check_run.proofs.listing.check_steps.Goals as goal
 

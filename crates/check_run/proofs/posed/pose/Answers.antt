@@ -1,5 +1,4 @@
-use Rattle.check_run.proofs.Common.{err_from_is_err_and, digits_of, Limits, ℕ, List, inr, Bound, Entries, TimeStep, IsUnposed, of_bound, Decks, IsProblemFor}
-use Rattle.check_run.proofs.Common.{IsBarrierFault}
+use Rattle.check_run.proofs.Common.{err_from_is_err_and, digits_of, Limits, ℕ, List, inr, Bound, Entries, TimeStep, IsUnposed, of_bound, Decks, IsProblemFor, IsBarrierFault}
 use Rattle.step_problem.specs.declared.refusal.BoundFault.{BoundFault}
 use Rattle.step_problem.specs.declared.refusal.BoundFault.TheVariants as bound
 use Rattle.check_run.proofs.posed.pose.Goals as goal

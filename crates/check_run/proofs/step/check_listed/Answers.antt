@@ -1,8 +1,6 @@
-use Rattle.check_run.proofs.Common.{◌∙◌, List, option_map, subst, sym, arith, err_from_is_err_and, Bound, AreWords, digits_of, IsCovered, IsUncovered, cut_by}
-use Rattle.check_run.proofs.Common.{IfErr-weaker, IfOk-weaker}
-use Rattle.check_run.proofs.FlowPairs.{flows_have_pairs}
-use Rattle.check_run.proofs.RunText.{are_words, id_within}
-use Rattle.check_run.proofs.Outcomes.{constant_fails, step_moves, step_passes, term_fails, variable_fails, zones_fail}
+use Rattle.check_run.proofs.Common.{◌∙◌, List, option_map, subst, sym, arith, err_from_is_err_and, Bound, AreWords, digits_of, IsCovered, IsUncovered, cut_by, IfErr-weaker, IfOk-weaker}
+use Rattle.check_run.proofs.{FlowPairs.flows_have_pairs, RunText.are_words, RunText.id_within, Outcomes.constant_fails, Outcomes.step_moves, Outcomes.step_passes, Outcomes.term_fails}
+use Rattle.check_run.proofs.{Outcomes.variable_fails, Outcomes.zones_fail}
 use Rattle.check_run.proofs.step.check_listed.Goals as goal
 
 pub returns-in-Some-clause-fault : goal.returns-in-Some-clause-fault

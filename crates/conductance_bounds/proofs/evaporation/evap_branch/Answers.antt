@@ -1,5 +1,4 @@
-use Rattle.conductance_bounds.proofs.Capped.{small_encloses}
-use Rattle.conductance_bounds.proofs.LayerBounds.{evap_encloses}
+use Rattle.conductance_bounds.proofs.{Capped.small_encloses, LayerBounds.evap_encloses}
 use Rattle.conductance_bounds.proofs.evaporation.evap_branch.Goals as goal
 
 pub returns-clause-rounded : goal.returns-clause-rounded

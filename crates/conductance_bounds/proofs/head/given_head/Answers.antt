@@ -1,9 +1,6 @@
-use Rattle.conductance_bounds.proofs.Common.{◌≡◌, ◌^◌, ◌*◌, arith, FitsSigned, w64, w128, int_min, int_max, to_z-of_z, blend, IsNear, given_pair, ceiling_of}
-use Rattle.conductance_bounds.proofs.Common.{head_floor_of}
-use Rattle.conductance_bounds.proofs.Blends.{fits_within, min_within, max_within, lesser, greater}
-use Rattle.conductance_bounds.proofs.GivenHeads.{given_is, head_encloses}
-use Rattle.conductance_bounds.proofs.HeadRange.{fits_64}
-use Rattle.conductance_bounds.proofs.Units.{pair_of}
+use Rattle.conductance_bounds.proofs.Common.{◌≡◌, ◌^◌, ◌*◌, arith, FitsSigned, w64, w128, int_min, int_max, to_z-of_z, blend, IsNear, given_pair, ceiling_of, head_floor_of}
+use Rattle.conductance_bounds.proofs.{Blends.fits_within, Blends.min_within, Blends.max_within, Blends.lesser, Blends.greater, GivenHeads.given_is, GivenHeads.head_encloses, HeadRange.fits_64}
+use Rattle.conductance_bounds.proofs.{Units.pair_of}
 use Rattle.conductance_bounds.proofs.head.given_head.Goals as goal
 
 pub head_floor-requires : goal.head_floor-requires

@@ -1,6 +1,5 @@
 use Rattle.conductance_bounds.proofs.Common.{number, subst, sym, HeadPair, IsSignedCeiling, IsSignedFloor}
-use Rattle.conductance_bounds.proofs.HeadRange.{ceiling_in_range, fits_64, floor_in_range}
-use Rattle.conductance_bounds.proofs.Units.{head_ceiling, head_floor}
+use Rattle.conductance_bounds.proofs.{HeadRange.ceiling_in_range, HeadRange.fits_64, HeadRange.floor_in_range, Units.head_ceiling, Units.head_floor}
 use Rattle.conductance_bounds.proofs.head.head_bounds.Goals as goal
 
 pub whole_bounds-requires-clause-low : goal.whole_bounds-requires-clause-low

@@ -1,6 +1,5 @@
 use Rattle.conductance_bounds.proofs.Common.{◌≡◌, ◌*◌, refl, arith, pos, ◌*ℤ◌, FitsSigned, to_z, w64, w128, to_z-of_z, to_z_pos, IsNear}
-use Rattle.conductance_bounds.proofs.Blends.{share_within, fits_within}
-use Rattle.conductance_bounds.proofs.HeadRange.{fits_64, fits_128}
+use Rattle.conductance_bounds.proofs.{Blends.share_within, Blends.fits_within, HeadRange.fits_64, HeadRange.fits_128}
 use Rattle.conductance_bounds.proofs.head.share.Goals as goal
 
 pub overflow_mul-result : goal.overflow_mul-result

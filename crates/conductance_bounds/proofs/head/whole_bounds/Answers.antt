@@ -1,6 +1,5 @@
 use Rattle.conductance_bounds.proofs.Common.{◌≡◌, ℤ, FitsSigned, w64, w128, to_z, to_z-of_z, number, head_pair, of_z}
-use Rattle.conductance_bounds.proofs.HeadRange.{fits_wider, no_floor_past, no_ceiling_past}
-use Rattle.conductance_bounds.proofs.Units.{head_pair_is, pair_of}
+use Rattle.conductance_bounds.proofs.{HeadRange.fits_wider, HeadRange.no_floor_past, HeadRange.no_ceiling_past, Units.head_pair_is, Units.pair_of}
 use Rattle.conductance_bounds.proofs.head.whole_bounds.Goals as goal
 
 pub unreachable-requires : goal.unreachable-requires

@@ -1,5 +1,4 @@
-use Rattle.conductance_bounds.proofs.Capped.{small_encloses}
-use Rattle.conductance_bounds.proofs.RowBounds.{column_encloses}
+use Rattle.conductance_bounds.proofs.{Capped.small_encloses, RowBounds.column_encloses}
 use Rattle.conductance_bounds.proofs.horizontal.col_branch.Goals as goal
 
 pub returns-clause-rounded : goal.returns-clause-rounded

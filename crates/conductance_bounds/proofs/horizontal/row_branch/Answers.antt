@@ -1,5 +1,4 @@
-use Rattle.conductance_bounds.proofs.Capped.{small_encloses}
-use Rattle.conductance_bounds.proofs.RowBounds.{row_encloses}
+use Rattle.conductance_bounds.proofs.{Capped.small_encloses, RowBounds.row_encloses}
 use Rattle.conductance_bounds.proofs.horizontal.row_branch.Goals as goal
 
 pub returns-clause-rounded : goal.returns-clause-rounded

@@ -1,6 +1,5 @@
 use Rattle.conductance_bounds.proofs.Common.{inl, arith, ints, AtMost-refl}
-use Rattle.conductance_bounds.proofs.Arithmetic.{size_reach}
-use Rattle.conductance_bounds.proofs.SpanBounds.{one_bounds}
+use Rattle.conductance_bounds.proofs.{Arithmetic.size_reach, SpanBounds.one_bounds}
 use Rattle.conductance_bounds.proofs.interval.one.Goals as goal
 
 pub returns-clause-ordered : goal.returns-clause-ordered

@@ -1,6 +1,5 @@
 use Rattle.conductance_bounds.proofs.Common.{◌-◌, ◌^◌, arith, value}
-use Rattle.conductance_bounds.proofs.Capped.{none_below, some_below}
-use Rattle.conductance_bounds.proofs.LayerBounds.{Passes-less, Reaches-passes, ceiling-passes}
+use Rattle.conductance_bounds.proofs.{Capped.none_below, Capped.some_below, LayerBounds.Passes-less, LayerBounds.Reaches-passes, LayerBounds.ceiling-passes}
 use Rattle.conductance_bounds.proofs.pair.rounded_pair.Goals as goal
 
 pub returns-in_default : goal.returns-in_default

@@ -1,6 +1,5 @@
 use Rattle.std.proofs.Common.{◌-◌}
-use Rattle.conductance_bounds.proofs.Arithmetic.{size_reach}
-use Rattle.conductance_bounds.proofs.PartBounds.{steady_bounds}
+use Rattle.conductance_bounds.proofs.{Arithmetic.size_reach, PartBounds.steady_bounds}
 use Rattle.conductance_bounds.proofs.part.sum_at.Goals as goal
 
 pub returns-then-period-clause-bounds : goal.returns-then-period-clause-bounds

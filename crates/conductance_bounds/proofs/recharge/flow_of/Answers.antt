@@ -1,7 +1,5 @@
-use Rattle.conductance_bounds.proofs.Common.{ℤ, ◌-◌, ◌<◌, ◌^◌, ◌∙◌, ap, arith, false, subst, sym, to_z-of_z, true, value, w128, FitsSigned, signed_pair, Some}
-use Rattle.conductance_bounds.proofs.Common.{option_map, sign_fits}
-use Rattle.conductance_bounds.proofs.Capped.{flow_gained, flow_lost, none_below, some_below}
-use Rattle.conductance_bounds.proofs.LayerBounds.{Reaches-passes}
+use Rattle.conductance_bounds.proofs.Common.{ℤ, ◌-◌, ◌<◌, ◌^◌, ◌∙◌, ap, arith, false, subst, sym, to_z-of_z, true, value, w128, FitsSigned, signed_pair, Some, option_map, sign_fits}
+use Rattle.conductance_bounds.proofs.{Capped.flow_gained, Capped.flow_lost, Capped.none_below, Capped.some_below, LayerBounds.Reaches-passes}
 use Rattle.conductance_bounds.proofs.recharge.flow_of.Goals as goal
 
 pub returns-in_default : goal.returns-in_default

@@ -1,6 +1,5 @@
 use Rattle.std.proofs.Common.{◌+◌}
-use Rattle.conductance_bounds.proofs.Capped.{small_flow_encloses}
-use Rattle.conductance_bounds.proofs.Recharged.{recharge_encloses}
+use Rattle.conductance_bounds.proofs.{Capped.small_flow_encloses, Recharged.recharge_encloses}
 use Rattle.conductance_bounds.proofs.recharge.recharge_flow.Goals as goal
 
 pub returns-clause-rounded : goal.returns-clause-rounded

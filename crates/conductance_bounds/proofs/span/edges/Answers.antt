@@ -1,6 +1,5 @@
 use Rattle.conductance_bounds.proofs.Common.{number, FitsSigned, rules, w128, to_z-of_z}
-use Rattle.conductance_bounds.proofs.ThickBounds.{floor_or_limit, ceiling_or_limit}
-use Rattle.conductance_bounds.proofs.Units.{ceiling_units, floor_units}
+use Rattle.conductance_bounds.proofs.{ThickBounds.floor_or_limit, ThickBounds.ceiling_or_limit, Units.ceiling_units, Units.floor_units}
 use Rattle.conductance_bounds.proofs.span.edges.Goals as goal
 
 pub returns-clause-floor : goal.returns-clause-floor

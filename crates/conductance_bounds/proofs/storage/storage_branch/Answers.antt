@@ -1,6 +1,5 @@
 use Rattle.std.proofs.Common.{arith}
-use Rattle.conductance_bounds.proofs.Capped.{small_encloses}
-use Rattle.conductance_bounds.proofs.StorageBounds.{branch_encloses, grown_power, grown_sum}
+use Rattle.conductance_bounds.proofs.{Capped.small_encloses, StorageBounds.branch_encloses, StorageBounds.grown_power, StorageBounds.grown_sum}
 use Rattle.conductance_bounds.proofs.storage.storage_branch.Goals as goal
 
 pub times-requires-clause-near : goal.times-requires-clause-near

@@ -1,6 +1,5 @@
 use Rattle.convertible_reader.proofs.Common.{FlowModel, All, IsDec, ap, err_from_is_err_and, refl, subst, sym, ◌∙◌, both_read, text_stops_here, IsGrid}
-use Rattle.convertible_reader.proofs.FolderLemmas.{read_of_text, read_of_value}
-use Rattle.convertible_reader.proofs.ModelForms.{lpf_next}
+use Rattle.convertible_reader.proofs.{FolderLemmas.read_of_text, FolderLemmas.read_of_value, ModelForms.lpf_next}
 use Rattle.convertible_reader.proofs.model.convertible_lpf_in.Goals as goal
 
 pub check_model-requires-clause-grid : goal.check_model-requires-clause-grid

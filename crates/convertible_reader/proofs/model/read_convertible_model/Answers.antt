@@ -1,6 +1,5 @@
 use Rattle.convertible_reader.proofs.Common.{Err, Ok, convertible_model_of, err_from_is_err_and, refl, both_read, stops_all}
-use Rattle.convertible_reader.proofs.FolderLemmas.{read_of_fault, read_of_value}
-use Rattle.convertible_reader.proofs.ModelForms.{read_valid}
+use Rattle.convertible_reader.proofs.{FolderLemmas.read_of_fault, FolderLemmas.read_of_value, ModelForms.read_valid}
 use Rattle.model_reader.proofs.ReadLemmas.{goes_on}
 use Rattle.name_file.proofs.Forward.{file_named, names_still}
 use Rattle.convertible_reader.proofs.model.read_convertible_model.Goals as goal

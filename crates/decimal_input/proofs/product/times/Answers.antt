@@ -1,7 +1,5 @@
 use Rattle.decimal_input.proofs.Common.{◌*◌, arith, Bool, subst, ◌+ℤ◌, ints, IsCanonical}
-use Rattle.decimal_input.proofs.Named.{canonical_at}
-use Rattle.decimal_input.proofs.Products.{product_is}
-use Rattle.decimal_input.proofs.SignedFloors.{signs_differ}
+use Rattle.decimal_input.proofs.{Named.canonical_at, Products.product_is, SignedFloors.signs_differ}
 use Rattle.decimal_input.proofs.product.times.Goals as goal
 
 pub returns-clause-exact : goal.returns-clause-exact

@@ -1,7 +1,6 @@
 use Rattle.decimal_input.proofs.Common.{◌+◌, ◌≤◌, length, arith, subst, Option, pos, neg_ℤ, ◌≤ℤ◌, Err, ints, BadNumber, Spelling, number_from, exponent_of}
-use Rattle.decimal_input.proofs.Named.{IsNumber, named, spelling_is_of_parts, start, canonical_at}
-use Rattle.decimal_input.proofs.Spelled.{names_read, no_exponent, no_digit}
-use Rattle.decimal_input.proofs.Products.{named_value}
+use Rattle.decimal_input.proofs.{Named.IsNumber, Named.named, Named.spelling_is_of_parts, Named.start, Named.canonical_at, Spelled.names_read, Spelled.no_exponent, Spelled.no_digit}
+use Rattle.decimal_input.proofs.{Products.named_value}
 use Rattle.decimal_input.proofs.read.read_dec.Goals as goal
 
 pub returns-in_default-clause-exact : goal.returns-in_default-clause-exact

@@ -1,6 +1,5 @@
 use Rattle.decimal_input.proofs.Common.{ℕ, ◌≡◌, ◌^◌, ◌∙◌, ◌-◌, ap, min, arith, ints, scaled_ratio, div-le_self}
-use Rattle.decimal_input.proofs.Powers.{ten_pos}
-use Rattle.decimal_input.proofs.WholeUnits.{nothing_is, whole_are, floor_quotient, ceiling_quotient, cut_units}
+use Rattle.decimal_input.proofs.{Powers.ten_pos, WholeUnits.nothing_is, WholeUnits.whole_are, WholeUnits.floor_quotient, WholeUnits.ceiling_quotient, WholeUnits.cut_units}
 use Rattle.decimal_input.proofs.units.units_of.Goals as goal
 
 pub returns-then-m-eq0 : goal.returns-then-m-eq0

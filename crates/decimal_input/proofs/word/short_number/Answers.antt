@@ -1,6 +1,5 @@
 use Rattle.std.proofs.Common.{◌+◌, ◌-◌, ◌*◌, get_or, arith}
-use Rattle.decimal_input.proofs.Named.{digit_small}
-use Rattle.decimal_input.proofs.Powers.{one_digit_more_fits, power_fits_18_digits}
+use Rattle.decimal_input.proofs.{Named.digit_small, Powers.one_digit_more_fits, Powers.power_fits_18_digits}
 use Rattle.decimal_input.proofs.word.short_number.Goals as goal
 
 pub overflow_mul-so_far : goal.overflow_mul-so_far

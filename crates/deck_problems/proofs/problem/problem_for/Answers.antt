@@ -1,8 +1,7 @@
 use Rattle.deck_problems.specs.{digits_of, IsBefore}
 use Rattle.std.proofs.lemmas.Result.{err_from_is_err_and}
-use Rattle.deck_problems.proofs.Enclosing.{second_cells, encloses_alone, problem_encloses}
-use Rattle.deck_problems.proofs.HullFor.{hull_cells, constants_alone, second_is, constants_for, problem_of_hull, second_refused, hull_refused}
-use Rattle.deck_problems.proofs.OneProblem.{time_of_member}
+use Rattle.deck_problems.proofs.{Enclosing.second_cells, Enclosing.encloses_alone, Enclosing.problem_encloses, HullFor.hull_cells, HullFor.constants_alone, HullFor.second_is, HullFor.constants_for}
+use Rattle.deck_problems.proofs.{HullFor.problem_of_hull, HullFor.second_refused, HullFor.hull_refused, OneProblem.time_of_member}
 use Rattle.deck_problems.proofs.problem.problem_for.Goals as goal
 
 pub returns-in_default-clause-constant : goal.returns-in_default-clause-constant

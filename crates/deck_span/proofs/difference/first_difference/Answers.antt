@@ -1,6 +1,5 @@
 use Rattle.deck_span.proofs.Common.{◌≡◌, ℕ, All, take, subst, arith, All-more, Shares, comparing_order}
-use Rattle.deck_span.proofs.AlikeParts.{alike_shares, shared_alike}
-use Rattle.deck_span.proofs.Finding.{unlike_by}
+use Rattle.deck_span.proofs.{AlikeParts.alike_shares, AlikeParts.shared_alike, Finding.unlike_by}
 use Rattle.deck_span.proofs.difference.first_difference.Goals as goal
 
 pub returns-in-Err-clause-unlike : goal.returns-in-Err-clause-unlike

@@ -1,5 +1,4 @@
-use Rattle.deck_span.proofs.AlikeBetween.{alike_between}
-use Rattle.deck_span.proofs.SameFrames.{between_alike}
+use Rattle.deck_span.proofs.{AlikeBetween.alike_between, SameFrames.between_alike}
 use Rattle.deck_span.proofs.laws.alike_lie_between.Goals as goal
 
 pub returns : goal.returns

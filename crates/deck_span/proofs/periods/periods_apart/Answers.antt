@@ -1,7 +1,6 @@
 use Rattle.deck_span.proofs.Common.{◌≡◌, length, arith, SharesIn}
 use Rattle.std.proofs.lemmas.Result.{err_from_is_err_and}
-use Rattle.deck_span.proofs.Finding.{periods_found}
-use Rattle.deck_span.proofs.Layers.{zip_more}
+use Rattle.deck_span.proofs.{Finding.periods_found, Layers.zip_more}
 use Rattle.deck_span.proofs.periods.periods_apart.Goals as goal
 
 pub returns-in_err-period_apart : goal.returns-in_err-period_apart

@@ -1,8 +1,5 @@
 use Rattle.dis_package.proofs.Common.{rules, ◌≡◌, ◌∙◌, ap, LinesMay, without_comments, begun_held, model_of_grid, some_give}
-use Rattle.dis_package.proofs.Forward.{head_leaves}
-use Rattle.dis_package.proofs.DisForms.{dis_is}
-use Rattle.dis_package.proofs.FrameForms.{frame_is}
-use Rattle.dis_package.proofs.ModelLemmas.{dis_read, dis_stops, head_read}
+use Rattle.dis_package.proofs.{Forward.head_leaves, DisForms.dis_is, FrameForms.frame_is, ModelLemmas.dis_read, ModelLemmas.dis_stops, ModelLemmas.head_read}
 use Rattle.dis_package.proofs.grid.read_dis.Goals as goal
 
 pub grid_of-requires : goal.grid_of-requires

@@ -1,6 +1,5 @@
 use Rattle.engine.proofs.Common.{batch_of, Global, Job, Jobs, Vec, jobs_read}
-use Rattle.engine.proofs.BatchEnds.{valid_jobs}
-use Rattle.engine.proofs.Ends.{ends_defined, ends_read, ends_unread, puts_more}
+use Rattle.engine.proofs.{BatchEnds.valid_jobs, Ends.ends_defined, Ends.ends_read, Ends.ends_unread, Ends.puts_more}
 use Rattle.engine.proofs.batching.put_batch.Goals as goal
 
 pub returns-in-Ok-clause-serves : goal.returns-in-Ok-clause-serves

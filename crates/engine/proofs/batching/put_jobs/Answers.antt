@@ -1,6 +1,5 @@
 use Rattle.engine.proofs.Common.{NeverCut, lacks_at_first, IsBatch, batch_run, IsJobEnd}
-use Rattle.engine.proofs.BatchEnds.{jobs_ended}
-use Rattle.engine.proofs.Ends.{puts_more}
+use Rattle.engine.proofs.{BatchEnds.jobs_ended, Ends.puts_more}
 use Rattle.engine.proofs.batching.put_jobs.Goals as goal
 
 pub returns-in-Ok : goal.returns-in-Ok

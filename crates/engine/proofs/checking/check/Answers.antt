@@ -1,7 +1,5 @@
 use Rattle.engine.proofs.Common.{ℕ, subst, check_of, Answers, text_if, Check, Checking, Some, case_of, is_some, listing_read}
-use Rattle.engine.proofs.DeckEnds.{ends_undecked, to_check}
-use Rattle.engine.proofs.BatchEnds.{file_still}
-use Rattle.engine.proofs.Ends.{puts_more, read_reads}
+use Rattle.engine.proofs.{DeckEnds.ends_undecked, DeckEnds.to_check, BatchEnds.file_still, Ends.puts_more, Ends.read_reads}
 use Rattle.engine.proofs.checking.check.Goals as goal
 
 pub returns-in-Ok-clause-serves : goal.returns-in-Ok-clause-serves

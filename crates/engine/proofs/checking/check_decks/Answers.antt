@@ -1,6 +1,5 @@
 use Rattle.engine.proofs.Common.{◌≡◌, ◌∙◌, Bool, Ok, Err, is_some, subst, check_of, text_if, Checking, IsReading, ZonedListing, listing_read}
-use Rattle.engine.proofs.DeckEnds.{ends_decked, is_second, to_check}
-use Rattle.engine.proofs.Ends.{ends_defined, ends_read, ends_unread, puts_more}
+use Rattle.engine.proofs.{DeckEnds.ends_decked, DeckEnds.is_second, DeckEnds.to_check, Ends.ends_defined, Ends.ends_read, Ends.ends_unread, Ends.puts_more}
 use Rattle.engine.proofs.checking.check_decks.Goals as goal
 
 pub returns-in-Ok-clause-answers : goal.returns-in-Ok-clause-answers

@@ -1,6 +1,5 @@
-use Rattle.engine.proofs.Common.{◌≡◌, ℕ, List, Option, subst, sym, pairs_in, AreListed, NeverCut, lacks_at_first, IsVerdict, ListingEncloses, IsCheck}
-use Rattle.engine.proofs.Common.{lone_line_is_run, refl, Limits, Decks, ZonedListing, ListingVerdict, Status, Put, IsEnd, IsRun, verdict_line, verdict_status}
-use Rattle.engine.proofs.Common.{listing, Certified, HaveOneHistory}
+use Rattle.engine.proofs.Common.{◌≡◌, ℕ, List, Option, subst, sym, pairs_in, AreListed, NeverCut, lacks_at_first, IsVerdict, ListingEncloses, IsCheck, lone_line_is_run, refl, Limits, Decks}
+use Rattle.engine.proofs.Common.{ZonedListing, ListingVerdict, Status, Put, IsEnd, IsRun, verdict_line, verdict_status, listing, Certified, HaveOneHistory}
 use Rattle.engine.proofs.Ends.{puts_more}
 use Rattle.engine.proofs.checking.put_check.Goals as goal
 

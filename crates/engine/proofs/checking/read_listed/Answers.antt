@@ -1,5 +1,4 @@
-use Rattle.engine.proofs.Common.{List, ℕ, Option, Ok, Err, subst, pairs_in, AreListed, check_of, IsReading, ListedStep, ZonedListing, refl, steps_read}
-use Rattle.engine.proofs.Common.{listing_read, zones_read, ◌≡◌}
+use Rattle.engine.proofs.Common.{List, ℕ, Option, Ok, Err, subst, pairs_in, AreListed, check_of, IsReading, ListedStep, ZonedListing, refl, steps_read, listing_read, zones_read, ◌≡◌}
 use Rattle.engine.proofs.Readings.{read_then, passed_reading, unread_then}
 use Rattle.engine.proofs.checking.read_listed.Goals as goal
 

@@ -1,5 +1,5 @@
-use Rattle.engine.proofs.Common.{Vec, Global, ℕ, List, Result, option_map, subst, StopsText, pairs_in, listing_in, check_of, read_by_name, Refusal, ListedStep}
-use Rattle.engine.proofs.Common.{Ok, Err, file_at, input_fault, steps_read}
+use Rattle.engine.proofs.Common.{Vec, Global, ℕ, List, Result, option_map, subst, StopsText, pairs_in, listing_in, check_of, read_by_name, Refusal, ListedStep, Ok, Err, file_at, input_fault}
+use Rattle.engine.proofs.Common.{steps_read}
 use Rattle.engine.proofs.Readings.{read_then, passed_reading, text_read, unread_then}
 use Rattle.engine.proofs.checking.read_steps.Goals as goal
 

@@ -1,10 +1,5 @@
-use Rattle.engine.proofs.Common.{◌∙◌, map, Err, Ok, Result, Some, ap, refl, subst, sym, ReadsNothing, batch_of, Batch, wanted_by, order_of_words, Order}
-use Rattle.engine.proofs.Common.{WordsFault, folder_use, sink_use}
-use Rattle.engine.proofs.Beside.{without_views}
-use Rattle.engine.proofs.BatchEnds.{may_do, not_a_batch, order_may}
-use Rattle.engine.proofs.Ends.{puts_more}
-use Rattle.engine.proofs.Facts.{run_result}
-use Rattle.engine.proofs.OkRuns.{laws_of}
+use Rattle.engine.proofs.Common.{◌∙◌, map, Err, Ok, Result, Some, ap, refl, subst, sym, ReadsNothing, batch_of, Batch, wanted_by, order_of_words, Order, WordsFault, folder_use, sink_use}
+use Rattle.engine.proofs.{Beside.without_views, BatchEnds.may_do, BatchEnds.not_a_batch, BatchEnds.order_may, Ends.puts_more, Facts.run_result, OkRuns.laws_of}
 use Rattle.command_line.specs.declared.order.WordsFault.TheVariants as fault
 use Rattle.engine.proofs.commands.run.Given as given
 use Rattle.engine.proofs.commands.run.Goals as goal

@@ -1,6 +1,5 @@
 use Rattle.engine.proofs.Common.{[], Listing, cut_listing_is_beside, decks_text, sink_use, failed_write}
-use Rattle.engine.proofs.Ends.{puts_more}
-use Rattle.engine.proofs.Afters.{ended_first, first_not_ok, listing_run, no_views, puts_then, run_first}
+use Rattle.engine.proofs.{Ends.puts_more, Afters.ended_first, Afters.first_not_ok, Afters.listing_run, Afters.no_views, Afters.puts_then, Afters.run_first}
 use Rattle.engine.proofs.listing.put_listing.Goals as goal
 
 pub returns-in-Some-clause-puts : goal.returns-in-Some-clause-puts

@@ -1,7 +1,5 @@
-use Rattle.engine.proofs.Common.{◌∙◌, Answers, Bool, Case, PlanTask, ℕ, check_of, is_some, parts_read, planned_task, subst, text_if, PlanChecking, as_plan}
-use Rattle.engine.proofs.Common.{plan_steps_read, to_plan_check}
-use Rattle.engine.proofs.DeckEnds.{ends_decked, is_second, to_plan}
-use Rattle.engine.proofs.Ends.{ends_read, fault_ends, puts_more, read_reads}
+use Rattle.engine.proofs.Common.{◌∙◌, Answers, Bool, Case, PlanTask, ℕ, check_of, is_some, parts_read, planned_task, subst, text_if, PlanChecking, as_plan, plan_steps_read, to_plan_check}
+use Rattle.engine.proofs.{DeckEnds.ends_decked, DeckEnds.is_second, DeckEnds.to_plan, Ends.ends_read, Ends.fault_ends, Ends.puts_more, Ends.read_reads}
 use Rattle.engine.proofs.plan_checking.check_plan.Goals as goal
 
 pub returns-in-Ok-clause-serves : goal.returns-in-Ok-clause-serves

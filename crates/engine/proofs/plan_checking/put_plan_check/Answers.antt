@@ -1,5 +1,5 @@
-use Rattle.engine.proofs.Common.{◌≡◌, List, NeverCut, lacks_at_first, lone_line_is_run, refl, Status, Put, IsEnd, IsRun, PlanTask, EnclosesPairs}
-use Rattle.engine.proofs.Common.{HaveOneHistory, IsPlanCheck, plan_verdict_line, plan_verdict_status, PlanListingVerdict, IsPlanVerdict, ListedPlanStep}
+use Rattle.engine.proofs.Common.{◌≡◌, List, NeverCut, lacks_at_first, lone_line_is_run, refl, Status, Put, IsEnd, IsRun, PlanTask, EnclosesPairs, HaveOneHistory, IsPlanCheck, plan_verdict_line}
+use Rattle.engine.proofs.Common.{plan_verdict_status, PlanListingVerdict, IsPlanVerdict, ListedPlanStep}
 use Rattle.engine.proofs.Ends.{puts_more}
 use Rattle.plan_check.specs.declared.verdict.PlanListingVerdict.TheVariants.{Certified}
 use Rattle.engine.proofs.plan_checking.put_plan_check.Goals as goal

@@ -1,5 +1,5 @@
-use Rattle.engine.proofs.Common.{Vec, Global, ℕ, List, Option, Result, subst, StopsText, pairs_in, read_by_name, Refusal, Ok, Err, file_at, input_fault}
-use Rattle.engine.proofs.Common.{option_map, plan_steps_read, AreListedPlan, plan_listing_in, ListedPlanStep}
+use Rattle.engine.proofs.Common.{Vec, Global, ℕ, List, Option, Result, subst, StopsText, pairs_in, read_by_name, Refusal, Ok, Err, file_at, input_fault, option_map, plan_steps_read, AreListedPlan}
+use Rattle.engine.proofs.Common.{plan_listing_in, ListedPlanStep}
 use Rattle.engine.proofs.Readings.{read_then, passed_reading, text_read, unread_then}
 use Rattle.engine.proofs.plan_checking.read_plan_steps.Goals as goal
 

@@ -1,7 +1,5 @@
-use Rattle.engine.proofs.Common.{Err, List, Ok, Option, PlanParts, PlannedDecks, Refusal, Result, parts_read, plan_asked, refl, wells_read, zones_read, ℕ}
-use Rattle.engine.proofs.Common.{◌>>=◌}
-use Rattle.engine.proofs.BatchEnds.{file_still}
-use Rattle.engine.proofs.Readings.{passed_reading, read_then, reads_both, stops_after, unread_then}
+use Rattle.engine.proofs.Common.{Err, List, Ok, Option, PlanParts, PlannedDecks, Refusal, Result, parts_read, plan_asked, refl, wells_read, zones_read, ℕ, ◌>>=◌}
+use Rattle.engine.proofs.{BatchEnds.file_still, Readings.passed_reading, Readings.read_then, Readings.reads_both, Readings.stops_after, Readings.unread_then}
 use Rattle.engine.proofs.planning.read_parts.Goals as goal
 
 pub read_zones_of-requires-clause-may : goal.read_zones_of-requires-clause-may

@@ -1,9 +1,6 @@
-use Rattle.engine.proofs.Common.{AskedPlan, Case, Decks, FileSet, Ok, PlanParts, PlanTask, ReadsFolder, err_from_is_err_and, parts_read, plan_asked}
-use Rattle.engine.proofs.Common.{planned_task, reads, refl, rules, text_if}
-use Rattle.engine.proofs.BatchEnds.{file_still}
-use Rattle.engine.proofs.DeckEnds.{decked_fault, fault_of_decks, to_plan}
-use Rattle.engine.proofs.Ends.{fault_of_reading, read_reads}
-use Rattle.engine.proofs.Readings.{named_read, reads_both, stops_after}
+use Rattle.engine.proofs.Common.{AskedPlan, Case, Decks, FileSet, Ok, PlanParts, PlanTask, ReadsFolder, err_from_is_err_and, parts_read, plan_asked, planned_task, reads, refl, rules, text_if}
+use Rattle.engine.proofs.{BatchEnds.file_still, DeckEnds.decked_fault, DeckEnds.fault_of_decks, DeckEnds.to_plan, Ends.fault_of_reading, Ends.read_reads, Readings.named_read, Readings.reads_both}
+use Rattle.engine.proofs.{Readings.stops_after}
 use Rattle.engine.proofs.planning.read_plan_task.Goals as goal
 
 -- the folder is read for what is listed of a plan

@@ -1,5 +1,4 @@
-use Rattle.engine.proofs.Common.{Vec, Global, ℕ, List, Result, subst, StopsText, PlannedDecks, planned_in, read_by_name, Refusal, Ok, Err, file_at, input_fault}
-use Rattle.engine.proofs.Common.{wells_read}
+use Rattle.engine.proofs.Common.{Vec, Global, ℕ, List, Result, subst, StopsText, PlannedDecks, planned_in, read_by_name, Refusal, Ok, Err, file_at, input_fault, wells_read}
 use Rattle.engine.proofs.Readings.{read_then, passed_reading, text_read, unread_then}
 use Rattle.engine.proofs.planning.read_wells.Goals as goal
 

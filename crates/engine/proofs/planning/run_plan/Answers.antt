@@ -1,6 +1,5 @@
 use Rattle.engine.proofs.Common.{Answers, PlanTask, Planning, parts_read, plan_asked, planned_task, subst, text_if}
-use Rattle.engine.proofs.DeckEnds.{ends_decked, to_plan}
-use Rattle.engine.proofs.Ends.{ends_defined, ends_read, fault_ends, puts_more}
+use Rattle.engine.proofs.{DeckEnds.ends_decked, DeckEnds.to_plan, Ends.ends_defined, Ends.ends_read, Ends.fault_ends, Ends.puts_more}
 use Rattle.engine.proofs.planning.run_plan.Goals as goal
 
 pub returns-in-Ok-clause-serves : goal.returns-in-Ok-clause-serves

@@ -1,10 +1,8 @@
-use Rattle.engine.proofs.Common.{Rose, ◌≡◌, ◌∙◌, List, Option, Ok, Put, Refusal, Result, Run, Some, Status, Task, Text, ap, sym, subst, ℕ, AnswersBeside}
-use Rattle.engine.proofs.Common.{AreDecks, Case, FileSet, IsRunOf, Listing, ListingOrder, after_text, asked_of, case_listed, case_of, case_read, decks_text}
-use Rattle.engine.proofs.Common.{text_if, FolderUse, IsAsked, IsTaskRead, SinkUse, ViewsPut, failed_write, folder_use, sink_use}
-use Rattle.engine.proofs.Afters.{after_lists, after_valid, never_unread}
-use Rattle.engine.proofs.Beside.{not_ok, of_listing, reading_not_ok}
-use Rattle.engine.proofs.DeckEnds.{case_within, run_within, to_list, within, within_lists, within_valid}
-use Rattle.engine.proofs.Ends.{fault_ends, puts_more}
+use Rattle.engine.proofs.Common.{Rose, ◌≡◌, ◌∙◌, List, Option, Ok, Put, Refusal, Result, Run, Some, Status, Task, Text, ap, sym, subst, ℕ, AnswersBeside, AreDecks, Case, FileSet, IsRunOf, Listing}
+use Rattle.engine.proofs.Common.{ListingOrder, after_text, asked_of, case_listed, case_of, case_read, decks_text, text_if, FolderUse, IsAsked, IsTaskRead, SinkUse, ViewsPut, failed_write, folder_use}
+use Rattle.engine.proofs.Common.{sink_use}
+use Rattle.engine.proofs.{Afters.after_lists, Afters.after_valid, Afters.never_unread, Beside.not_ok, Beside.of_listing, Beside.reading_not_ok, DeckEnds.case_within, DeckEnds.run_within}
+use Rattle.engine.proofs.{DeckEnds.to_list, DeckEnds.within, DeckEnds.within_lists, DeckEnds.within_valid, Ends.fault_ends, Ends.puts_more}
 use Rattle.engine.proofs.running.run_listing.Goals as goal
 
 -- the listing of a task that was read, as the run of its order

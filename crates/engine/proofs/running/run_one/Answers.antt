@@ -1,7 +1,5 @@
 use Rattle.engine.proofs.Common.{map, but_batch, order_of_words, folder_use, sink_use}
-use Rattle.engine.proofs.BatchEnds.{is_order, order_may}
-use Rattle.engine.proofs.Facts.{run_result}
-use Rattle.engine.proofs.OkRuns.{laws_of}
+use Rattle.engine.proofs.{BatchEnds.is_order, BatchEnds.order_may, Facts.run_result, OkRuns.laws_of}
 use Rattle.engine.proofs.running.run_one.Given as given
 use Rattle.engine.proofs.running.run_one.Goals as goal
 

@@ -1,7 +1,5 @@
 use Rattle.engine.proofs.Common.{Err, None, ap, refl, subst, ReadsNothing, wanting_not_ok}
-use Rattle.engine.proofs.Ends.{ends_defined, ends_usage, ends_without_words, puts_more}
-use Rattle.engine.proofs.Beside.{not_ok, of_order, without_views}
-use Rattle.engine.proofs.BatchEnds.{may_do, order_read}
+use Rattle.engine.proofs.{Ends.ends_defined, Ends.ends_usage, Ends.ends_without_words, Ends.puts_more, Beside.not_ok, Beside.of_order, Beside.without_views, BatchEnds.may_do, BatchEnds.order_read}
 use Rattle.engine.proofs.running.run_order.Goals as goal
 
 pub returns-in-Err-Usage-clause-serves : goal.returns-in-Err-Usage-clause-serves

@@ -1,10 +1,6 @@
-use Rattle.engine.proofs.Common.{decks_task, Decks, FileSet, Listing, ListingOrder, Ok, ReadsFolder, asked_of, case_listed, decks_text, err_from_is_err_and}
-use Rattle.engine.proofs.Common.{refl, text_if, zones_read}
-use Rattle.engine.proofs.Afters.{after_reads}
-use Rattle.engine.proofs.BatchEnds.{file_still}
-use Rattle.engine.proofs.DeckEnds.{decked_fault, to_list, fault_of_decks}
-use Rattle.engine.proofs.Ends.{fault_of_reading, read_reads}
-use Rattle.engine.proofs.Readings.{reads_both, stops_after}
+use Rattle.engine.proofs.Common.{decks_task, Decks, FileSet, Listing, ListingOrder, Ok, ReadsFolder, asked_of, case_listed, decks_text, err_from_is_err_and, refl, text_if, zones_read}
+use Rattle.engine.proofs.{Afters.after_reads, BatchEnds.file_still, DeckEnds.decked_fault, DeckEnds.to_list, DeckEnds.fault_of_decks, Ends.fault_of_reading, Ends.read_reads, Readings.reads_both}
+use Rattle.engine.proofs.{Readings.stops_after}
 use Rattle.engine.proofs.tasks.read_task.Goals as goal
 
 -- the folder is read for what is listed

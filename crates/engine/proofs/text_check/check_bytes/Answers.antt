@@ -1,6 +1,5 @@
 use Rattle.engine.proofs.Common.{asked_text, case_parts, Parts}
-use Rattle.engine.proofs.Ends.{ends_read, puts_more}
-use Rattle.engine.proofs.TextEnds.{ends_stopped, parts_read}
+use Rattle.engine.proofs.{Ends.ends_read, Ends.puts_more, TextEnds.ends_stopped, TextEnds.parts_read}
 unfoldable use Rattle.stated_text.specs.{parts_in}
 use Rattle.engine.proofs.text_check.check_bytes.Goals as goal
 

@@ -1,6 +1,5 @@
 use Rattle.engine.proofs.Common.{◌≡◌, List, Ok, Option, ℕ, subst, is_some, asked_text, AreListed, Case, Checking, ListedStep, StopsText, pairs_in, steps_after}
-use Rattle.engine.proofs.Ends.{ends_defined, ends_read, puts_more}
-use Rattle.engine.proofs.TextEnds.{ends_stopped}
+use Rattle.engine.proofs.{Ends.ends_defined, Ends.ends_read, Ends.puts_more, TextEnds.ends_stopped}
 use Rattle.engine.proofs.text_check.check_rest.Goals as goal
 
 pub returns-in-Ok : goal.returns-in-Ok

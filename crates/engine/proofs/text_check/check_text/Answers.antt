@@ -1,6 +1,5 @@
 use Rattle.engine.proofs.Common.{List, ℕ, Vec, Global, subst, sym, Answers, Case, asked_text, case_parts, case_read, file_at, read_by_name, Parts}
-use Rattle.engine.proofs.Ends.{ends_read, ends_unread, puts_more, read_reads}
-use Rattle.engine.proofs.TextEnds.{parts_read}
+use Rattle.engine.proofs.{Ends.ends_read, Ends.ends_unread, Ends.puts_more, Ends.read_reads, TextEnds.parts_read}
 unfoldable use Rattle.stated_text.specs.{parts_in}
 use Rattle.engine.proofs.text_check.check_text.Goals as goal
 

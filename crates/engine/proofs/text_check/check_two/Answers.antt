@@ -1,7 +1,5 @@
 use Rattle.engine.proofs.Common.{Some, asked_text, case_rest, two, unlike}
-use Rattle.engine.proofs.DeckEnds.{within_ends}
-use Rattle.engine.proofs.Ends.{puts_more}
-use Rattle.engine.proofs.TextEnds.{ends_unlike}
+use Rattle.engine.proofs.{DeckEnds.within_ends, Ends.puts_more, TextEnds.ends_unlike}
 use Rattle.engine.proofs.text_check.check_two.Goals as goal
 
 pub returns-in-None : goal.returns-in-None

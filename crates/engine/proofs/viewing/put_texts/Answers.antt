@@ -1,6 +1,5 @@
 use Rattle.engine.proofs.Common.{[], ◌≡◌, ◌∙◌, sym, Some, Rose, beside_by}
-use Rattle.engine.proofs.SideViews.{puts_of_side, same_sink, side_failed, views_of_all}
-use Rattle.engine.proofs.Ends.{puts_more}
+use Rattle.engine.proofs.{SideViews.puts_of_side, SideViews.same_sink, SideViews.side_failed, SideViews.views_of_all, Ends.puts_more}
 use Rattle.engine.proofs.viewing.put_texts.Goals as goal
 
 pub returns-clause-side : goal.returns-clause-side

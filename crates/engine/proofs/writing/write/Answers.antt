@@ -1,6 +1,5 @@
 use Rattle.std.proofs.Common.{None}
-use Rattle.engine.proofs.DeckEnds.{ends_undecked, to_write, ends_decked}
-use Rattle.engine.proofs.Ends.{ends_defined, puts_more}
+use Rattle.engine.proofs.{DeckEnds.ends_undecked, DeckEnds.to_write, DeckEnds.ends_decked, Ends.ends_defined, Ends.puts_more}
 use Rattle.engine.proofs.writing.write.Goals as goal
 
 pub returns-in-Ok-clause-serves : goal.returns-in-Ok-clause-serves

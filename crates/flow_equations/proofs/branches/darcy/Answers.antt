@@ -1,5 +1,4 @@
-use Rattle.flow_equations.proofs.Darcy.{from_both_ends, meets_darcy, unit_branch, meets_darcy_along_columns}
-use Rattle.flow_equations.proofs.Downwards.{meets_darcy_downwards}
+use Rattle.flow_equations.proofs.{Darcy.from_both_ends, Darcy.meets_darcy, Darcy.unit_branch, Darcy.meets_darcy_along_columns, Downwards.meets_darcy_downwards}
 use Rattle.flow_equations.proofs.branches.darcy.Goals as goal
 
 pub returns : goal.returns

@@ -1,6 +1,5 @@
 use Rattle.gentle_heads.proofs.Common.{◌≡◌, All, List, Option, true, false, refl, sym, ap, subst, arith, length, ◌∙◌, false≢true, Face, FallsThrough}
-use Rattle.std.proofs.lemmas.List.{take_all}
-use Rattle.std.proofs.lemmas.List.Elements.{All-more}
+use Rattle.std.proofs.{lemmas.List.take_all, lemmas.List.Elements.All-more}
 use Rattle.gentle_heads.proofs.branch.falls.Goals as goal
 
 pub returns-then-not-falls_through : goal.returns-then-not-falls_through

@@ -1,5 +1,5 @@
-use Rattle.gentle_heads.proofs.Common.{FitsSigned, rules, ◌≡◌, ◌^◌, ◌↔◌, ◌-ℤ◌, IsTrue, inl, inr, true, false, refl, sym, subst, ◌∙◌, false≢true, to_z-of_z}
-use Rattle.gentle_heads.proofs.Common.{w128, share, IsDec, number, AtMost, bottom_at, top_at, bottom_valid, top_valid, lower_at, upper_at}
+use Rattle.gentle_heads.proofs.Common.{FitsSigned, rules, ◌≡◌, ◌^◌, ◌↔◌, ◌-ℤ◌, IsTrue, inl, inr, true, false, refl, sym, subst, ◌∙◌, false≢true, to_z-of_z, w128, share, IsDec, number, AtMost}
+use Rattle.gentle_heads.proofs.Common.{bottom_at, top_at, bottom_valid, top_valid, lower_at, upper_at}
 use Rattle.gentle_heads.proofs.Elevations.{fall_is}
 use Rattle.gentle_heads.proofs.branch.falls_to.Goals as goal
 

@@ -1,5 +1,4 @@
-use Rattle.gentle_run.proofs.Common.{◌∙◌, ◌≡◌, ◌+◌, ◌<◌, ℕ, List, ap, arith, drop, get_or, length, subst, times, Bound, TimeStep, ListedStep, Holds, step_in}
-use Rattle.gentle_run.proofs.Common.{suc, IfOk-weaker, FailsBy, heads_before}
+use Rattle.gentle_run.proofs.Common.{◌∙◌, ◌≡◌, ◌+◌, ◌<◌, ℕ, List, ap, arith, drop, get_or, length, subst, times, Bound, TimeStep, ListedStep, Holds, step_in, suc, IfOk-weaker, FailsBy, heads_before}
 use Rattle.problem_builder.proofs.TimesOf.{time_of}
 use Rattle.gentle_run.proofs.Checking.{IsSoFar, at_first, ends, goes_here, step_there, stops_here, time_here}
 use Rattle.gentle_run.proofs.listing.check_steps.Goals as goal

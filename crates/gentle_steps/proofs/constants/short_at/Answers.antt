@@ -1,6 +1,5 @@
 use Rattle.gentle_steps.proofs.Common.{◌∙◌, true, false, sym, subst, arith, false≢true, bound_at, no_bound, Bound, Side, Low, ReachesOn}
-use Rattle.gentle_steps.proofs.Options.{option_weaker}
-use Rattle.gentle_steps.proofs.Tables.{constant_is, heads_count}
+use Rattle.gentle_steps.proofs.{Options.option_weaker, Tables.constant_is, Tables.heads_count}
 use Rattle.gentle_steps.proofs.constants.short_at.Goals as goal
 
 pub bounds-as_slice-cell : goal.bounds-as_slice-cell

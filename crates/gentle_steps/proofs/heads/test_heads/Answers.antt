@@ -1,7 +1,6 @@
 use Rattle.gentle_steps.proofs.Common.{ℕ, ◌∙◌, List, ap, arith, refl, subst, sym, AreWords, Bound, Entries, err_from_is_err_and, at_constant, at_variable}
 use Rattle.step_problem.specs.declared.place.Place.TheVariants.{Cell}
-use Rattle.gentle_steps.proofs.Cells.{are_words, variable_place, words_are}
-use Rattle.gentle_steps.proofs.Posing.{fails_by}
+use Rattle.gentle_steps.proofs.{Cells.are_words, Cells.variable_place, Cells.words_are, Posing.fails_by}
 use Rattle.gentle_steps.proofs.heads.test_heads.Goals as goal
 
 pub returns-in_err-posed-clause-fails : goal.returns-in_err-posed-clause-fails

@@ -1,6 +1,5 @@
 use Rattle.gentle_steps.proofs.Common.{High, Low, err_from_is_err_and, no_storage}
-use Rattle.gentle_steps.proofs.Cells.{side_cells}
-use Rattle.gentle_steps.proofs.Posing.{unposed_high}
+use Rattle.gentle_steps.proofs.{Cells.side_cells, Posing.unposed_high}
 use Rattle.gentle_steps.proofs.posed.pose.Goals as goal
 
 pub returns-in_err-high-clause-fault : goal.returns-in_err-high-clause-fault

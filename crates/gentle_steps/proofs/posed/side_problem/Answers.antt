@@ -1,7 +1,5 @@
-use Rattle.gentle_steps.proofs.Common.{◌∙◌, List, sym, subst, AreGridHeads, AreOrdered, Bound, IfErr-weaker, IfErr, IfOk, time_of, IsFaultOver, IsProblemOver}
-use Rattle.gentle_steps.proofs.Common.{branches_at}
-use Rattle.gentle_steps.proofs.Posing.{no_problem}
-use Rattle.gentle_steps.proofs.SideHeads.{side_grid, side_ordered}
+use Rattle.gentle_steps.proofs.Common.{◌∙◌, List, sym, subst, AreGridHeads, AreOrdered, Bound, IfErr-weaker, IfErr, IfOk, time_of, IsFaultOver, IsProblemOver, branches_at}
+use Rattle.gentle_steps.proofs.{Posing.no_problem, SideHeads.side_grid, SideHeads.side_ordered}
 use Rattle.gentle_steps.proofs.posed.side_problem.Goals as goal
 
 pub problem_at-requires-clause-heads : goal.problem_at-requires-clause-heads

@@ -1,5 +1,5 @@
-use Rattle.gentle_steps.proofs.Common.{◌≡◌, ◌∙◌, ap, arith, subst, sym, ℤ, heads_on, is_variable, cell_count, bound_at, no_bound, entries_at, Entries, IsTrue}
-use Rattle.gentle_steps.proofs.Common.{◌+ℤ◌, FitsSigned, rules, to_z-of_z, IsAt, balance, stored_flow, one_head, whole_balance, HasSign}
+use Rattle.gentle_steps.proofs.Common.{◌≡◌, ◌∙◌, ap, arith, subst, sym, ℤ, heads_on, is_variable, cell_count, bound_at, no_bound, entries_at, Entries, IsTrue, ◌+ℤ◌, FitsSigned, rules, to_z-of_z, IsAt}
+use Rattle.gentle_steps.proofs.Common.{balance, stored_flow, one_head, whole_balance, HasSign}
 use Rattle.problem_builder.proofs.Members.{variable_active}
 use Rattle.std.specs.Int.{w128}
 use Rattle.gentle_steps.proofs.Cells.{variable_place}

@@ -1,5 +1,5 @@
-use Rattle.head_table.proofs.Common.{rules, ◌≡◌, ℕ, ◌+◌, ◌*◌, ◌<◌, List, [], ◌∷◌, ◌++◌, length, get_or, ℤ, pos, sym, ap, ◌∙◌, subst, arith, to_z-of_z, w64}
-use Rattle.head_table.proofs.Common.{SFits, Bound, Side, Low, High, IsHead, no_bound, head_of, heads_on, head_of_word, words_on}
+use Rattle.head_table.proofs.Common.{rules, ◌≡◌, ℕ, ◌+◌, ◌*◌, ◌<◌, List, [], ◌∷◌, ◌++◌, length, get_or, ℤ, pos, sym, ap, ◌∙◌, subst, arith, to_z-of_z, w64, SFits, Bound, Side, Low, High, IsHead}
+use Rattle.head_table.proofs.Common.{no_bound, head_of, heads_on, head_of_word, words_on}
 use Rattle.head_table.proofs.WordReads.{any_default, place_of, row_more}
 use Rattle.head_table.proofs.ends.raw_words.Goals as goal
 

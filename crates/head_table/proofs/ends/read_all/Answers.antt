@@ -1,5 +1,5 @@
-use Rattle.head_table.proofs.Common.{rules, ◌≡◌, ℕ, ◌+◌, ◌*◌, List, length, sym, ap, ◌∙◌, subst, arith, to_z-of_z, w64, SFits, to_z, of_z, slots_items, Bound}
-use Rattle.head_table.proofs.Common.{Side, Low, High, IsHead, head_of, heads_on, head_of_word, words_on}
+use Rattle.head_table.proofs.Common.{rules, ◌≡◌, ℕ, ◌+◌, ◌*◌, List, length, sym, ap, ◌∙◌, subst, arith, to_z-of_z, w64, SFits, to_z, of_z, slots_items, Bound, Side, Low, High, IsHead, head_of}
+use Rattle.head_table.proofs.Common.{heads_on, head_of_word, words_on}
 use Rattle.head_table.proofs.WordReads.{at_get, row_next}
 use Rattle.head_table.proofs.ends.read_all.Goals as goal
 

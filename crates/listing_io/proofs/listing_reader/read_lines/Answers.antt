@@ -1,8 +1,6 @@
-use Rattle.listing_io.proofs.Common.{◌∙◌, ◌≤◌, List, length, sym, subst, err_from_is_err_and, TimeStep, first_at, for_each, listing_at, pairs_in, step_at}
-use Rattle.listing_io.proofs.Common.{zones_of}
+use Rattle.listing_io.proofs.Common.{◌∙◌, ◌≤◌, List, length, sym, subst, err_from_is_err_and, TimeStep, first_at, for_each, listing_at, pairs_in, step_at, zones_of}
 use Rattle.std.specs.Prelude.{All}
-use Rattle.listing_io.proofs.Periods.{times_within}
-use Rattle.listing_io.proofs.Rows.{all_read, end_stops, over_stops, steps_stop}
+use Rattle.listing_io.proofs.{Periods.times_within, Rows.all_read, Rows.end_stops, Rows.over_stops, Rows.steps_stop}
 use Rattle.listing_io.proofs.listing_reader.read_lines.Goals as goal
 
 pub read_steps-requires-clause-times : goal.read_steps-requires-clause-times

@@ -1,5 +1,5 @@
-use Rattle.listing_io.proofs.Common.{◌≡◌, ◌+◌, ℕ, List, Option, Result, subst, ◌∙◌, drop, get_or, arith, drop_all, err_from_is_err_and, each_goes_on, each_done}
-use Rattle.listing_io.proofs.Common.{FlowModel, TimeStep, pairs_in, zones_of, ListedStep, Left, Stops, step_at}
+use Rattle.listing_io.proofs.Common.{◌≡◌, ◌+◌, ℕ, List, Option, Result, subst, ◌∙◌, drop, get_or, arith, drop_all, err_from_is_err_and, each_goes_on, each_done, FlowModel, TimeStep, pairs_in}
+use Rattle.listing_io.proofs.Common.{zones_of, ListedStep, Left, Stops, step_at}
 use Rattle.listing_io.proofs.Walks.{each_stops, next_of}
 use Rattle.listing_io.proofs.listing_reader.read_steps.Goals as goal
 

@@ -1,7 +1,5 @@
-use Rattle.listing_io.proofs.Common.{◌≡◌, ◌++◌, ◌+◌, ◌-◌, ◌<◌, ℕ, List, [], refl, subst, arith, drop, each_lines, get_or, length, no_bound, range_with_len}
-use Rattle.listing_io.proofs.Common.{text_of, head_lines, Bound}
-use Rattle.listing_io.proofs.Walks.{all_written, cells_next, lines_written, next_of, no_cells}
-use Rattle.listing_io.proofs.Terms.{cell_lines}
+use Rattle.listing_io.proofs.Common.{◌≡◌, ◌++◌, ◌+◌, ◌-◌, ◌<◌, ℕ, List, [], refl, subst, arith, drop, each_lines, get_or, length, no_bound, range_with_len, text_of, head_lines, Bound}
+use Rattle.listing_io.proofs.{Walks.all_written, Walks.cells_next, Walks.lines_written, Walks.next_of, Walks.no_cells, Terms.cell_lines}
 use Rattle.listing_io.proofs.listing_writer.push_heads.Goals as goal
 
 pub loop-cell-preserved : goal.loop-cell-preserved

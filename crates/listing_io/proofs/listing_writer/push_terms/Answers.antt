@@ -1,5 +1,5 @@
-use Rattle.listing_io.proofs.Common.{rules, ◌≡◌, ◌++◌, ◌∙◌, ap, cond, List, [], ◌∷◌, slice_index_or, Term, Storage, ConstantHead, Wells, Drains, RiverLeakage}
-use Rattle.listing_io.proofs.Common.{HeadDepBounds, Recharge, Et, no_pair, Line, ended_line, term_line, text_of, place_of}
+use Rattle.listing_io.proofs.Common.{rules, ◌≡◌, ◌++◌, ◌∙◌, ap, cond, List, [], ◌∷◌, slice_index_or, Term, Storage, ConstantHead, Wells, Drains, RiverLeakage, HeadDepBounds, Recharge, Et, no_pair}
+use Rattle.listing_io.proofs.Common.{Line, ended_line, term_line, text_of, place_of}
 use Rattle.listing_io.proofs.Walks.{seven_joined, line_if}
 use Rattle.listing_io.proofs.listing_writer.push_terms.Goals as goal
 

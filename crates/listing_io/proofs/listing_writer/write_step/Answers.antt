@@ -1,5 +1,4 @@
-use Rattle.listing_io.proofs.Common.{rules, ◌≡◌, ◌++◌, ◌∙◌, [], map, In, Out, ended_line, head_lines, step_line, step_text, step_lines, term_lines, text_of}
-use Rattle.listing_io.proofs.Common.{zone_line}
+use Rattle.listing_io.proofs.Common.{rules, ◌≡◌, ◌++◌, ◌∙◌, [], map, In, Out, ended_line, head_lines, step_line, step_text, step_lines, term_lines, text_of, zone_line}
 use Rattle.listing_io.proofs.Walks.{step_joined}
 use Rattle.listing_io.proofs.listing_writer.write_step.Goals as goal
 

@@ -1,5 +1,4 @@
-use Rattle.listing_io.proofs.Common.{◌<◌, ◌≤◌, ◌+◌, ◌-◌, ℕ, arith, range_with_len, err_from_is_err_and, each_done, each_goes_on, cell_count, head_front}
-use Rattle.listing_io.proofs.Common.{head_if, is_active, heads_at}
+use Rattle.listing_io.proofs.Common.{◌<◌, ◌≤◌, ◌+◌, ◌-◌, ℕ, arith, range_with_len, err_from_is_err_and, each_done, each_goes_on, cell_count, head_front, head_if, is_active, heads_at}
 use Rattle.listing_io.proofs.Walks.{cells_next, each_stops, no_cells}
 use Rattle.listing_io.proofs.step_reader.read_heads.Goals as goal
 

@@ -1,5 +1,4 @@
-use Rattle.listing_io.proofs.Common.{◌≡◌, ◌+◌, ◌<◌, ◌≤◌, List, [], ◌∷◌, refl, arith, drop, drop_all, each_lines, get_or, head_line, length, no_bound, Bound}
-use Rattle.listing_io.proofs.Common.{variable_lines, entries_at, no_entries}
+use Rattle.listing_io.proofs.Common.{◌≡◌, ◌+◌, ◌<◌, ◌≤◌, List, [], ◌∷◌, refl, arith, drop, drop_all, each_lines, get_or, head_line, length, no_bound, Bound, variable_lines, entries_at, no_entries}
 use Rattle.step_problem.specs.Entries.{Entries}
 use Rattle.listing_io.proofs.Walks.{all_written, line_written, next_of}
 use Rattle.listing_io.proofs.view_writer.push_variable_cells.Goals as goal

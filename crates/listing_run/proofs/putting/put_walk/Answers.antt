@@ -1,11 +1,9 @@
-use Rattle.listing_run.proofs.Common.{rules, ◌≡◌, ◌+◌, ◌∷◌, [], ◌++◌, drop, List, Some, None, true, false, inl, inr, refl, subst, sym, ◌∙◌, ap, append-nil, Put}
-use Rattle.listing_run.proofs.Common.{whole_put, TimeStep, puts_are_joined, joined_thrice, put_was, lacks_at_first, IsListingBeside, IsCutListing, EndsAt}
-use Rattle.listing_run.proofs.Common.{IsNextText, times_left, Write, first_text}
+use Rattle.listing_run.proofs.Common.{rules, ◌≡◌, ◌+◌, ◌∷◌, [], ◌++◌, drop, List, Some, None, true, false, inl, inr, refl, subst, sym, ◌∙◌, ap, append-nil, Put, whole_put, TimeStep, puts_are_joined}
+use Rattle.listing_run.proofs.Common.{joined_thrice, put_was, lacks_at_first, IsListingBeside, IsCutListing, EndsAt, IsNextText, times_left, Write, first_text}
 use Rattle.listing_run.specs.declared.text.ListingEnd.TheVariants.{Whole}
-use Rattle.listing_run.proofs.Pieces.{ends_at_piece, ends_wanting, ends_with_line, under_way_at_first, under_way_more, cut_listing_is_beside, end_not_ok}
-use Rattle.listing_run.proofs.Pieces.{ends_stopped, put_not_ok, stop_end_not_ok, wanting_not_ok}
-use Rattle.listing_run.proofs.Settled.{none_settled, one_more_settled, reaches_more, reaches_so_far}
-use Rattle.listing_run.proofs.UnderWay.{fewer_left}
+use Rattle.listing_run.proofs.{Pieces.ends_at_piece, Pieces.ends_wanting, Pieces.ends_with_line, Pieces.under_way_at_first, Pieces.under_way_more, Pieces.cut_listing_is_beside, Pieces.end_not_ok}
+use Rattle.listing_run.proofs.{Pieces.ends_stopped, Pieces.put_not_ok, Pieces.stop_end_not_ok, Pieces.wanting_not_ok, Settled.none_settled, Settled.one_more_settled, Settled.reaches_more}
+use Rattle.listing_run.proofs.{Settled.reaches_so_far, UnderWay.fewer_left}
 use Rattle.listing_run.proofs.putting.put_walk.Goals as goal
 
 pub returns-in_default-clause-puts : goal.returns-in_default-clause-puts

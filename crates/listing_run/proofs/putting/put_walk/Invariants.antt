@@ -1,6 +1,5 @@
 use Rattle.listing_run.proofs.Common.{◌≡◌, List, ◌++◌, None, length, Put, IsWalk, times_left}
-use Rattle.listing_run.proofs.Pieces.{IsUnderWay}
-use Rattle.listing_run.proofs.Settled.{AreSettledSoFar}
+use Rattle.listing_run.proofs.{Pieces.IsUnderWay, Settled.AreSettledSoFar}
 use Rattle.listing_run.proofs.putting.put_walk.Given as goal
 
 abbrev pub invariant-loop-at : goal.invariant-loop-at

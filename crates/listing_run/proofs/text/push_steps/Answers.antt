@@ -1,6 +1,5 @@
 use Rattle.listing_run.proofs.Common.{◌≡◌, ◌∙◌, ◌++◌, ap, Text, Status, last_line, status_of, EndsAt, IsNextText, times_left, first_text}
-use Rattle.listing_run.proofs.Pieces.{if_ok_both, text_at_first, text_ended, text_more}
-use Rattle.listing_run.proofs.UnderWay.{fewer_left}
+use Rattle.listing_run.proofs.{Pieces.if_ok_both, Pieces.text_at_first, Pieces.text_ended, Pieces.text_more, UnderWay.fewer_left}
 use Rattle.listing_run.proofs.text.push_steps.Goals as goal
 
 pub loop-step-init : goal.loop-step-init

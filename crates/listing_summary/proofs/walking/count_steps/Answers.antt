@@ -1,5 +1,4 @@
-use Rattle.listing_summary.proofs.Common.{rules, ◌≡◌, ◌∙◌, ap, arith, subst, sym, List, All, length, Bound, IsHead, times_left, with_heads, EndsAt, Summary}
-use Rattle.listing_summary.proofs.Common.{with_step, cell_count}
+use Rattle.listing_summary.proofs.Common.{rules, ◌≡◌, ◌∙◌, ap, arith, subst, sym, List, All, length, Bound, IsHead, times_left, with_heads, EndsAt, Summary, with_step, cell_count}
 use Rattle.model_types.specs.declared.time_steps.TimeStep.{TimeStep}
 use Rattle.listing_summary.proofs.Counts.{all_counted_to_end, none_counted, one_more_counted}
 use Rattle.listing_summary.proofs.walking.count_steps.Goals as goal

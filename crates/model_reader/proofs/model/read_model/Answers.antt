@@ -1,6 +1,5 @@
 use Rattle.model_reader.proofs.Common.{err_from_is_err_and, Err, model_of, file_named, names_still, stops_all}
-use Rattle.model_reader.proofs.ReadLemmas.{both_read, goes_on}
-use Rattle.model_reader.proofs.ModelLimits.{read_valid}
+use Rattle.model_reader.proofs.{ReadLemmas.both_read, ReadLemmas.goes_on, ModelLimits.read_valid}
 use Rattle.model_reader.proofs.model.read_model.Goals as goal
 
 pub returns-in_err-flow-clause-model : goal.returns-in_err-flow-clause-model

@@ -1,6 +1,5 @@
 use Rattle.listing_run.proofs.Moves.{ids_within}
-use Rattle.plan_chain.proofs.Settling.{differences_are, differences_fail, same_count}
-use Rattle.plan_chain.proofs.Walking.{placed_fit}
+use Rattle.plan_chain.proofs.{Settling.differences_are, Settling.differences_fail, Settling.same_count, Walking.placed_fit}
 use Rattle.plan_chain.proofs.step.with_differences.Goals as goal
 
 pub next_differences-requires-clause-as_many : goal.next_differences-requires-clause-as_many

@@ -1,7 +1,5 @@
-use Rattle.plan_check.proofs.Common.{List, arith, map, subst, sym, ℕ, ◌∙◌, ◌≡◌, err_from_is_err_and, Bound, Entries, AreWords, cell_count, cut_by, are_words}
-use Rattle.plan_check.proofs.Common.{id_within, IsDifferenceProblem, AreByCell}
-use Rattle.plan_check.proofs.Holding.{apart_fails, differences_hold, unbarred_fails, unheld_fails}
-use Rattle.plan_check.proofs.Wider.{their_cells}
+use Rattle.plan_check.proofs.Common.{List, arith, subst, sym, ℕ, ◌∙◌, ◌≡◌, err_from_is_err_and, Bound, Entries, AreWords, cell_count, cut_by, are_words, id_within, IsDifferenceProblem, AreByCell}
+use Rattle.plan_check.proofs.{Holding.apart_fails, Holding.differences_hold, Holding.unbarred_fails, Holding.unheld_fails, Wider.their_cells}
 use Rattle.plan_check.proofs.differences.check_differences.Goals as goal
 
 -- the problem by both plans' bounds, as they were lent

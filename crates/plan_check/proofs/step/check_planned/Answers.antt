@@ -1,6 +1,5 @@
 use Rattle.plan_check.proofs.Common.{List, subst, sym, Bound, AreGridHeads, HeadsFailBy, times_planned, lent_heads}
-use Rattle.plan_check.proofs.Holding.{planned_fails}
-use Rattle.plan_check.proofs.Listed.{listed_fit}
+use Rattle.plan_check.proofs.{Holding.planned_fails, Listed.listed_fit}
 use Rattle.plan_check.proofs.step.check_planned.Goals as goal
 
 pub check_deck-requires-clause-time : goal.check_deck-requires-clause-time

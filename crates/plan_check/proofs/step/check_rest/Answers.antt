@@ -1,9 +1,7 @@
-use Rattle.plan_check.proofs.Common.{List, refl, subst, sym, ◌∙◌, IfErr-weaker, IfOk-weaker, Bound, certified, AreGridHeads, base_is, planned_is, same_count}
-use Rattle.plan_check.proofs.Common.{step_fits, DifferencesFailBy, DifferencesHold, lent_heads}
+use Rattle.plan_check.proofs.Common.{List, refl, subst, sym, ◌∙◌, IfErr-weaker, IfOk-weaker, Bound, certified, AreGridHeads, base_is, planned_is, same_count, step_fits, DifferencesFailBy}
+use Rattle.plan_check.proofs.Common.{DifferencesHold, lent_heads}
 use Rattle.plan_run.proofs.Faces.{flows_listed}
-use Rattle.plan_check.proofs.Holding.{differences_fail, flows_fail}
-use Rattle.plan_check.proofs.Listed.{listed_fit}
-use Rattle.plan_check.proofs.Wider.{deck_cells, holds_step, pairs_are}
+use Rattle.plan_check.proofs.{Holding.differences_fail, Holding.flows_fail, Listed.listed_fit, Wider.deck_cells, Wider.holds_step, Wider.pairs_are}
 use Rattle.plan_check.proofs.step.check_rest.Goals as goal
 
 pub check_differences-requires-clause-as_many : goal.check_differences-requires-clause-as_many

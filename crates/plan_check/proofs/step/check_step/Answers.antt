@@ -1,6 +1,5 @@
 use Rattle.plan_check.proofs.Common.{List, subst, sym, Bound, AreGridHeads, HeadsFailBy, lent_heads}
-use Rattle.plan_check.proofs.Holding.{base_fails}
-use Rattle.plan_check.proofs.Listed.{listed_fit}
+use Rattle.plan_check.proofs.{Holding.base_fails, Listed.listed_fit}
 use Rattle.plan_check.proofs.step.check_step.Goals as goal
 
 pub check_deck-requires-clause-heads : goal.check_deck-requires-clause-heads

@@ -1,8 +1,6 @@
-use Rattle.plan_listing.proofs.Common.{◌∙◌, ◌≤◌, List, length, sym, subst, err_from_is_err_and, TimeStep, pairs_in, zones_of, plan_first_line, plan_step_at}
-use Rattle.plan_listing.proofs.Common.{end_stops, over_stops, steps_stop}
+use Rattle.plan_listing.proofs.Common.{◌∙◌, ◌≤◌, List, length, sym, subst, err_from_is_err_and, TimeStep, pairs_in, zones_of, plan_first_line, plan_step_at, end_stops, over_stops, steps_stop}
 use Rattle.std.specs.Prelude.{All}
-use Rattle.listing_io.proofs.Periods.{times_within}
-use Rattle.listing_io.proofs.Rows.{all_read}
+use Rattle.listing_io.proofs.{Periods.times_within, Rows.all_read}
 unfoldable use Rattle.record_lines.specs.{for_each}
 unfoldable use Rattle.listing_io.specs.{text_at}
 unfoldable use Rattle.plan_listing.specs.{plan_listing_at}

@@ -1,5 +1,5 @@
-use Rattle.plan_listing.proofs.Common.{◌≡◌, ◌+◌, ℕ, List, Option, Result, subst, ◌∙◌, drop, get_or, arith, drop_all, err_from_is_err_and, FlowModel, TimeStep}
-use Rattle.plan_listing.proofs.Common.{each_done, each_goes_on, pairs_in, zones_of, Left, Stops, ListedPlanStep, plan_step_at, each_stops, next_of}
+use Rattle.plan_listing.proofs.Common.{◌≡◌, ◌+◌, ℕ, List, Option, Result, subst, ◌∙◌, drop, get_or, arith, drop_all, err_from_is_err_and, FlowModel, TimeStep, each_done, each_goes_on, pairs_in}
+use Rattle.plan_listing.proofs.Common.{zones_of, Left, Stops, ListedPlanStep, plan_step_at, each_stops, next_of}
 use Rattle.plan_listing.proofs.listing_reader.read_steps.Goals as goal
 
 abbrev no_time : TimeStep

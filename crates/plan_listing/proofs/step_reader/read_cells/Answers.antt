@@ -1,5 +1,4 @@
-use Rattle.plan_listing.proofs.Common.{◌<◌, ◌≤◌, ◌+◌, ◌-◌, arith, range_with_len, err_from_is_err_and, cell_count, each_done, each_goes_on, cells_next}
-use Rattle.plan_listing.proofs.Common.{each_stops, no_cells}
+use Rattle.plan_listing.proofs.Common.{◌<◌, ◌≤◌, ◌+◌, ◌-◌, arith, range_with_len, err_from_is_err_and, cell_count, each_done, each_goes_on, cells_next, each_stops, no_cells}
 unfoldable use Rattle.plan_listing.specs.{plan_cell_at, plan_cells_at}
 use Rattle.plan_listing.proofs.step_reader.read_cells.Goals as goal
 

@@ -1,5 +1,5 @@
-use Rattle.plan_listing.proofs.Common.{◌≡◌, ◌++◌, ◌+◌, ◌-◌, ◌<◌, ℕ, List, [], refl, subst, arith, drop, get_or, length, range_with_len, Bound, each_lines}
-use Rattle.plan_listing.proofs.Common.{text_of, all_written, cells_next, lines_written, next_of, no_cells, plan_cell_lines, plan_cells}
+use Rattle.plan_listing.proofs.Common.{◌≡◌, ◌++◌, ◌+◌, ◌-◌, ◌<◌, ℕ, List, [], refl, subst, arith, drop, get_or, length, range_with_len, Bound, each_lines, text_of, all_written, cells_next}
+use Rattle.plan_listing.proofs.Common.{lines_written, next_of, no_cells, plan_cell_lines, plan_cells}
 use Rattle.step_problem.specs.{no_bound}
 unfoldable use Rattle.plan_listing.specs.{cells_lines}
 use Rattle.plan_listing.proofs.writer.push_cells.Goals as goal

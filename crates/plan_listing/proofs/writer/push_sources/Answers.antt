@@ -1,5 +1,4 @@
-use Rattle.plan_listing.proofs.Common.{rules, ◌≡◌, ◌++◌, ◌∙◌, ap, cond, List, [], ◌∷◌, slice_index_or, Term, no_pair, place_of, Line, ended_line, source_line}
-use Rattle.plan_listing.proofs.Common.{text_of, line_if}
+use Rattle.plan_listing.proofs.Common.{rules, ◌≡◌, ◌++◌, ◌∙◌, ap, cond, List, [], ◌∷◌, slice_index_or, Term, no_pair, place_of, Line, ended_line, source_line, text_of, line_if}
 use Rattle.step_problem.specs.declared.place.Term.TheVariants.{Storage, ConstantHead, Drains, RiverLeakage, HeadDepBounds, Et}
 use Rattle.plan_listing.proofs.Texts.{five_joined}
 use Rattle.plan_listing.proofs.writer.push_sources.Goals as goal

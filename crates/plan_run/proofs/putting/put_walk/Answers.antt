@@ -1,7 +1,6 @@
-use Rattle.plan_run.proofs.Common.{rules, ◌≡◌, ◌∷◌, [], ◌++◌, List, Some, None, subst, sym, ◌∙◌, ap, append-nil, Put, whole_put, puts_are_joined, ListingEndsAt}
-use Rattle.plan_run.proofs.Common.{IsCutPlanListing, IsNextText, IsPlanListing, joined_thrice, lacks_at_first, plan_first_text, put_was, times_left}
-use Rattle.plan_run.proofs.Pieces.{ends_at_piece, ends_wanting, ends_with_line, under_way_at_first, under_way_more}
-use Rattle.plan_run.proofs.Walking.{fewer_left}
+use Rattle.plan_run.proofs.Common.{rules, ◌≡◌, ◌∷◌, [], ◌++◌, List, Some, None, subst, sym, ◌∙◌, ap, append-nil, Put, whole_put, puts_are_joined, ListingEndsAt, IsCutPlanListing, IsNextText}
+use Rattle.plan_run.proofs.Common.{IsPlanListing, joined_thrice, lacks_at_first, plan_first_text, put_was, times_left}
+use Rattle.plan_run.proofs.{Pieces.ends_at_piece, Pieces.ends_wanting, Pieces.ends_with_line, Pieces.under_way_at_first, Pieces.under_way_more, Walking.fewer_left}
 use Rattle.plan_run.proofs.putting.put_walk.Goals as goal
 
 pub returns-in_default : goal.returns-in_default

@@ -1,4 +1,4 @@
-use Rattle.plan_wells.proofs.Common.{◌≡◌, ◌∙◌, ap, length, List, map, Ok, refl, subst, sym, Entry, FlowModel, Period, IsPlan}
+use Rattle.plan_wells.proofs.Common.{◌∙◌, ap, length, List, subst, sym, Entry, FlowModel, Period, IsPlan}
 use Rattle.plan_wells.proofs.PlanForms.{given, is_plan, plan_reads, plan_stops}
 use Rattle.plan_wells.proofs.plan.read_plan.Goals as goal
 

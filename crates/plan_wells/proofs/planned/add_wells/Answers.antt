@@ -1,5 +1,4 @@
-use Rattle.plan_wells.proofs.Common.{◌≡◌, ◌++◌, ◌<◌, ◌∙◌, ℕ, suc, ap, arith, get_or, length, List, refl, set, subst, sym, get_or_default, Entry, Period}
-use Rattle.plan_wells.proofs.Common.{with_wells}
+use Rattle.plan_wells.proofs.Common.{◌≡◌, ◌++◌, ◌<◌, ◌∙◌, ℕ, suc, ap, arith, get_or, length, List, set, subst, sym, get_or_default, Entry, Period, with_wells}
 use Rattle.plan_wells.proofs.PutInPlace.{put_all, put_first, put_length, put_next}
 use Rattle.plan_wells.proofs.planned.add_wells.Goals as goal
 

@@ -1,7 +1,5 @@
-use Rattle.problem_builder.proofs.Common.{subst, sym, ap, cond, ◌∙◌, is_constant, IsInGrid, branches_of, constant_over, known_head, known_bound, constant_bound}
-use Rattle.problem_builder.proofs.Common.{no_bound, cell_count, Constant}
-use Rattle.problem_builder.proofs.CellFits.{item_is}
-use Rattle.problem_builder.proofs.Joined.{made_through}
+use Rattle.problem_builder.proofs.Common.{subst, sym, ap, cond, ◌∙◌, is_constant, IsInGrid, branches_of, constant_over, known_head, known_bound, constant_bound, no_bound, cell_count, Constant}
+use Rattle.problem_builder.proofs.{CellFits.item_is, Joined.made_through}
 use Rattle.problem_builder.proofs.branches.constant_through.Goals as goal
 
 pub returns-in-Some : goal.returns-in-Some

@@ -1,6 +1,5 @@
 use Rattle.problem_builder.proofs.Common.{option_map, branches_of, link_over, ap, ◌∙◌, arith, faces, is_variable, through, Inputs, ◌≡◌, length}
-use Rattle.problem_builder.proofs.CellFaces.{face_within}
-use Rattle.problem_builder.proofs.Joined.{push_next, made_all}
+use Rattle.problem_builder.proofs.{CellFaces.face_within, Joined.push_next, Joined.made_all}
 use Rattle.problem_builder.proofs.branches.links.Goals as goal
 
 pub link_through-requires-clause-face : goal.link_through-requires-clause-face

@@ -1,7 +1,5 @@
 use Rattle.problem_builder.proofs.Common.{IfErr-weaker, IfOk-weaker, IsBuildFault, IsFaultOver, IsProblemOver, IsBuilt}
-use Rattle.problem_builder.proofs.CellFaces.{tables_have_pairs}
-use Rattle.problem_builder.proofs.ModelBuilt.{built, refused, table_branches, tables_have_branches}
-use Rattle.problem_builder.proofs.TimesOf.{time_of}
+use Rattle.problem_builder.proofs.{CellFaces.tables_have_pairs, ModelBuilt.built, ModelBuilt.refused, ModelBuilt.table_branches, ModelBuilt.tables_have_branches, TimesOf.time_of}
 use Rattle.problem_builder.proofs.builder.build_with.Goals as goal
 
 pub problem_of-requires : goal.problem_of-requires

@@ -1,6 +1,5 @@
 use Rattle.problem_builder.specs.{branches_of}
-use Rattle.problem_builder.proofs.Problems.{is_problem_over}
-use Rattle.problem_builder.proofs.Steps.{all_cells}
+use Rattle.problem_builder.proofs.{Problems.is_problem_over, Steps.all_cells}
 use Rattle.problem_builder.proofs.builder.problem_of.Goals as goal
 
 pub new-requires : goal.new-requires

@@ -1,6 +1,5 @@
 use Rattle.problem_builder.proofs.Common.{ap, ◌∙◌, evap_at, Inputs, whole_evap, item_in, option_to_list}
-use Rattle.problem_builder.proofs.Members.{variable_active}
-use Rattle.problem_builder.proofs.Joined.{first_is_pushed, made_list}
+use Rattle.problem_builder.proofs.{Members.variable_active, Joined.first_is_pushed, Joined.made_list}
 use Rattle.problem_builder.proofs.cell.evaps.Goals as goal
 
 pub returns : goal.returns

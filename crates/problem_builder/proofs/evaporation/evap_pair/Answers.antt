@@ -1,5 +1,5 @@
-use Rattle.problem_builder.proofs.Common.{◌-ℤ◌, ◌∙◌, ap, arith, ints, rules, subst, sym, size, Bound, EvapSource, evap_formula, FitsSigned, to_z-of_z, w64}
-use Rattle.problem_builder.proofs.Common.{IsPositive, delr_positive, delc_positive, capped_pair, small_pair}
+use Rattle.problem_builder.proofs.Common.{◌-ℤ◌, ◌∙◌, ap, arith, ints, rules, subst, sym, size, Bound, EvapSource, evap_formula, FitsSigned, to_z-of_z, w64, IsPositive, delr_positive, delc_positive}
+use Rattle.problem_builder.proofs.Common.{capped_pair, small_pair}
 use Rattle.problem_builder.proofs.Fits.{depth_is, extinction_bounds_are_heads, kept_pair}
 use Rattle.problem_builder.proofs.evaporation.evap_pair.Goals as goal
 

@@ -1,8 +1,7 @@
-use Rattle.problem_builder.proofs.Common.{capped_pair, small_pair, ◌≡◌, ◌+◌, ap, sym, subst, arith, ◌∙◌, IsBed, vertical_of, layer_size, dec_at, thickness}
-use Rattle.problem_builder.proofs.Common.{bed_thickness, vkcb_at, IsPositive, span_in, layer_half, cell_below_means_layers, delr_positive, delc_positive}
+use Rattle.problem_builder.proofs.Common.{capped_pair, small_pair, ◌≡◌, ◌+◌, ap, sym, subst, arith, ◌∙◌, IsBed, vertical_of, layer_size, dec_at, thickness, bed_thickness, vkcb_at, IsPositive, span_in}
+use Rattle.problem_builder.proofs.Common.{layer_half, cell_below_means_layers, delr_positive, delc_positive}
 use Rattle.conductance_bounds.specs.declared.vertical.Bed.{Bed}
-use Rattle.problem_builder.proofs.Halves.{bed_tests, bed_fits}
-use Rattle.problem_builder.proofs.Fits.{kept_pair}
+use Rattle.problem_builder.proofs.{Halves.bed_tests, Halves.bed_fits, Fits.kept_pair}
 use Rattle.problem_builder.proofs.faces.vertical_pair.Goals as goal
 
 pub returns : goal.returns

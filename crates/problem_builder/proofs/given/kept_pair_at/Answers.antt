@@ -1,6 +1,5 @@
 use Rattle.problem_builder.proofs.Common.{ap, cond, last_given, no_bound, take, kept_bound, sym, ◌∙◌}
-use Rattle.problem_builder.proofs.CellTables.{last_at}
-use Rattle.problem_builder.proofs.BoundsOf.{last_head}
+use Rattle.problem_builder.proofs.{CellTables.last_at, BoundsOf.last_head}
 use Rattle.problem_builder.proofs.given.kept_pair_at.Goals as goal
 
 pub kept_pair-requires-clause-strt : goal.kept_pair-requires-clause-strt

@@ -1,7 +1,5 @@
-use Rattle.problem_builder.proofs.Common.{ap, cond, no_bound, bound_of_pair, constant_bound, given_or_kept, given_pair, kept_bound, ◌-◌, take, sym, ◌∙◌}
-use Rattle.problem_builder.proofs.Common.{cell_count, last_given, period_at}
-use Rattle.problem_builder.proofs.Members.{constant_active}
-use Rattle.problem_builder.proofs.BoundsOf.{given_valid}
+use Rattle.problem_builder.proofs.Common.{ap, cond, no_bound, bound_of_pair, constant_bound, given_or_kept, given_pair, kept_bound, ◌-◌, take, sym, ◌∙◌, cell_count, last_given, period_at}
+use Rattle.problem_builder.proofs.{Members.constant_active, BoundsOf.given_valid}
 use Rattle.problem_builder.proofs.heads.head_at.Goals as goal
 
 pub given_head-requires-clause-start : goal.given_head-requires-clause-start

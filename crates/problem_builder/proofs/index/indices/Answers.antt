@@ -1,6 +1,5 @@
 use Rattle.problem_builder.proofs.Common.{◌+◌, ◌∙◌, ap, sym, arith, IsIndex}
-use Rattle.problem_builder.proofs.CellFits.{none_filled, next_filled}
-use Rattle.problem_builder.proofs.Indexing.{first_index, index_more, index_same, index_few}
+use Rattle.problem_builder.proofs.{CellFits.none_filled, CellFits.next_filled, Indexing.first_index, Indexing.index_more, Indexing.index_same, Indexing.index_few}
 use Rattle.problem_builder.proofs.index.indices.Goals.{then-is_variable, else-is_variable}
 use Rattle.problem_builder.proofs.index.indices.Goals as goal
 

@@ -1,6 +1,4 @@
-use Rattle.problem_builder.proofs.Problems.{is_problem}
-use Rattle.problem_builder.proofs.Steps.{cells_of}
-use Rattle.problem_builder.proofs.TimesOf.{time_of}
+use Rattle.problem_builder.proofs.{Problems.is_problem, Steps.cells_of, TimesOf.time_of}
 use Rattle.problem_builder.proofs.laws.problems_fit.Goals as goal
 
 pub returns : goal.returns

@@ -1,6 +1,5 @@
 use Rattle.problem_builder.proofs.Common.{◌%◌, sym, ap, ◌∙◌, subst, FitsSigned, arith, w64, to_z-of_z, ints, IsDec, Period, dec_at, is_chosen}
-use Rattle.problem_builder.proofs.ValidEntries.{period_valid}
-use Rattle.problem_builder.proofs.ChosenRates.{rate_valid}
+use Rattle.problem_builder.proofs.{ValidEntries.period_valid, ChosenRates.rate_valid}
 use Rattle.problem_builder.proofs.recharge.rate_of.Goals as goal
 
 pub returns-then-is_chosen-clause-decimal : goal.returns-then-is_chosen-clause-decimal

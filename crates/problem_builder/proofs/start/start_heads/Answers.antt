@@ -1,5 +1,4 @@
-use Rattle.problem_builder.proofs.CellFits.{starts_enclose, starts_fit}
-use Rattle.problem_builder.proofs.CellTables.{kept_start}
+use Rattle.problem_builder.proofs.{CellFits.starts_enclose, CellFits.starts_fit, CellTables.kept_start}
 use Rattle.problem_builder.proofs.start.start_heads.Goals as goal
 
 pub returns-clause-bounds : goal.returns-clause-bounds

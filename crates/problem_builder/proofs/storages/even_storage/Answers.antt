@@ -1,6 +1,5 @@
 use Rattle.std.proofs.Common.{sym, ◌∙◌}
-use Rattle.problem_builder.proofs.Members.{variable_active}
-use Rattle.problem_builder.proofs.KindsOf.{variable_kind, constant_no_variable, no_flow_no_variable}
+use Rattle.problem_builder.proofs.{Members.variable_active, KindsOf.variable_kind, KindsOf.constant_no_variable, KindsOf.no_flow_no_variable}
 use Rattle.problem_builder.proofs.storages.even_storage.Goals as goal
 
 pub storage_at-requires-clause-active : goal.storage_at-requires-clause-active

@@ -1,11 +1,8 @@
-use Rattle.problem_builder.proofs.Common.{capped_pair, small_pair, thick_span, ◌≡◌, ◌-◌, cond, Option, Some, None, sym, ap, ◌∙◌, subst, size, Period, dec_at}
-use Rattle.problem_builder.proofs.Common.{thickness, IsPositive, IsNotNegative, period_at, storage_of, storage_formula, storativity_term, storage_term}
-use Rattle.problem_builder.proofs.Common.{area_term, sum_term, power_term, span_in, delr_positive, delc_positive}
+use Rattle.problem_builder.proofs.Common.{capped_pair, small_pair, thick_span, ◌≡◌, ◌-◌, cond, Option, Some, None, sym, ap, ◌∙◌, subst, size, Period, dec_at, thickness, IsPositive, IsNotNegative}
+use Rattle.problem_builder.proofs.Common.{period_at, storage_of, storage_formula, storativity_term, storage_term, area_term, sum_term, power_term, span_in, delr_positive, delc_positive}
 use Rattle.scaled_decimal.specs.declared.decimal.Sd.{Sd}
 use Rattle.conductance_bounds.specs.{IsThickness}
-use Rattle.problem_builder.proofs.ValidEntries.{period_valid}
-use Rattle.problem_builder.proofs.StorageParts.{thick_case, usable_case}
-use Rattle.problem_builder.proofs.Fits.{kept_pair}
+use Rattle.problem_builder.proofs.{ValidEntries.period_valid, StorageParts.thick_case, StorageParts.usable_case, Fits.kept_pair}
 use Rattle.problem_builder.proofs.storages.storage_at.Goals as goal
 
 pub storage_branch-requires-clause-ss : goal.storage_branch-requires-clause-ss

@@ -1,5 +1,4 @@
-use Rattle.problem_builder.proofs.Common.{Bool, None, Some, Option, FixedSource, Inputs, cond, sym, ap, ◌∙◌, FromStorage, known_head, fixed_over, branches_of}
-use Rattle.problem_builder.proofs.Common.{option_map, period_at, Storage}
+use Rattle.problem_builder.proofs.Common.{Bool, None, Some, Option, FixedSource, Inputs, cond, sym, ap, ◌∙◌, FromStorage, known_head, fixed_over, branches_of, option_map, period_at, Storage}
 use Rattle.problem_builder.proofs.stored.stored_branch.Goals as goal
 
 -- the source of stored water by whether storage counts and whether the period is steady

@@ -1,6 +1,5 @@
 use Rattle.problem_builder.proofs.Common.{◌∙◌, sym, subst, inl, Dec, bottom_at, lowest, IsThick}
-use Rattle.problem_builder.proofs.Elevations.{bed_valid}
-use Rattle.problem_builder.proofs.Halves.{bed_some}
+use Rattle.problem_builder.proofs.{Elevations.bed_valid, Halves.bed_some}
 use Rattle.conductance_bounds.specs.{span as span_between}
 use Rattle.problem_builder.proofs.tables.bed_at.Goals as goal
 

@@ -1,5 +1,4 @@
-use Rattle.problem_hull.proofs.OneHull.{hull_of_one}
-use Rattle.problem_hull.proofs.Refusals.{hull_excludes}
+use Rattle.problem_hull.proofs.{OneHull.hull_of_one, Refusals.hull_excludes}
 use Rattle.problem_hull.proofs.laws.one_hull_or_refusal.Goals as goal
 
 pub returns : goal.returns

@@ -1,5 +1,4 @@
-use Rattle.relax_worker.proofs.Common.{◌<◌, ◌∙◌, length, length-set, FitsSigned, rules, sym, arith, w64, to_z-of_z, no_link, link_at, seen_on, seen_of}
-use Rattle.relax_worker.proofs.Common.{moves_no_looser, no_looser_trans}
+use Rattle.relax_worker.proofs.Common.{◌<◌, ◌∙◌, length, length-set, FitsSigned, rules, sym, arith, w64, to_z-of_z, no_link, link_at, seen_on, seen_of, moves_no_looser, no_looser_trans}
 use Rattle.relax_worker.proofs.Loading.{load_more}
 use Rattle.relax_worker.proofs.workers.load_links.Goals as goal
 

@@ -1,5 +1,5 @@
-use Rattle.relax_worker.proofs.Common.{◌≡◌, ℕ, ◌+◌, ◌-◌, ◌%◌, ◌<◌, length, refl, sym, ap, ◌∙◌, subst, arith, Side, IsProblem, AreNoLooser, is_side, HeadSeat}
-use Rattle.relax_worker.proofs.Common.{HasMoved, IsSeatOf, seen_on, seen_of, same_no_looser, no_looser_trans}
+use Rattle.relax_worker.proofs.Common.{◌≡◌, ℕ, ◌+◌, ◌-◌, ◌%◌, ◌<◌, length, refl, sym, ap, ◌∙◌, subst, arith, Side, IsProblem, AreNoLooser, is_side, HeadSeat, HasMoved, IsSeatOf, seen_on, seen_of}
+use Rattle.relax_worker.proofs.Common.{same_no_looser, no_looser_trans}
 use native.Mathlib.Nat.{mod-eq_of_lt}
 use Rattle.relax_worker.proofs.Gaining.{own_step}
 use Rattle.relax_worker.proofs.workers.own_turns.Goals.{then-cell-workers, else-cell-workers}

@@ -1,7 +1,6 @@
-use Rattle.relax_worker.proofs.Common.{◌<◌, ◌∙◌, List, length, All, FitsSigned, rules, sym, subst, w64, to_z-of_z, Link, Entries, IsProblem, AreNoLooser}
-use Rattle.relax_worker.proofs.Common.{IsAsTight, IsRelaxedOn, ends_in_range, is_side, seen_on, seen_of, moves_no_looser, no_looser_trans, tighter_second}
-use Rattle.relax_worker.proofs.Gaining.{turn_gains}
-use Rattle.relax_worker.proofs.Loading.{tighter_no_looser}
+use Rattle.relax_worker.proofs.Common.{◌<◌, ◌∙◌, List, length, All, FitsSigned, rules, sym, subst, w64, to_z-of_z, Link, Entries, IsProblem, AreNoLooser, IsAsTight, IsRelaxedOn, ends_in_range}
+use Rattle.relax_worker.proofs.Common.{is_side, seen_on, seen_of, moves_no_looser, no_looser_trans, tighter_second}
+use Rattle.relax_worker.proofs.{Gaining.turn_gains, Loading.tighter_no_looser}
 use Rattle.relax_worker.proofs.workers.relax_cell.Goals as goal
 
 loads_loosen_nothing : (c : goal.After-exchange) → AreNoLooser c.args.table.now.problem.now (seen_of c.args.seat.now) (seen_of c.load_links.new.seat)

@@ -1,7 +1,5 @@
-use Rattle.run_puts.proofs.Common.{◌≡◌, ◌<◌, ◌≤◌, ◌++◌, List, length, get_or, Some, None, subst, refl, Put, Text, end_line, IsLast, first_not_ok, Status}
-use Rattle.run_puts.proofs.Common.{JobEnd}
-use Rattle.run_puts.proofs.Pieces.{puts_are_joined, put_was}
-use Rattle.run_puts.proofs.Batches.{one_more, stops_at, ends_whole, text_at, all_texts}
+use Rattle.run_puts.proofs.Common.{◌≡◌, ◌<◌, ◌≤◌, ◌++◌, List, length, get_or, Some, None, subst, refl, Text, end_line, IsLast, Status, JobEnd}
+use Rattle.run_puts.proofs.{Pieces.puts_are_joined, Pieces.put_was, Batches.one_more, Batches.stops_at, Batches.ends_whole, Batches.text_at, Batches.all_texts}
 use Rattle.run_puts.proofs.puts.put_ends.Goals as goal
 
 pub loop-end-preserved : goal.loop-end-preserved

@@ -1,6 +1,5 @@
 use Rattle.scaled_decimal.proofs.Common.{pos, neg_ℤ, refl, arith, ints}
-use Rattle.scaled_decimal.proofs.Nearest.{down_same}
-use Rattle.scaled_decimal.proofs.Products.{zero_is_at_most, zero_down, nothing_same, exact_from_at}
+use Rattle.scaled_decimal.proofs.{Nearest.down_same, Products.zero_is_at_most, Products.zero_down, Products.nothing_same, Products.exact_from_at}
 use Rattle.scaled_decimal.proofs.convert.of_units_dn.Goals as goal
 
 pub returns-then-units-eq0-clause-nearest : goal.returns-then-units-eq0-clause-nearest

@@ -1,6 +1,5 @@
 use Rattle.scaled_decimal.proofs.Common.{◌+◌, arith, add-one, ints, pow-suc, pow-add, Same-trans, ten_pos}
-use Rattle.scaled_decimal.proofs.Nearest.{carry_keeps_ratio}
-use Rattle.scaled_decimal.proofs.Between.{few_places}
+use Rattle.scaled_decimal.proofs.{Nearest.carry_keeps_ratio, Between.few_places}
 use Rattle.scaled_decimal.proofs.convert.to_digits.Goals as goal
 
 pub overflow_sub-e : goal.overflow_sub-e

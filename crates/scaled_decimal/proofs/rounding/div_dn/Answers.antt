@@ -1,7 +1,5 @@
 use Rattle.scaled_decimal.proofs.Common.{refl, arith, pos, ints}
-use Rattle.scaled_decimal.proofs.Products.{zero_down}
-use Rattle.scaled_decimal.proofs.Monotone.{quotient_from, no_quotient}
-use Rattle.scaled_decimal.proofs.Sizes.{HasSize-within}
+use Rattle.scaled_decimal.proofs.{Products.zero_down, Monotone.quotient_from, Monotone.no_quotient, Sizes.HasSize-within}
 use Rattle.scaled_decimal.proofs.rounding.div_dn.Goals as goal
 
 pub returns-then-a-eq0-clause-nearest : goal.returns-then-a-eq0-clause-nearest

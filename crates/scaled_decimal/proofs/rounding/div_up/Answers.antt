@@ -1,7 +1,5 @@
 use Rattle.scaled_decimal.proofs.Common.{refl, arith, pos, ints}
-use Rattle.scaled_decimal.proofs.Products.{zero_up}
-use Rattle.scaled_decimal.proofs.Monotone.{quotient_up_to, no_quotient}
-use Rattle.scaled_decimal.proofs.Sizes.{HasSize-within}
+use Rattle.scaled_decimal.proofs.{Products.zero_up, Monotone.quotient_up_to, Monotone.no_quotient, Sizes.HasSize-within}
 use Rattle.scaled_decimal.proofs.rounding.div_up.Goals as goal
 
 pub returns-then-a-eq0-clause-nearest : goal.returns-then-a-eq0-clause-nearest

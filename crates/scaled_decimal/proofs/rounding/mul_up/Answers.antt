@@ -1,6 +1,5 @@
 use Rattle.scaled_decimal.proofs.Common.{◌*◌, refl, arith, pos, ints}
-use Rattle.scaled_decimal.proofs.Products.{exact_up_to, zero_up, no_product, scaled_times_at}
-use Rattle.scaled_decimal.proofs.Sizes.{HasSize-within}
+use Rattle.scaled_decimal.proofs.{Products.exact_up_to, Products.zero_up, Products.no_product, Products.scaled_times_at, Sizes.HasSize-within}
 use Rattle.scaled_decimal.proofs.rounding.mul_up.Goals as goal
 
 pub returns-then-product-eq0-clause-nearest : goal.returns-then-product-eq0-clause-nearest

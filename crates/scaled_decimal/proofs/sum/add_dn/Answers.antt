@@ -1,7 +1,5 @@
 use Rattle.scaled_decimal.proofs.Common.{arith, subst, ints, clamps, IsDown, plus-comm}
-use Rattle.scaled_decimal.proofs.Nearest.{down_self}
-use Rattle.scaled_decimal.proofs.Sizes.{HasSize-wider, HasSize-within}
-use Rattle.scaled_decimal.proofs.Products.{left_nothing, right_nothing, more_plus, more_plus_left}
+use Rattle.scaled_decimal.proofs.{Nearest.down_self, Sizes.HasSize-wider, Sizes.HasSize-within, Products.left_nothing, Products.right_nothing, Products.more_plus, Products.more_plus_left}
 use Rattle.scaled_decimal.proofs.sum.add_dn.Goals as goal
 
 pub returns-then-a-eq0-clause-nearest : goal.returns-then-a-eq0-clause-nearest

@@ -1,8 +1,5 @@
 use Rattle.scaled_decimal.proofs.Common.{arith, ints}
-use Rattle.scaled_decimal.proofs.Nearest.{nearest_down}
-use Rattle.scaled_decimal.proofs.Between.{below_ten, power_pos}
-use Rattle.scaled_decimal.proofs.Products.{exact_from, far_from, aligned_at}
-use Rattle.scaled_decimal.proofs.Sizes.{size_has_18_digits, sum_below}
+use Rattle.scaled_decimal.proofs.{Nearest.nearest_down, Between.below_ten, Between.power_pos, Products.exact_from, Products.far_from, Products.aligned_at, Sizes.size_has_18_digits, Sizes.sum_below}
 use Rattle.scaled_decimal.proofs.sum.sum_dn.Goals as goal
 
 pub round_dn-requires-clause-most : goal.round_dn-requires-clause-most

@@ -1,7 +1,5 @@
 use Rattle.scaled_decimal.proofs.Common.{◌+◌, ◌-◌, ◌*◌, arith, ints}
-use Rattle.scaled_decimal.proofs.Between.{below_ten, power_pos}
-use Rattle.scaled_decimal.proofs.Products.{exact_up_to, far_up_to, aligned_at}
-use Rattle.scaled_decimal.proofs.Sizes.{size_has_18_digits, sum_below, sum_digits}
+use Rattle.scaled_decimal.proofs.{Between.below_ten, Between.power_pos, Products.exact_up_to, Products.far_up_to, Products.aligned_at, Sizes.size_has_18_digits, Sizes.sum_below, Sizes.sum_digits}
 use Rattle.scaled_decimal.proofs.sum.sum_up.Goals as goal
 
 pub round_up-requires-else-gap-ge19-clause-digits : goal.round_up-requires-else-gap-ge19-clause-digits

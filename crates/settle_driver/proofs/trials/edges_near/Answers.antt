@@ -1,5 +1,5 @@
-use Rattle.settle_driver.proofs.Common.{◌≡◌, ℕ, ◌+◌, ◌<◌, List, [], ◌∷◌, ◌++◌, length, ℤ, sym, subst, arith, rules, FitsSigned, w64, ints, to_z-of_z, head_at}
-use Rattle.settle_driver.proofs.Common.{Side, IsHeadFrom, below_more, pos, get_or_at, get_or-append}
+use Rattle.settle_driver.proofs.Common.{◌≡◌, ℕ, ◌+◌, ◌<◌, List, [], ◌∷◌, ◌++◌, length, ℤ, sym, subst, arith, rules, FitsSigned, w64, ints, to_z-of_z, head_at, Side, IsHeadFrom, below_more, pos}
+use Rattle.settle_driver.proofs.Common.{get_or_at, get_or-append}
 use Rattle.settle_driver.proofs.trials.edges_near.Goals as goal
 
 edge_more : (side : Side) (es old new : List ℤ) (i : ℕ) (z : ℤ) → new ≡ old ++ z ∷ [] → length old ≡ i → IsHeadFrom side (head_at es i) z →

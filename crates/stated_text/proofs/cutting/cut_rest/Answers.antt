@@ -1,6 +1,5 @@
 use Rattle.stated_text.proofs.Common.{ap, cut_after, or_bad, rules, Ok, ◌≡◌, ◌∙◌, bytes_eq, codes, false, length, lines, refl, sym}
-use Rattle.stated_text.proofs.CutTexts.{at_end, at_nothing, no_lines, then_file, then_line}
-use Rattle.stated_text.proofs.Faults.{bad_stops}
+use Rattle.stated_text.proofs.{CutTexts.at_end, CutTexts.at_nothing, CutTexts.no_lines, CutTexts.then_file, CutTexts.then_line, Faults.bad_stops}
 use Rattle.stated_text.proofs.cutting.cut_rest.Goals.{in-Some+in_ok-push-2, in_default+in_ok-add}
 use Rattle.stated_text.proofs.cutting.cut_rest.Goals as goal
 

@@ -1,6 +1,5 @@
 use Rattle.stated_text.proofs.Common.{rules, ◌≡◌, begins_part, lines, true, err_from_is_err_and}
-use Rattle.stated_text.proofs.Readings.{no_first, no_second, one_part, two_parts}
-use Rattle.stated_text.proofs.Stands.{parts_stand_in_text}
+use Rattle.stated_text.proofs.{Readings.no_first, Readings.no_second, Readings.one_part, Readings.two_parts, Stands.parts_stand_in_text}
 use Rattle.stated_text.proofs.parts.read_parts.Goals as goal
 
 pub returns-in_err-first-clause-reads : goal.returns-in_err-first-clause-reads

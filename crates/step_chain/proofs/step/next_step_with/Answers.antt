@@ -1,8 +1,6 @@
-use Rattle.step_chain.proofs.Common.{List, subst, sym, true, Bound, IsBefore, Solved, AreHeadsOf, IsCertificate, lower_at, PairKind, IsPairOf, edges_by}
-use Rattle.step_chain.proofs.Common.{upper_at, digits_of}
+use Rattle.step_chain.proofs.Common.{List, subst, sym, true, Bound, IsBefore, Solved, AreHeadsOf, IsCertificate, lower_at, PairKind, IsPairOf, edges_by, upper_at, digits_of}
 use Rattle.std.proofs.lemmas.Result.{err_from_is_err_and}
-use Rattle.step_chain.proofs.Refusals.{settle_fails}
-use Rattle.step_chain.proofs.Limits.{AreParts, is_step, leads_or_rests, led_by}
+use Rattle.step_chain.proofs.{Refusals.settle_fails, Limits.AreParts, Limits.is_step, Limits.leads_or_rests, Limits.led_by}
 use Rattle.step_chain.proofs.step.next_step_with.Goals.{After-heads_fit}
 use Rattle.step_chain.proofs.step.next_step_with.Given as given
 use Rattle.step_chain.proofs.step.next_step_with.Goals as goal

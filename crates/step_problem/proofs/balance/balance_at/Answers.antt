@@ -1,5 +1,5 @@
-use Rattle.step_problem.proofs.Common.{◌≡◌, ◌∙◌, ◌^◌, ◌+ℤ◌, ℤ, refl, ap, arith, ints, rules, FitsSigned, IsMagnitudeAtMost, w128, w64, to_z-of_z, ends_in}
-use Rattle.step_problem.proofs.Common.{total, flow_bound, link_flow, fixed_flow, river_flow, drain_flow, evap_flow}
+use Rattle.step_problem.proofs.Common.{◌≡◌, ◌∙◌, ◌^◌, ◌+ℤ◌, ℤ, refl, ap, arith, ints, rules, FitsSigned, IsMagnitudeAtMost, w128, w64, to_z-of_z, ends_in, total, flow_bound, link_flow, fixed_flow}
+use Rattle.step_problem.proofs.Common.{river_flow, drain_flow, evap_flow}
 use Rattle.step_problem.proofs.balance.balance_at.Goals as goal
 
 both_fit : (a b : ℤ) → IsMagnitudeAtMost a (2 ^ 125) → IsMagnitudeAtMost b (2 ^ 125) → FitsSigned w128 (a +ℤ b)

@@ -1,7 +1,5 @@
-use Rattle.step_problem.proofs.Common.{◌∙◌, ◌^◌, ◌*ℤ◌, ◌≡◌, ◌<◌, ◌≤◌, ℕ, ℤ, pos, arith, sym, FitsSigned, to_z, ◌*◌, w128, w64, ints, to_z-of_z, to_z_pos}
-use Rattle.step_problem.proofs.Common.{IsMagnitudeAtMost, branch_flow, of_z, ◌-◌}
-use Rattle.step_problem.proofs.Sums.{FitsSigned-within, IsWithin-product}
-use Rattle.step_problem.proofs.Leasts.{flow_up, flow_down}
+use Rattle.step_problem.proofs.Common.{◌∙◌, ◌^◌, ◌*ℤ◌, ◌≡◌, ◌<◌, ◌≤◌, ℕ, ℤ, pos, arith, sym, FitsSigned, to_z, ◌*◌, w128, w64, ints, to_z-of_z, to_z_pos, IsMagnitudeAtMost, branch_flow, of_z, ◌-◌}
+use Rattle.step_problem.proofs.{Sums.FitsSigned-within, Sums.IsWithin-product, Leasts.flow_up, Leasts.flow_down}
 use Rattle.step_problem.proofs.flow.branch_flow.Goals.{then-difference-ge0, else-difference-ge0}
 use Rattle.step_problem.proofs.flow.branch_flow.Goals as goal
 

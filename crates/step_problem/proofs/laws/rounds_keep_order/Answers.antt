@@ -1,5 +1,4 @@
-use Rattle.step_problem.proofs.BothSides.{low_side, high_side}
-use Rattle.step_problem.proofs.Sides.{rounds_keep}
+use Rattle.step_problem.proofs.{BothSides.low_side, BothSides.high_side, Sides.rounds_keep}
 use Rattle.step_problem.proofs.laws.rounds_keep_order.Goals as goal
 
 pub returns : goal.returns

@@ -1,5 +1,5 @@
-use Rattle.water_conductances.proofs.Common.{◌≡◌, ◌+◌, ap, sym, subst, arith, ◌∙◌, cell_below_means_layers, delc_positive, delr_positive, Bed, IsBed}
-use Rattle.water_conductances.proofs.Common.{small_pair, vertical_of, IsPositive, dec_at, layer_size, one, vkcb_at, kept_pair, span_in, layer_half}
+use Rattle.water_conductances.proofs.Common.{◌≡◌, ◌+◌, ap, sym, subst, arith, ◌∙◌, cell_below_means_layers, delc_positive, delr_positive, Bed, IsBed, small_pair, vertical_of, IsPositive, dec_at}
+use Rattle.water_conductances.proofs.Common.{layer_size, one, vkcb_at, kept_pair, span_in, layer_half}
 use Rattle.problem_builder.proofs.Halves.{bed_fits}
 use Rattle.water_conductances.proofs.Pairs.{bed_is}
 unfoldable use Rattle.conductance_bounds.specs.{capped_pair}

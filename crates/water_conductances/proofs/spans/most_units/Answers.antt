@@ -1,6 +1,5 @@
-use Rattle.water_conductances.proofs.Common.{FitsSigned, rules, arith, ap, ◌≡◌, ◌≤◌, ◌^◌, ◌*ℤ◌, ◌-ℤ◌, ◌∙◌, ℤ, pos, neg_ℤ, sym, subst, ints, to_z-of_z, int_min}
-use Rattle.water_conductances.proofs.Common.{w128, w64, Lower, Upper, unsigned_abs, Dec, IsDec, IsSignedCeiling, IsSignedFloor, number, bottom_at, top_at}
-use Rattle.water_conductances.proofs.Common.{bottom_valid, top_valid}
+use Rattle.water_conductances.proofs.Common.{FitsSigned, rules, arith, ap, ◌≡◌, ◌≤◌, ◌^◌, ◌*ℤ◌, ◌-ℤ◌, ◌∙◌, ℤ, pos, neg_ℤ, sym, subst, ints, to_z-of_z, int_min, w128, w64, Lower, Upper, unsigned_abs}
+use Rattle.water_conductances.proofs.Common.{Dec, IsDec, IsSignedCeiling, IsSignedFloor, number, bottom_at, top_at, bottom_valid, top_valid}
 use Rattle.water_conductances.proofs.Units.{bottom_floor, top_ceiling}
 unfoldable use Rattle.conductance_bounds.specs.{units_at}
 use Rattle.water_conductances.proofs.spans.most_units.Goals as goal

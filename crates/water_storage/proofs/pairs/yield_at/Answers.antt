@@ -1,5 +1,5 @@
-use Rattle.water_storage.proofs.Common.{◌≡◌, sym, ap, ◌∙◌, subst, None, size, Period, dec_at, period_at, IsPositive, IsNotNegative, small_pair, storage_of}
-use Rattle.water_storage.proofs.Common.{storage_term, thickness, kept_pair, with_yield}
+use Rattle.water_storage.proofs.Common.{◌≡◌, sym, ap, ◌∙◌, subst, None, size, Period, dec_at, period_at, IsPositive, IsNotNegative, small_pair, storage_of, storage_term, thickness, kept_pair}
+use Rattle.water_storage.proofs.Common.{with_yield}
 use Rattle.conductance_bounds.proofs.Ready.{delc_positive, delr_positive}
 use Rattle.problem_builder.proofs.ValidEntries.{period_valid}
 unfoldable use Rattle.conductance_bounds.specs.{capped_pair}

@@ -1,5 +1,4 @@
-use Rattle.water_storage.proofs.Common.{FitsSigned, rules, arith, ints, ap, ◌≡◌, ◌+ℤ◌, ◌∙◌, to_z-of_z, w128, Bound, fall_on, greater_bound, lesser_bound}
-use Rattle.water_storage.proofs.Common.{top_bound, branch_flow}
+use Rattle.water_storage.proofs.Common.{FitsSigned, rules, arith, ints, ap, ◌≡◌, ◌+ℤ◌, ◌∙◌, to_z-of_z, w128, Bound, fall_on, greater_bound, lesser_bound, top_bound, branch_flow}
 use Rattle.water_storage.proofs.stored.crossing_flow.Goals as goal
 
 pub returns-clause-value : goal.returns-clause-value

@@ -1,5 +1,5 @@
-use Rattle.water_storage.proofs.Common.{FitsSigned, rules, to_z-of_z, w128, number, ℤ, ◌≡◌, ◌^◌, ◌<◌, sym, subst, top_at, unsigned_abs, Dec, IsDec}
-use Rattle.water_storage.proofs.Common.{IsSignedCeiling, IsSignedFloor, bottom_at, Lower, Upper}
+use Rattle.water_storage.proofs.Common.{FitsSigned, rules, to_z-of_z, w128, number, ℤ, ◌≡◌, ◌^◌, ◌<◌, sym, subst, top_at, unsigned_abs, Dec, IsDec, IsSignedCeiling, IsSignedFloor, bottom_at, Lower}
+use Rattle.water_storage.proofs.Common.{Upper}
 use Rattle.problem_builder.proofs.Elevations.{top_valid}
 use Rattle.water_storage.proofs.Elevations.{ceiling_small, floor_small, top_is}
 unfoldable use Rattle.conductance_bounds.specs.{units_at}

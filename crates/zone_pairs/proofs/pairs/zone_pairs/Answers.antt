@@ -1,7 +1,6 @@
 use Rattle.zone_pairs.proofs.Common.{◌≡◌, ℕ, ◌<◌, ◌||◌, true, refl, sym, ap, ◌∙◌, arith, map, share_face, zone_pairs, pair_of}
 use Rattle.std.proofs.lemmas.Result.{IfOk-weaker}
-use Rattle.zone_pairs.proofs.InOrder.{has, pairs_are}
-use Rattle.zone_pairs.proofs.Joined.{shared_small}
+use Rattle.zone_pairs.proofs.{InOrder.has, InOrder.pairs_are, Joined.shared_small}
 use Rattle.zone_pairs.proofs.pairs.zone_pairs.Goals as goal
 
 pub returns : goal.returns

@@ -1,7 +1,6 @@
-use Rattle.head_table.proofs.Common.{rules, ◌<◌, ◌∙◌, List, length, sym, subst, arith, ◌≡◌, Entries, IsHead, IsProblem, relaxed_head, IsRelaxedOn, IsAsTight}
-use Rattle.head_table.proofs.Common.{is_side, tighter_of, to_z-of_z, w64, SFits, to_z, of_z, seen_on, head_of_word}
-use Rattle.head_table.proofs.Seeing.{exchanges, sound_seen}
-use Rattle.head_table.proofs.WordReads.{tighter_is, word_within}
+use Rattle.head_table.proofs.Common.{rules, ◌<◌, ◌∙◌, List, length, sym, subst, arith, ◌≡◌, Entries, IsHead, IsProblem, relaxed_head, IsRelaxedOn, IsAsTight, is_side, tighter_of, to_z-of_z, w64}
+use Rattle.head_table.proofs.Common.{SFits, to_z, of_z, seen_on, head_of_word}
+use Rattle.head_table.proofs.{Seeing.exchanges, Seeing.sound_seen, WordReads.tighter_is, WordReads.word_within}
 use Rattle.head_table.proofs.table.HeadTable.exchange.Goals as goal
 
 pub word_of_head-word-requires : goal.word_of_head-word-requires

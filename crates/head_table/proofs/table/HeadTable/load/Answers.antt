@@ -1,6 +1,5 @@
 use Rattle.head_table.proofs.Common.{rules, ◌<◌, List, length, sym, subst, arith, Entries, IsProblem}
-use Rattle.head_table.proofs.WordReads.{word_within}
-use Rattle.head_table.proofs.Seeing.{looks}
+use Rattle.head_table.proofs.{WordReads.word_within, Seeing.looks}
 use Rattle.head_table.proofs.table.HeadTable.load.Goals as goal
 
 pub load-found-requires : goal.load-found-requires

@@ -1,5 +1,5 @@
-use Rattle.head_table.proofs.Common.{rules, ℕ, ◌≡◌, ◌<◌, length, ℤ, sym, ◌∙◌, subst, arith, to_z-of_z, w64, SFits, to_z, of_z, Bound, Side, Low, High, head_of}
-use Rattle.head_table.proofs.Common.{edge_on, IsNoTighterThanSettled, barrier_of, seen_on, seen_of}
+use Rattle.head_table.proofs.Common.{rules, ℕ, ◌≡◌, ◌<◌, length, ℤ, sym, ◌∙◌, subst, arith, to_z-of_z, w64, SFits, to_z, of_z, Bound, Side, Low, High, head_of, edge_on, IsNoTighterThanSettled}
+use Rattle.head_table.proofs.Common.{barrier_of, seen_on, seen_of}
 use Rattle.head_table.proofs.WordReads.{moves_no_looser, no_looser_trans, shows_step, holds_step}
 use Rattle.head_table.proofs.table.HeadTable.watch.Goals as goal
 

@@ -1,7 +1,5 @@
-use Rattle.listing_run.proofs.Common.{List, ◌+◌, Contains, arith, drop, refl, subst, sym, true, inr, Bound, TimeStep, StopsAt, IsSettledBy, RestsOrSettles}
-use Rattle.listing_run.proofs.Common.{RestsOrSettlesFirst}
-use Rattle.listing_run.proofs.Moves.{moves_by, solved_by, step_stops}
-use Rattle.listing_run.proofs.Settled.{rests_or_settles, led_problem_settles}
+use Rattle.listing_run.proofs.Common.{List, ◌+◌, Contains, arith, drop, refl, subst, sym, true, inr, Bound, TimeStep, StopsAt, IsSettledBy, RestsOrSettles, RestsOrSettlesFirst}
+use Rattle.listing_run.proofs.{Moves.moves_by, Moves.solved_by, Moves.step_stops, Settled.rests_or_settles, Settled.led_problem_settles}
 use Rattle.listing_run.proofs.steps.Steps.next.Goals as goal
 
 pub next_step_with-requires-clause-time : goal.next_step_with-requires-clause-time

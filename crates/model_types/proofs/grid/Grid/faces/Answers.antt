@@ -1,5 +1,4 @@
-use Rattle.model_types.proofs.Leads.{within_of}
-use Rattle.model_types.proofs.NeighbourFaces.{ends_are}
+use Rattle.model_types.proofs.{Leads.within_of, NeighbourFaces.ends_are}
 use Rattle.model_types.proofs.grid.Grid.faces.Goals as goal
 
 pub returns-clause-within : goal.returns-clause-within

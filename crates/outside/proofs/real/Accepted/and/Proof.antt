@@ -1,9 +1,8 @@
 -- `and` makes the empty struct, with the bytes that its clause names. Assumes `Logic`.
-use Rattle.outside.proofs.Common.{List, [], ◌∷◌, ◌++◌, length, refl, Ura, Fn, Args, a_type, Val, vptr, inst_fn, SProp, ent, Memory, Routine, Calls, Loops, WpFn}
-use Rattle.outside.proofs.Common.{Tables, Fun, tables, WpFn-mono, Logic, ‵, raw, ◌⊛◌, prop, ◌$◌, ◌∵◌, !, qed, move, keep, split, fsplit, fjoin, feq_l, flt_l}
-use Rattle.outside.proofs.Common.{regoal, suffices, done, agg, enter, returns, and_then, no_more, alloc_all, pass_all, free_all, look_at, get, sets, yes}
-use Rattle.outside.proofs.Common.{RattleType, owns, RefOf, SliceRefOf, u8, Is, param, layouts, plain, types_at, nothing, owned, makes, Clauses, Ended, closing}
-use Rattle.outside.proofs.Common.{alive, Meets, triple_of, entered, says, Stays, stay_dropped, walk_of, ends_at, walk_Meets, Goes-dropped}
+use Rattle.outside.proofs.Common.{List, [], ◌∷◌, ◌++◌, length, refl, Ura, Fn, Args, a_type, Val, vptr, inst_fn, SProp, ent, Memory, Routine, Calls, Loops, WpFn, Tables, Fun, tables, WpFn-mono, Logic}
+use Rattle.outside.proofs.Common.{‵, raw, ◌⊛◌, prop, ◌$◌, ◌∵◌, !, qed, move, keep, split, fsplit, fjoin, feq_l, flt_l, regoal, suffices, done, agg, enter, returns, and_then, no_more, alloc_all}
+use Rattle.outside.proofs.Common.{pass_all, free_all, look_at, get, sets, yes, RattleType, owns, RefOf, SliceRefOf, u8, Is, param, layouts, plain, types_at, nothing, owned, makes, Clauses, Ended}
+use Rattle.outside.proofs.Common.{closing, alive, Meets, triple_of, entered, says, Stays, stay_dropped, walk_of, ends_at, walk_Meets, Goes-dropped}
 use contract.Running.{tables_of}
 use types.Kit.{drop}
 use denote.Slice.{slice_val}

@@ -1,9 +1,8 @@
 -- `nothing` makes the empty struct, with the writer that its clause names. Assumes `Logic`.
-use Rattle.outside.proofs.Common.{List, [], ◌∷◌, ◌++◌, refl, Ura, Fn, Args, a_type, Val, vptr, inst_fn, SProp, ent, Memory, Routine, Calls, Loops, WpFn, Tables}
-use Rattle.outside.proofs.Common.{Fun, tables, WpFn-mono, Logic, ‵, raw, ◌⊛◌, prop, ◌$◌, ◌∵◌, !, qed, move, keep, split, fsplit, fjoin, feq_l, regoal, suffices}
-use Rattle.outside.proofs.Common.{done, agg, enter, returns, and_then, no_more, alloc_all, pass_all, free_all, look_at, get, sets, yes, RattleType, owns, RefOf}
-use Rattle.outside.proofs.Common.{Is, param, layouts, plain, types_at, nothing, owned, makes, Clauses, Ended, closing, alive, Meets, triple_of, entered, says}
-use Rattle.outside.proofs.Common.{Stays, stay_dropped, walk_of, ends_at, walk_Meets, Goes-dropped}
+use Rattle.outside.proofs.Common.{List, [], ◌∷◌, ◌++◌, refl, Ura, Fn, Args, a_type, Val, vptr, inst_fn, SProp, ent, Memory, Routine, Calls, Loops, WpFn, Tables, Fun, tables, WpFn-mono, Logic, ‵, raw}
+use Rattle.outside.proofs.Common.{◌⊛◌, prop, ◌$◌, ◌∵◌, !, qed, move, keep, split, fsplit, fjoin, feq_l, regoal, suffices, done, agg, enter, returns, and_then, no_more, alloc_all, pass_all, free_all}
+use Rattle.outside.proofs.Common.{look_at, get, sets, yes, RattleType, owns, RefOf, Is, param, layouts, plain, types_at, nothing, owned, makes, Clauses, Ended, closing, alive, Meets, triple_of}
+use Rattle.outside.proofs.Common.{entered, says, Stays, stay_dropped, walk_of, ends_at, walk_Meets, Goes-dropped}
 use contract.Running.{tables_of}
 use types.Kit.{drop}
 use Rattle.outside.proofs.Made.{none, one, one_made}

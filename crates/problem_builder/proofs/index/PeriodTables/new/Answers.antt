@@ -1,8 +1,6 @@
-use Rattle.problem_builder.proofs.Common.{ℕ, subst, ap, ◌∙◌, refl, arith, no_bound, NoFlow, Period, cell_count, entries_of, entries, AreLocalBounds, local_in}
-use Rattle.problem_builder.proofs.Common.{◌≡◌, ◌-◌, Filled, IsKind, IsIndex, IsKept, AreEvenStorages}
-use Rattle.problem_builder.proofs.CellTables.{kinds_filled}
-use Rattle.problem_builder.proofs.PeriodMade.{filled_as, named_as, period_as}
-use Rattle.problem_builder.proofs.ValidEntries.{entries_in}
+use Rattle.problem_builder.proofs.Common.{ℕ, subst, ap, ◌∙◌, refl, arith, no_bound, NoFlow, Period, cell_count, entries_of, entries, AreLocalBounds, local_in, ◌≡◌, ◌-◌, Filled, IsKind, IsIndex}
+use Rattle.problem_builder.proofs.Common.{IsKept, AreEvenStorages}
+use Rattle.problem_builder.proofs.{CellTables.kinds_filled, PeriodMade.filled_as, PeriodMade.named_as, PeriodMade.period_as, ValidEntries.entries_in}
 use Rattle.problem_builder.proofs.index.PeriodTables.new.Goals as goal
 
 pub of_period-requires-clause-entries : goal.of_period-requires-clause-entries

@@ -1,5 +1,4 @@
-use Rattle.problem_builder.proofs.Common.{◌∷◌, [], ◌<◌, None, List, length, map, set, ap, subst, arith, get_or_read, AreAppended, LocalBounds, length-map}
-use Rattle.problem_builder.proofs.Common.{kept_bounds}
+use Rattle.problem_builder.proofs.Common.{◌∷◌, [], ◌<◌, None, List, length, map, set, ap, subst, arith, get_or_read, AreAppended, LocalBounds, length-map, kept_bounds}
 use Rattle.problem_builder.proofs.Appended.{kept_one}
 use Rattle.problem_builder.proofs.local.EntriesByCell.add.Goals as goal
 

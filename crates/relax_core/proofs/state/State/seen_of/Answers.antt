@@ -1,6 +1,5 @@
 use Rattle.relax_core.proofs.Common.{sym, subst, ap, AreWords, Core}
-use Rattle.relax_core.proofs.Ranges.{seen_in_range}
-use Rattle.relax_core.proofs.Views.{seen_read}
+use Rattle.relax_core.proofs.{Ranges.seen_in_range, Views.seen_read}
 use Rattle.relax_core.proofs.state.State.seen_of.Goals as goal
 
 pub returns-clause-words : goal.returns-clause-words

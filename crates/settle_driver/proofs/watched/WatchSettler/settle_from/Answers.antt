@@ -1,5 +1,4 @@
-use Rattle.settle_driver.proofs.Common.{true, false, ◌≡◌, ℕ, ◌+◌, ◌<◌, arith, sym, ◌∙◌, subst, ap, List, MatchOption, not, Bound, IsFirstOpen, AreWords}
-use Rattle.settle_driver.proofs.Common.{AreBothSettled}
+use Rattle.settle_driver.proofs.Common.{true, false, ◌≡◌, ℕ, ◌+◌, ◌<◌, arith, sym, ◌∙◌, subst, ap, List, MatchOption, not, Bound, IsFirstOpen, AreWords, AreBothSettled}
 use Rattle.settle_driver.proofs.Phasing.{where_none, ArePhased, phased_never, phased_again, phased_settles, settled_on_the_way}
 use Rattle.settle_driver.proofs.Viewing.{some_cell, no_turns, one_phase_more, phases_made}
 use Rattle.settle_driver.proofs.watched.WatchSettler.settle_from.Goals as goal

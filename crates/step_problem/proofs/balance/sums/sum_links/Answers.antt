@@ -1,5 +1,4 @@
-use Rattle.step_problem.proofs.Common.{◌+◌, ◌*◌, ◌^◌, rules, refl, arith, get_or, take, sum_by, pos, ◌+ℤ◌, FitsSigned, to_z, w128, w64, ints, to_z-of_z}
-use Rattle.step_problem.proofs.Common.{no_link, Link, IsMagnitudeAtMost, link_flow}
+use Rattle.step_problem.proofs.Common.{◌+◌, ◌*◌, ◌^◌, rules, refl, arith, get_or, take, sum_by, pos, ◌+ℤ◌, FitsSigned, to_z, w128, w64, ints, to_z-of_z, no_link, Link, IsMagnitudeAtMost, link_flow}
 use Rattle.step_problem.proofs.Sums.{total_step, within_step, FitsSigned-part, link_flow_is}
 use Rattle.step_problem.proofs.balance.sums.sum_links.Goals as goal
 
