@@ -23,10 +23,10 @@ module _ (k : Task) where
   pub under_way_at_first : (s : Steps) (first : Text) → first ≡ first_text (is_between k) k.decks.first k.digits → IsWalk k s → IsAtFirst k s → IsUnderWay s first []
   under_way_at_first s first same w f = record { values = []; here = record { before = []; all = ap (λ t. t ∷ []) (sym same); written = refl }; solved = none_solved k s w f }
 
-  pub under_way_more : {S : Type 0} (leads : S → List Entries → Edges → Bool → S → Type 0) (s t : Steps) (before after : S) (pending text : Text)
-      (puts tail : List Put) → IsUnderWay s pending puts → tail ≡ whole_put pending ∷ [] → IsNextText leads k s t before after text →
+  pub under_way_more : {S : Type 0} {leads : S → List Entries → Edges → Bool → S → Type 0} {s t : Steps} {before after : S} {pending text : Text}
+      {puts tail : List Put} → IsUnderWay s pending puts → tail ≡ whole_put pending ∷ [] → IsNextText leads k s t before after text →
       IsUnderWay t text (puts ++ tail)
-  under_way_more leads s t before after pending text puts tail u e n =
+  under_way_more {leads = leads} {s = s} {t = t} {before = before} {after = after} {pending = pending} {text = text} {puts = puts} {tail = tail} u e n =
       let P : List Text → Type 0 = λ ts. IsAt (IsListing k) (IsCutListing k) ts text (puts ++ tail) in
       record {
         values = u.values ++ (n.value ∷ []);
@@ -85,9 +85,9 @@ module _ (k : Task) (start : Text) where
   with_line values text line new was is =
       is ∙ (ap (λ t. t ++ line) was ∙ (append_assoc start (concat (first_pieces k values)) line ∙ ap (λ t. start ++ t) (sym (concat_one (first_pieces k values) line))))
 
-  pub text_more : {S : Type 0} (leads : S → List Entries → Edges → Bool → S → Type 0) (s t : Steps) (before after : S) (text step new : Text) →
+  pub text_more : {S : Type 0} {leads : S → List Entries → Edges → Bool → S → Type 0} {s t : Steps} {before after : S} {text step new : Text} →
       IsNextText leads k s t before after step → new ≡ text ++ step → IsText s text → IsText t new
-  text_more leads s t before after text step new n is so = record {
+  text_more {leads = leads} {s = s} {t = t} {before = before} {after = after} {text = text} {new = new} n is so = record {
     values = so.values ++ (n.value ∷ []);
     solved = one_more_solved k leads s t before after n.value so.values so.solved n.next;
     written = with_line so.values text (text_of k n.value) new so.written (is ∙ ap (λ x. text ++ x) n.written) ∙ ap (λ ts. start ++ concat ts) (begun_more k so.values n.value);

@@ -58,17 +58,17 @@ module _ {S : Type 0} (begins : S → ℕ → ℕ → S → Type 0) (leads : S �
       pub is_start : AreStartHeadsFor k.decks start
       pub reaches : (whole : Bool) (end : S) → Reaches begins leads stop k whole s.heads (times_left s) now end → Reaches begins leads stop k whole start (times k.decks.first) first end
 
-    pub none_settled : (s : Steps) (first : S) → IsWalk k s → IsAtFirst k s → AreSettledSoFar first s first
-    none_settled s first w f = record {
+    pub none_settled : {s : Steps} {first : S} → IsWalk k s → IsAtFirst k s → AreSettledSoFar first s first
+    none_settled {s = s} {first = first} w f = record {
       start = s.heads;
       is_start = f.start;
       reaches = λ whole end h. let P : List TimeStep → Type 0 = λ ts. Reaches begins leads stop k whole s.heads ts first end in subst P (all_left k s w f) h;
     }
 
-    pub one_more_settled : (first before told after : S) (s t : Steps) (at : TimeStep) (rest : List TimeStep) (text : Text) → times_left s ≡ at ∷ rest →
+    pub one_more_settled : {first before told after : S} {s t : Steps} {at : TimeStep} {rest : List TimeStep} {text : Text} → times_left s ≡ at ∷ rest →
         AreSettledSoFar first s before → begins before at.period at.step told → IsNextText leads k s t told after text → stop after ≡ None →
         AreSettledSoFar first t after
-    one_more_settled first before told after s t at rest text e so b text_is none =
+    one_more_settled {before = before} {told = told} {after = after} {s = s} {t = t} {at = at} {rest = rest} e so b text_is none =
         let n = text_is.next in
         let v = text_is.value in
         let B : TimeStep → Type 0 = λ a. begins before a.period a.step told in
@@ -83,8 +83,8 @@ module _ {S : Type 0} (begins : S → ℕ → ℕ → S → Type 0) (leads : S �
         }
 
     -- nothing more was done; with no time left the account is whole
-    pub reaches_so_far : (whole : Bool) (first now : S) (s : Steps) → (whole ≡ false) ⊎ (times_left s ≡ []) → AreSettledSoFar first s now → ReachesFirst begins leads stop k whole first now
-    reaches_so_far whole first now s end so = record { start = so.start; is_start = so.is_start; reaches = so.reaches whole now (rests s.heads (times_left s) now end) }
+    pub reaches_so_far : {whole : Bool} {first now : S} {s : Steps} → (whole ≡ false) ⊎ (times_left s ≡ []) → AreSettledSoFar first s now → ReachesFirst begins leads stop k whole first now
+    reaches_so_far {whole = whole} {now = now} {s = s} end so = record { start = so.start; is_start = so.is_start; reaches = so.reaches whole now (rests s.heads (times_left s) now end) }
 
     -- the problem of the next step, whatever the result of the call that solved it
     next_rests_or_settles : {X E : Type 0} (bytes : X → Text) (s t : Steps) (at : TimeStep) (rest : List TimeStep) (told after : S) (r : Result X E) → times_left s ≡ at ∷ rest →
@@ -95,10 +95,10 @@ module _ {S : Type 0} (begins : S → ℕ → ℕ → S → Type 0) (leads : S �
     next_rests_or_settles bytes s t at rest told after (Err fault) e n l = let P : List TimeStep → Type 0 = λ ts. RestsOrSettlesFirst leads k ts s.heads told after in subst P e l
 
     -- one step more was begun, whatever its result
-    pub reaches_more : {X E : Type 0} (bytes : X → Text) (s t : Steps) (at : TimeStep) (rest : List TimeStep) (first before told after : S) (r : Result X E) →
+    pub reaches_more : {X E : Type 0} (bytes : X → Text) {s : Steps} (t : Steps) {at : TimeStep} {rest : List TimeStep} {first before told after : S} (r : Result X E) →
         times_left s ≡ at ∷ rest → AreSettledSoFar first s before → begins before at.period at.step told →
         IfOk r (λ x. IsNextText leads k s t told after (bytes x)) → IfErr r (λ _. RestsOrSettlesFirst leads k (times_left s) s.heads told after) → ReachesFirst begins leads stop k false first after
-    reaches_more bytes s t at rest first before told after r e so b n l =
+    reaches_more bytes {s = s} t {at = at} {rest = rest} {before = before} {told = told} {after = after} r e so b n l =
         let R : List TimeStep → Type 0 = λ ts. Reaches begins leads stop k false s.heads ts before after in
         record {
           start = so.start;

@@ -107,9 +107,9 @@ pub first_same : (a b : TimeStep) (ss ts : List TimeStep) → a ∷ ss ≡ b ∷
 first_same a b ss ts e = ap (λ (l : List TimeStep). get_or l 0 a) e
 
 -- each step leaves one time less
-pub fewer_left : {S : Type 0} (leads : S → List Entries → Edges → Bool → S → Type 0) (k : Task) (s t : Steps) (before after : S) (text : Text) →
+pub fewer_left : {S : Type 0} {leads : S → List Entries → Edges → Bool → S → Type 0} {k : Task} {s t : Steps} {before after : S} {text : Text} →
     IsNextText leads k s t before after text → length (times_left t) < length (times_left s)
-fewer_left leads k s t before after text n = let left = ap (λ (ts : List TimeStep). length ts) n.next.time in omega (arith, left)
+fewer_left n = let left = ap (λ (ts : List TimeStep). length ts) n.next.time in omega (arith, left)
 
 module _ (k : Task) where
   pub all_left : (s : Steps) → IsWalk k s → IsAtFirst k s → times_left s ≡ times k.decks.first

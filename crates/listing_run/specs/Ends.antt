@@ -1,5 +1,5 @@
 -- Facts that the calls of a walk over the steps pass to each other.
-use Rattle.std.specs.Prelude.{Bool, List, Option, [], drop, length, ℕ, ◌+◌, ◌<◌, ◌∷◌, ◌≡◌, ◌≤◌, true, false}
+use Rattle.std.specs.Prelude.{Bool, IfSome, List, Option, [], drop, length, ℕ, ◌+◌, ◌<◌, ◌∷◌, ◌≡◌, ◌≤◌, true, false}
 use Rattle.outside.specs.{Put, declared.traits.SinkError.SinkError}
 use Rattle.step_problem.specs.{Entries.Entries, Edges, declared.heads.Bound.Bound, declared.place.NoBound.NoBound}
 use Rattle.model_types.specs.{times, declared.time_steps.TimeStep.TimeStep, declared.limits.Limits.TheVariants.Plain, declared.limits.Limits.TheVariants.Wide}
@@ -44,7 +44,7 @@ times_left s = drop s.done s.times
 
 -- the conditions on a walk
 pub record IsWalk (k : Task) (s : Steps) : Type 0 where
-  pub tables : AreTablesOf k s.tables
+  pub tables : IfSome s.tables (AreTablesOf k)
   pub times : s.times ≡ times k.decks.first
   pub few : length s.times ≤ 100000
   pub heads : AreGridHeads k.decks.first s.heads

@@ -2,8 +2,8 @@ pub mod Tasks
 pub mod Settlers
 pub mod Listing
 pub mod Ends
-pub use Rattle.listing_run.specs.Ends.{IsAtFirst, IsNext, IsNextText, IsStopEnd, IsTask, IsWalk, ListingExcludesRefusal, ListingIsOne, RefusalIsOne}
-pub use Rattle.listing_run.specs.Ends.{SettledListingIsClosed, StopsAt, WideKeepsListings, stop_of, times_left, with_heads}
+pub use Rattle.listing_run.specs.Ends.{AreTablesOf, IsAtFirst, IsNext, IsNextText, IsStopEnd, IsTask, IsWalk, ListingExcludesRefusal, ListingIsOne}
+pub use Rattle.listing_run.specs.Ends.{RefusalIsOne, SettledListingIsClosed, StopsAt, WideKeepsListings, stop_of, times_left, with_heads}
 pub use Rattle.listing_run.specs.Listing.{BoundAll, BoundChoices, Bounds, BoundsMoves, BoundsMovesOf, EnclosesHistories, HistoriesBound, IsCutListing}
 pub use Rattle.listing_run.specs.Listing.{IsListing, IsListingBeside, IsPushed, first_pieces, is_between, last_line, left, listed, listing, status_of, text_of}
 pub use Rattle.listing_run.specs.Listing.{time}

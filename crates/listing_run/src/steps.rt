@@ -1,6 +1,11 @@
 // A walk over the steps of a task.
-ghost use Rattle.std.specs.Prelude.{◌≡◌, ◌+◌, ◌<◌, ◌∷◌, [], drop, get_or, length, IfOk, IfErr, IfSome, MatchOption};
-ghost use Rattle.listing_run.specs.{IsAtFirst, IsNext, IsNextText, IsTask, IsWalk, StopsAt, times_left, with_heads, RestsOrSettlesFirst, pairs_of};
+ghost use Rattle.std.specs.Prelude.{◌≡◌, ◌+◌, ◌<◌, ◌∷◌, [], drop, get_or, length, ℕ, Contains, IfOk, IfErr, IfSome, MatchOption, MatchResult, true};
+ghost use Rattle.cell_relax.specs.{AreWords};
+ghost use Rattle.model_types.specs.{times};
+ghost use Rattle.problem_builder.specs.{AreGridHeads, IsActive, IsCellNamed};
+ghost use Rattle.deck_problems.specs.{EachChoice};
+ghost use Rattle.step_chain.specs.{IsStepBy, FailsBy, LeadsBy, LeadsOrRests, EnclosesMoves};
+ghost use Rattle.listing_run.specs.{IsAtFirst, IsNext, IsNextText, IsTask, IsWalk, StopsAt, times_left, with_heads, RestsOrSettlesFirst, pairs_of, AreTablesOf};
 
 use crate::solving::{StepFlows, Stop, heads_of, step_flows, stop_at};
 use crate::text::ListingEnd;
@@ -8,17 +13,72 @@ use deck_problems::{DeckTables, Decks, start_heads_for};
 use listing_io::write_step;
 use model_types::{Limits, Listed, TimeStep, times};
 use std::alloc::{AllocError, Global};
-use step_chain::next_step_with;
+use step_chain::{Solved, StepFault, last_step, next_step_with};
 use step_problem::{Bound, Settler};
 
-/// A walk over the steps of a task: the tables that the steps share, the times, the number of steps that are done, and
-/// the heads of all cells after them, which are STRT before the first step.
+/// A walk over the steps of a task: the tables that the steps share, which the first one makes and the last one drops, the
+/// times, the number of steps that are done, and the heads of all cells after them, which are STRT before the first step.
 #[derive(Drop)]
 pub struct Steps {
-    tables: DeckTables,
+    tables: Option<DeckTables>,
     times: Listed<TimeStep>,
     done: usize,
     heads: Listed<Bound>,
+}
+
+// The tables of a task, which are made where there are none yet.
+fn tables_of(
+    alloc: Global,
+    task: &Task,
+    tables: Option<DeckTables>,
+) -> Result<DeckTables, AllocError>
+    requires task { IsTask task.now }
+    requires tables { IfSome tables (AreTablesOf task.now) }
+    ensures { IfOk result (AreTablesOf task.now) }
+{
+    match tables {
+        Some(tables) => Ok(tables),
+        None => DeckTables::new(alloc, &task.decks, task.digits),
+    }
+}
+
+// The step at a time. The last one drops the tables before its problem is settled.
+fn solve<S: Settler>(
+    alloc: Global,
+    task: &Task,
+    tables: &mut Option<DeckTables>,
+    is_last: bool,
+    at: TimeStep,
+    old: &[Bound],
+    settler: &mut S,
+) -> Result<Solved, StepFault>
+    requires ready { S.ready settler.old }
+    requires task { IsTask task.now }
+    requires tables { IfSome tables.old (AreTablesOf task.now) }
+    requires time { Contains (times task.now.decks.first) at }
+    requires old { AreGridHeads task.now.decks.first old.now }
+    ensures tables { IfSome tables.new (AreTablesOf task.now) }
+    ensures ready { S.ready settler.new }
+    ensures rounds { S.rounds settler.new ≡ S.rounds settler.old }
+    ensures step { IfOk result (IsStepBy task.now.limits task.now.decks task.now.digits at old.now S.pairs) }
+    ensures fault { IfErr result (FailsBy task.now.limits task.now.decks task.now.digits at old.now (S.rounds settler.old)) }
+    ensures words { IfOk result (λ x. AreWords x.problem x.bounds) }
+    ensures heads { IfOk result (λ x. AreGridHeads task.now.decks.first x.heads) }
+    ensures named { IfOk result (λ x. (c : ℕ) → IsCellNamed x.problem c → IsActive task.now.decks.first c) }
+    ensures encloses { IfOk result (λ x. EachChoice task.now.decks at
+        (λ y. EnclosesMoves task.now.decks.first task.now.digits at y old.now x)) }
+    ensures leads { MatchResult result
+        (λ x. LeadsBy S.leads task.now.limits task.now.decks at old.now x.problem true settler.old settler.new)
+        (λ _. LeadsOrRests S.leads task.now.limits task.now.decks task.now.digits at old.now settler.old settler.new) }
+{
+    let (limits, decks) = (task.limits, &task.decks);
+    let mut own = tables_of(alloc, task, tables.take())?;
+    if is_last {
+        return last_step(alloc, limits, decks, own, at, old, settler);
+    }
+    let solved = next_step_with(alloc, limits, decks, &mut own, at, old, settler);
+    *tables = Some(own);
+    solved
 }
 
 impl Steps {
@@ -31,10 +91,8 @@ impl Steps {
         let decks = &task.decks;
         let times = Listed::new(times(alloc, &decks.first)?);
         let heads = start_heads_for(alloc, decks)?;
-        // The tables come last, so that no exit has to drop them.
-        let tables = DeckTables::new(alloc, decks, task.digits)?;
         Ok(Steps {
-            tables,
+            tables: None,
             times,
             done: 0,
             heads,
@@ -48,6 +106,11 @@ impl Steps {
         ensures place { IfSome result (λ at. (self.now.done < length self.now.times) × (get_or self.now.times self.now.done at ≡ at)) }
     {
         self.times.as_slice().get(self.done).copied()
+    }
+
+    // Whether no step follows the next one.
+    fn is_last(&self) -> bool {
+        self.times.as_slice().len().saturating_sub(self.done) <= 1
     }
 
     /// The heads of all cells after the last step that was solved.
@@ -79,11 +142,12 @@ impl Steps {
         let Some(at) = self.time() else {
             return Err(Stop::End(ListingEnd::Whole));
         };
-        match next_step_with(
+        let is_last = self.is_last();
+        match solve(
             alloc,
-            task.limits,
-            &task.decks,
+            task,
             &mut self.tables,
+            is_last,
             at,
             self.heads.as_slice(),
             settler,

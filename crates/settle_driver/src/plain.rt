@@ -1,14 +1,14 @@
 // A settler that sweeps on one thread.
-ghost use Rattle.std.specs.Prelude.{◌≡◌};
-ghost use Rattle.step_problem.specs.{AreOnTheWay, IsBarrier, Settles, settled};
+ghost use Rattle.std.specs.Prelude.{◌≡◌, MatchOption};
+ghost use Rattle.step_problem.specs.{AreOnTheWay, IsBarrier, IsFirstOpen, Settles, settled};
 ghost use Rattle.cell_relax.specs.{AreWords};
-ghost use Rattle.settle_driver.specs.Views.{StayOnTheWay, SettleWithin};
+ghost use Rattle.settle_driver.specs.Views.{AreBothSettled, StayOnTheWay, SettleWithin};
 
 use crate::open::{first_open, words_or_open};
 use crate::sweep::{relax_cell, sweep_up_to};
 use head_table::edge_words;
 use std::alloc::{AllocError, Global};
-use step_problem::{Barrier, Bound, Problem, SettleFault, Settler};
+use step_problem::{Barrier, Bound, Problem, SettleFault, Settler, Side};
 
 /// Settles by plain sweeps in ascending order of the cells, at each cell the lower side and then the upper one. It ends after `rounds` sweeps, or earlier,
 /// after a sweep that moved nothing. The cells of a list are relaxed before, in its order. The list may be any; a good one saves sweeps.
@@ -35,15 +35,22 @@ impl<'a> PlainSettler<'a> {
     }
 }
 
-// The words after at most `rounds` sweeps.
-fn words_after_sweeps(p: &Problem, mut words: Vec<Bound>, rounds: u32) -> Vec<Bound>
+// The words after at most `rounds` sweeps, and the first cell that can move then; a last sweep that moved nothing has tried all.
+fn words_after_sweeps(
+    p: &Problem,
+    mut words: Vec<Bound>,
+    rounds: u32,
+) -> (Vec<Bound>, Option<(u32, Side)>)
     requires words { AreWords p.now words.items }
-    ensures words { AreWords p.now result.items }
-    ensures way { StayOnTheWay p.now words.items result.items }
-    ensures reached { SettleWithin p.now rounds words.items result.items }
+    ensures way { StayOnTheWay p.now words.items result.0.items }
+    ensures reached { SettleWithin p.now rounds words.items result.0.items }
+    ensures open { MatchOption result.1 (AreBothSettled p.now result.0.items) (λ o. IsFirstOpen p.now result.0.items o.0 o.1) }
 {
-    sweep_up_to(p, words.as_mut_slice(), rounds);
-    words
+    if sweep_up_to(p, words.as_mut_slice(), rounds) {
+        return (words, None);
+    }
+    let open = first_open(p, words.as_slice());
+    (words, open)
 }
 
 impl PlainSettler<'_> {
@@ -58,8 +65,7 @@ impl PlainSettler<'_> {
         requires way { AreOnTheWay p.now b.now words.items }
         ensures { Settles p.now b.now self.now.rounds result }
     {
-        let words = words_after_sweeps(p, words, self.rounds);
-        let open = first_open(p, words.as_slice());
+        let (words, open) = words_after_sweeps(p, words, self.rounds);
         words_or_open(p, words, open)
     }
 }

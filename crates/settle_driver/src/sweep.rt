@@ -1,5 +1,5 @@
 // Plain sweeps over the words of a problem.
-ghost use Rattle.std.specs.Prelude.{◌≡◌, ◌<◌, ℕ, length, slice_index_or, false};
+ghost use Rattle.std.specs.Prelude.{◌≡◌, ◌<◌, ℕ, length, slice_index_or, false, true};
 ghost use Rattle.step_problem.specs.{no_bound};
 ghost use Rattle.cell_relax.specs.{AreWords};
 ghost use Rattle.settle_driver.specs.{IsRelaxedCell, IsPastCell, StayOnTheWay, AreBothSettled, SettleWithin};
@@ -39,9 +39,10 @@ fn sweep(p: &Problem, words: &mut [Bound]) -> bool
     moved
 }
 
-/// Sweeps at most `rounds` times, until a sweep moves nothing.
-pub fn sweep_up_to(p: &Problem, words: &mut [Bound], rounds: u32)
+/// Sweeps at most `rounds` times, until a sweep moves nothing, and returns whether one did.
+pub fn sweep_up_to(p: &Problem, words: &mut [Bound], rounds: u32) -> bool
     requires words { AreWords p.now words.old }
+    ensures settled { result ≡ true → AreBothSettled p.now words.new }
     ensures words { AreWords p.now words.new }
     ensures way { StayOnTheWay p.now words.old words.new }
     ensures reached { SettleWithin p.now rounds words.old words.new }
@@ -49,7 +50,8 @@ pub fn sweep_up_to(p: &Problem, words: &mut [Bound], rounds: u32)
     p.recall_conditions();
     for _round in 0..rounds {
         if !sweep(p, words) {
-            return;
+            return true;
         }
     }
+    false
 }

@@ -11,7 +11,7 @@ pub use Rattle.cell_relax.specs.{AreWords}
 pub use Rattle.certificate_check.specs.{CertificateEncloses, CertificateExcludesRefusal, ClampedPairEncloses, IsRangeRefusal, RangeRefusalIsOne, SettledPairEncloses}
 pub use Rattle.decimal_input.specs.{EnclosesSigned, Fraction}
 pub use Rattle.deck_problems.specs.{AreDecks, ConstantPairEncloses, ConstantPairFits, ConstantPairIsOne, EnclosesChoice, EnclosesChoices, HasConstantHeadFor, IsBefore, IsConstantPairFor, IsProblemFor}
-pub use Rattle.deck_problems.specs.{ProblemEncloses, ProblemFits, StartHeadsEnclose, StartHeadsFit, digits_of, declared.decks.Decks.Decks}
+pub use Rattle.deck_problems.specs.{ProblemEncloses, ProblemFits, StartHeadsEnclose, StartHeadsFit, declared.decks.Decks.Decks}
 pub use Rattle.deck_span.specs.{Choice, IsChoiceBetween, SolvesChoicesFrom, step_from}
 pub use Rattle.flow_equations.specs.{heads_of, variable_heads}
 pub use Rattle.model_types.specs.{cell_count, index_of, is_active, is_constant, is_variable, kind_of, times, variable_cells, declared.limits.Limits.Limits, declared.limits.Limits.TheVariants.Plain}

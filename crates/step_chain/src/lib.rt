@@ -7,4 +7,4 @@ pub mod solved;
 mod step;
 
 pub use solved::{Solved, StepFault, barrier_by, settle_by};
-pub use step::{next_step, next_step_with};
+pub use step::{last_step, next_step, next_step_with};

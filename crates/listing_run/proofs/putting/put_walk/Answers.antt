@@ -34,7 +34,7 @@ loop-at-init g c = record {
             (c.in-Ok.ensures ∙ ap (λ b. first_text b c.args.task.now.decks.first c.args.task.now.digits) c.is_some.ensures) c.requires.walk c.requires.first,
       );
   goes_on = c.requires.goes_on;
-  settled = none_settled g.S.StepSettler.begins g.S.Settler.leads g.S.StepSettler.stop c.args.task.now c.args.steps.now c.args.settler.now c.requires.walk c.requires.first;
+  settled = none_settled _ _ _ _ c.requires.walk c.requires.first;
 }
 
 pub returns-in-Some-put-clause-puts : goal.returns-in-Some-put-clause-puts
@@ -53,11 +53,9 @@ returns-in-Some-put-clause-puts g c = λ start puts h.
     )
 
 pub returns-in-Some-put-clause-reaches : goal.returns-in-Some-put-clause-reaches
-returns-in-Some-put-clause-reaches g c = inr (reaches_more g.S.StepSettler.begins g.S.Settler.leads g.S.StepSettler.stop c.args.task.now (λ t.
-    t.items) c.loop-at.steps c.put_while_solving-put.new.steps c.in-Some.at
-    (drop (c.loop-at.steps.done + 1) c.loop-at.steps.times) c.args.settler.now c.loop-at.settler c.begin_step.new.settler c.put_while_solving-put.new.settler
-    c.put_while_solving-put.result.1 c.in-Some.ensures.left c.loop-at.invariant.settled c.begin_step.ensures.begins c.put_while_solving-put.ensures.next
-    c.put_while_solving-put.ensures.led)
+returns-in-Some-put-clause-reaches g c =
+    inr (reaches_more _ _ _ _ (λ t. t.items) _ _ c.in-Some.ensures.left c.loop-at.invariant.settled c.begin_step.ensures.begins
+    c.put_while_solving-put.ensures.next c.put_while_solving-put.ensures.led)
 
 pub returns-in-Some-stop-clause-puts : goal.returns-in-Some-stop-clause-puts
 returns-in-Some-stop-clause-puts g c = λ start puts h.
@@ -77,11 +75,8 @@ returns-in-Some-stop-clause-puts g c = λ start puts h.
 
 pub returns-in-Some-stop-clause-reaches : goal.returns-in-Some-stop-clause-reaches
 returns-in-Some-stop-clause-reaches g c =
-    inr (reaches_more g.S.StepSettler.begins g.S.Settler.leads g.S.StepSettler.stop c.args.task.now (λ t.
-    t.items) c.loop-at.steps c.put_while_solving-put.new.steps c.in-Some.at
-    (drop (c.loop-at.steps.done + 1) c.loop-at.steps.times) c.args.settler.now c.loop-at.settler c.begin_step.new.settler c.put_while_solving-put.new.settler
-    c.put_while_solving-put.result.1 c.in-Some.ensures.left c.loop-at.invariant.settled c.begin_step.ensures.begins c.put_while_solving-put.ensures.next
-    c.put_while_solving-put.ensures.led)
+    inr (reaches_more _ _ _ _ (λ t. t.items) _ _ c.in-Some.ensures.left c.loop-at.invariant.settled c.begin_step.ensures.begins
+    c.put_while_solving-put.ensures.next c.put_while_solving-put.ensures.led)
 
 pub loop-at-preserved : goal.loop-at-preserved
 loop-at-preserved g c =
@@ -97,14 +92,11 @@ loop-at-preserved g c =
           let was : p.0 ≡ whole_put c.loop-at.pending.items ∷ [] = put_was c.as_slice.result.now c.loop-at.pending.items _ None p.0 c.as_slice.ensures.value c.in_default-put.is p.2 in (
             i.0 ++ p.0,
             puts_are_joined (λ s. g.K.Sink.leads start s c.put_while_solving-put.new.out) puts i.0 p.0 p.1,
-            under_way_more c.args.task.now g.S.Settler.leads c.loop-at.steps c.put_while_solving-put.new.steps c.begin_step.new.settler
-                c.put_while_solving-put.new.settler c.loop-at.pending.items c.in-Ok-next.text.items i.0 p.0 i.2 was next,
+            under_way_more _ i.2 was next,
           );
       goes_on = sym c.stop.ensures ∙ c.in_default-stop.is;
-      settled = one_more_settled g.S.StepSettler.begins g.S.Settler.leads g.S.StepSettler.stop c.args.task.now c.args.settler.now c.loop-at.settler
-          c.begin_step.new.settler c.put_while_solving-put.new.settler c.loop-at.steps c.put_while_solving-put.new.steps c.in-Some.at
-          (drop (c.loop-at.steps.done + 1) c.loop-at.steps.times) c.in-Ok-next.text.items c.in-Some.ensures.left c.loop-at.invariant.settled
-          c.begin_step.ensures.begins next (sym c.stop.ensures ∙ c.in_default-stop.is);
+      settled = one_more_settled _ _ _ _ c.in-Some.ensures.left c.loop-at.invariant.settled c.begin_step.ensures.begins next
+          (sym c.stop.ensures ∙ c.in_default-stop.is);
     }
 
 pub returns-in-Err-End-clause-puts : goal.returns-in-Err-End-clause-puts
@@ -126,11 +118,9 @@ returns-in-Err-End-clause-puts g c = λ start puts h.
     )
 
 pub returns-in-Err-End-clause-reaches : goal.returns-in-Err-End-clause-reaches
-returns-in-Err-End-clause-reaches g c = inr (reaches_more g.S.StepSettler.begins g.S.Settler.leads g.S.StepSettler.stop c.args.task.now (λ t.
-    t.items) c.loop-at.steps c.put_while_solving-put.new.steps c.in-Some.at
-    (drop (c.loop-at.steps.done + 1) c.loop-at.steps.times) c.args.settler.now c.loop-at.settler c.begin_step.new.settler c.put_while_solving-put.new.settler
-    c.put_while_solving-put.result.1 c.in-Some.ensures.left c.loop-at.invariant.settled c.begin_step.ensures.begins c.put_while_solving-put.ensures.next
-    c.put_while_solving-put.ensures.led)
+returns-in-Err-End-clause-reaches g c =
+    inr (reaches_more _ _ _ _ (λ t. t.items) _ _ c.in-Some.ensures.left c.loop-at.invariant.settled c.begin_step.ensures.begins
+    c.put_while_solving-put.ensures.next c.put_while_solving-put.ensures.led)
 
 pub returns-in-Err-Memory-clause-puts : goal.returns-in-Err-Memory-clause-puts
 returns-in-Err-Memory-clause-puts g c = λ start puts h.
@@ -150,11 +140,8 @@ returns-in-Err-Memory-clause-puts g c = λ start puts h.
 
 pub returns-in-Err-Memory-clause-reaches : goal.returns-in-Err-Memory-clause-reaches
 returns-in-Err-Memory-clause-reaches g c =
-    inr (reaches_more g.S.StepSettler.begins g.S.Settler.leads g.S.StepSettler.stop c.args.task.now (λ t.
-    t.items) c.loop-at.steps c.put_while_solving-put.new.steps c.in-Some.at
-    (drop (c.loop-at.steps.done + 1) c.loop-at.steps.times) c.args.settler.now c.loop-at.settler c.begin_step.new.settler c.put_while_solving-put.new.settler
-    c.put_while_solving-put.result.1 c.in-Some.ensures.left c.loop-at.invariant.settled c.begin_step.ensures.begins c.put_while_solving-put.ensures.next
-    c.put_while_solving-put.ensures.led)
+    inr (reaches_more _ _ _ _ (λ t. t.items) _ _ c.in-Some.ensures.left c.loop-at.invariant.settled c.begin_step.ensures.begins
+    c.put_while_solving-put.ensures.next c.put_while_solving-put.ensures.led)
 
 pub returns-in-Some-put_piece-clause-puts : goal.returns-in-Some-put_piece-clause-puts
 returns-in-Some-put_piece-clause-puts g c = λ start puts h.
@@ -186,22 +173,19 @@ returns-clause-puts g c = λ start puts h.
       (
         cut_listing_is_beside _ k c.put_end-2.result (i.0 ++ p.0 ++ m.0) (ends_with_line k s c.loop-at.pending.items i.0 p.0 c.put_end-2.result i.2 m.0 Whole was
             (subst E (sym none) tt) m.2),
-        λ e. reaches_so_far g.S.StepSettler.begins g.S.Settler.leads g.S.StepSettler.stop k true c.args.settler.now
-            c.loop-at.settler s (inr none) c.loop-at.invariant.settled,
+        λ e. reaches_so_far _ _ _ _ (inr none) c.loop-at.invariant.settled,
       ),
     )
 
 pub returns-in-Some-put_piece-clause-reaches : goal.returns-in-Some-put_piece-clause-reaches
 returns-in-Some-put_piece-clause-reaches g c =
-    inr (reaches_so_far g.S.StepSettler.begins g.S.Settler.leads g.S.StepSettler.stop c.args.task.now false c.args.settler.now c.loop-at.settler c.loop-at.steps
-    (inl refl) c.loop-at.invariant.settled)
+    inr (reaches_so_far _ _ _ _ (inl refl) c.loop-at.invariant.settled)
 
 pub returns-clause-reaches : goal.returns-clause-reaches
-returns-clause-reaches g c = inr (reaches_so_far g.S.StepSettler.begins g.S.Settler.leads g.S.StepSettler.stop c.args.task.now false c.args.settler.now
-    c.loop-at.settler c.loop-at.steps (inl refl) c.loop-at.invariant.settled)
+returns-clause-reaches g c = inr (reaches_so_far _ _ _ _ (inl refl) c.loop-at.invariant.settled)
 
 pub loop-at-smaller : goal.loop-at-smaller
 loop-at-smaller g c =
     let next : IsNextText g.S.Settler.leads c.args.task.now c.loop-at.steps c.put_while_solving-put.new.steps c.begin_step.new.settler
     c.put_while_solving-put.new.settler c.in-Ok-next.text.items = search rules in
-    fewer_left g.S.Settler.leads c.args.task.now c.loop-at.steps c.put_while_solving-put.new.steps c.begin_step.new.settler c.put_while_solving-put.new.settler c.in-Ok-next.text.items next
+    fewer_left next

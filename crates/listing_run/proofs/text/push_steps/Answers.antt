@@ -22,8 +22,7 @@ loop-step-preserved g c =
       ready = c.next_text.ensures.ready;
       rounds = c.next_text.ensures.rounds ∙ c.loop-step.invariant.rounds;
       walk = c.next_text.ensures.walk;
-      text = text_more c.args.task.now c.args.text.now.items g.S.Settler.leads c.loop-step.steps c.next_text.new.self c.loop-step.settler
-          c.next_text.new.settler text c.in-Ok.step.items c.extend_from_slice-in-Ok.new.self.items next
+      text = text_more _ _ next
           (c.in_ok-extend_from_slice-in-Ok.ensures.items ∙ ap (λ t. text ++ t) c.as_slice-in-Ok.ensures.value) c.loop-step.invariant.text;
     }
 
@@ -38,5 +37,4 @@ returns-in-Err-End g c =
 
 pub loop-step-smaller : goal.loop-step-smaller
 loop-step-smaller g c =
-    let next : IsNextText g.S.Settler.leads c.args.task.now c.loop-step.steps c.next_text.new.self c.loop-step.settler c.next_text.new.settler c.in-Ok.step.items = c.in-Ok.ensures.next in
-    fewer_left g.S.Settler.leads c.args.task.now c.loop-step.steps c.next_text.new.self c.loop-step.settler c.next_text.new.settler c.in-Ok.step.items next
+    fewer_left c.in-Ok.ensures.next
