@@ -64,11 +64,11 @@ where
     ensures jobs { OnOk result (book.new.0 ≡ jobs.now) }
     ensures all { OnOk result ((job : ℕ) → job < J.number jobs.now → HasEnd book.new.1 job) }
 {
-    let mut next = book.missing();
+    let mut next = book.first_missing();
     while let Some(job) = next {
         let end = jobs.end_of(alloc, job)?;
         book.put(job, end);
-        next = book.missing();
+        next = book.first_missing();
     }
     Ok(())
 }

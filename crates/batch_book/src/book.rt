@@ -76,7 +76,7 @@ where
     }
 
     /// The least job without an end, or none where each job has one.
-    pub fn missing(&self) -> Option<u32>
+    pub fn first_missing(&self) -> Option<u32>
         ensures { IsMissing self.now.1 (J.number self.now.0) result }
     {
         match first_empty(self.ends.as_slice()) {

@@ -104,7 +104,8 @@ pub fn guess_heads<'a>(
 ) -> Result<Guess, AllocError>
     ensures { IfOk result (λ g. AreWords p.now (Guess.bounds g).items) }
 {
-    let links = Links::copied(alloc, p)?;
+    kept.begin(alloc, p.len());
+    let links = Links::with_copies(alloc, p)?;
     let pattern = pattern_of(alloc, &links, &mut kept.eliminable)?;
     let step = Step {
         alloc,

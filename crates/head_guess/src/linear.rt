@@ -289,7 +289,7 @@ impl Linear {
     pub fn take_room(&mut self, other: &Linear) -> Result<(), AllocError> {
         if let (None, Some(room)) = (&self.room, &other.room) {
             if other.is_near(self.slopes.as_slice()) {
-                self.room = Some(room.copied()?);
+                self.room = Some(room.try_clone()?);
             }
         }
         Ok(())

@@ -147,7 +147,7 @@ impl Links<'_> {
     }
 
     /// A copy of a problem's links in one list: raising heads reads them often.
-    pub fn copied<'a>(alloc: Global, problem: &'a Problem) -> Result<Links<'a>, AllocError> {
+    pub fn with_copies<'a>(alloc: Global, problem: &'a Problem) -> Result<Links<'a>, AllocError> {
         let mut copied = Vec::with_capacity(alloc, link_count(problem))?;
         for cell in 0..problem.len() {
             copied.extend_from_slice(problem.cell(cell).links.as_slice())?;

@@ -76,7 +76,11 @@ impl Newton {
                 foot: at(heads, cell).saturating_add(slack),
                 top: at(self.tops.as_slice(), cell),
             };
-            let (balance, slope) = side.held(cell, at(heads, cell), side.piece(cell, heads, bends));
+            let (balance, slope) = side.piece_if_free(
+                cell,
+                at(heads, cell),
+                side.piece(cell, heads, bends),
+            );
             put(self.balances.as_mut_slice(), cell, balance);
             put(self.slopes.as_mut_slice(), cell, slope);
         }

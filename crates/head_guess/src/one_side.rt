@@ -86,12 +86,12 @@ impl OneSide<'_> {
             ramps: Vec::new(alloc),
             inflows: Vec::new(alloc),
         };
-        let added = one_side.add_all(step);
+        let added = one_side.add_cells(step);
         filled_value(one_side, added)
     }
 
     // Adds the floor, the branches and the flows of each cell.
-    fn add_all(&mut self, step: &Step) -> Result<(), AllocError> {
+    fn add_cells(&mut self, step: &Step) -> Result<(), AllocError> {
         let (side, problem, barrier) = (self.side, step.problem, step.barrier);
         for cell in 0..problem.len() {
             let limit = match side {
@@ -170,7 +170,7 @@ impl OneSide<'_> {
     }
 
     /// A balance and its slope, or nothing for a cell that would fall below its floor or rise beyond the range of heads: it is fixed there.
-    pub fn held(&self, cell: usize, head: i64, piece: (i128, i64)) -> (i128, i64) {
+    pub fn piece_if_free(&self, cell: usize, head: i64, piece: (i128, i64)) -> (i128, i64) {
         let is_at_floor = head == self.floor(cell) && piece.0 < 0;
         if is_at_floor || head == HEAD_LIMIT && piece.0 > 0 {
             (0, 0)

@@ -202,6 +202,7 @@ pub fn guess_pair(
 ) -> Result<Vec<Bound>, AllocError>
     ensures { IfOk result (λ v. AreWords p.now v.items) }
 {
+    kept.begin(alloc, p.len());
     let links = Links::of(alloc, p)?;
     let linear = &mut kept.linear;
     if needs_no_pattern(&links) && !is_hard(linear) {

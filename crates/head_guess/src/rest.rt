@@ -50,7 +50,7 @@ fn excess_balances(
         let excess = side
             .balance(cell, head, heads)
             .wrapping_sub(rest_of(*slope, share));
-        let (balance, held) = side.held(cell, head, (excess, *slope));
+        let (balance, held) = side.piece_if_free(cell, head, (excess, *slope));
         *slope = held;
         balances.push(balance)?;
     }

@@ -52,7 +52,7 @@ impl Room {
             .wrapping_shr(PLACES_OF_ROOM)
     }
 
-    pub fn copied(&self) -> Result<Room, AllocError> {
+    pub fn try_clone(&self) -> Result<Room, AllocError> {
         Ok(Room(self.0.clone()?))
     }
 }

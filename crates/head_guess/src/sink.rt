@@ -41,11 +41,11 @@ impl Sink {
             members: 0,
             visits: 0,
         };
-        let added = sink.add_all(side, heads);
+        let added = sink.add_cells(side, heads);
         filled_value(sink, added)
     }
 
-    fn add_all(&mut self, side: &OneSide, heads: &[i64]) -> Result<(), AllocError> {
+    fn add_cells(&mut self, side: &OneSide, heads: &[i64]) -> Result<(), AllocError> {
         let lowered = side.heads_below(heads, |_| 1)?;
         for (cell, head) in heads.iter().enumerate() {
             self.add(side, cell, *head, lowered.as_slice())?;

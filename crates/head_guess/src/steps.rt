@@ -4,7 +4,7 @@ use crate::half::HalfGuess;
 use crate::linear::Linear;
 use crate::one_side::Step;
 use multigrid::numbers::{at, clamp_long};
-use std::alloc::AllocError;
+use std::alloc::{AllocError, Global};
 use step_problem::{Cell, FixedKind, Problem};
 
 /// The guesses of both sides in a step.
@@ -32,6 +32,23 @@ impl Kept {
             beside: None,
             last: None,
             eliminable: Eliminable::Unknown,
+        }
+    }
+}
+
+// Before the first guess of a problem of at most this many cells, this many bytes for each are taken and given back.
+const CELLS_OF_FEW: usize = 4_096;
+
+const BYTES_OF_A_CELL: usize = 1_024;
+
+impl Kept {
+    /// Before the first guess: takes memory and gives it back. A C library that has given a long list back to the system keeps as much of what
+    /// it takes later, in place of giving it back after each step; larger problems have such lists anyway.
+    pub fn begin(&self, alloc: Global, cells: usize) {
+        if self.linear.is_none() && cells <= CELLS_OF_FEW {
+            let bytes = cells.saturating_mul(BYTES_OF_A_CELL);
+            let memory: Result<Vec<u8>, AllocError> = Vec::with_capacity(alloc, bytes);
+            drop(memory);
         }
     }
 }

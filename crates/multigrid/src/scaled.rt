@@ -19,7 +19,7 @@ fn width_of_all(xs: &[i64]) -> u32 {
     64_u32.saturating_sub(all.leading_zeros())
 }
 
-fn width_of_long(xs: &[i128]) -> u32 {
+fn width_of_all_long(xs: &[i128]) -> u32 {
     let all = xs.iter().fold(0_u128, |all, x| all | x.unsigned_abs());
     128_u32.saturating_sub(all.leading_zeros())
 }
@@ -27,7 +27,7 @@ fn width_of_long(xs: &[i128]) -> u32 {
 /// The inner product, by the leading 44 and 60 bits.
 pub fn inner_product(xs: &[i64], ys: &[i128]) -> Scaled {
     let by = width_of_all(xs).saturating_sub(44);
-    let of = width_of_long(ys).saturating_sub(60);
+    let of = width_of_all_long(ys).saturating_sub(60);
     let mut number = 0_i128;
     for (x, y) in xs.iter().zip(ys) {
         let product = (x.wrapping_shr(by) as i128).wrapping_mul(y.wrapping_shr(of));

@@ -71,9 +71,9 @@ pub struct Elimination<'a> {
 
 impl Elimination<'_> {
     // Opens a column: its ground, and the weights of its unknown's couplings with later ones.
-    fn open(&mut self, matrix: &Matrix, column: usize) {
+    fn open_column(&mut self, matrix: &Matrix, column: usize) {
         let scale = self.scale;
-        let row = matrix.row(self.pattern.unknown(column));
+        let row = matrix.row(self.pattern.unknown_at(column));
         let mut ground = row.pivot.weight;
         for coupling in matrix.couplings(&row) {
             ground = ground.saturating_sub(coupling.weight());
@@ -173,7 +173,7 @@ pub fn eliminate<'a>(
     };
     let mut elimination = filled_value(elimination, memory)?;
     for column in 0..count {
-        elimination.open(matrix, column);
+        elimination.open_column(matrix, column);
         elimination.add_earlier(column);
         elimination.close(column);
     }

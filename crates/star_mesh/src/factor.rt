@@ -53,14 +53,14 @@ impl Factor {
     // Solves for the residual.
     fn correct(&mut self, pattern: &Pattern) {
         for place in 0..pattern.len() {
-            let flow = at(self.residual.as_slice(), pattern.unknown(place));
+            let flow = at(self.residual.as_slice(), pattern.unknown_at(place));
             let flow = shift(flow, self.scale as i64);
             put(self.flows.as_mut_slice(), place, flow);
         }
         self.substitute_forward(pattern);
         self.substitute_back(pattern);
         for (place, unknown) in self.unknowns.iter().enumerate() {
-            let index = pattern.unknown(place);
+            let index = pattern.unknown_at(place);
             put(self.correction.as_mut_slice(), index, *unknown);
         }
     }

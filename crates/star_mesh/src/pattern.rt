@@ -125,7 +125,7 @@ impl Pattern {
     // Whether the pattern has entries for all couplings of a column.
     fn fits_column(&self, matrix: &Matrix, column: usize) -> bool {
         let rows = self.rows_of(&self.entries_of(column));
-        let row = matrix.row(self.unknown(column));
+        let row = matrix.row(self.unknown_at(column));
         matrix.couplings(&row).iter().all(|coupling| {
             let place = self.place(coupling.other);
             place as usize <= column || rows.contains(&place)
@@ -138,7 +138,7 @@ impl Pattern {
     }
 
     /// The unknown that is eliminated in a place.
-    pub(crate) fn unknown(&self, place: usize) -> usize {
+    pub(crate) fn unknown_at(&self, place: usize) -> usize {
         label_at(self.order.as_slice(), place) as usize
     }
 

@@ -6,15 +6,15 @@ use multigrid::numbers::{at, clamp_long, put, width};
 
 /// A flow by its leading bits.
 #[derive(Clone, Copy)]
-struct Flow {
+struct Leading {
     leading: i64,
     dropped: u32,
 }
 
-impl Flow {
-    fn new(flow: i128) -> Flow {
+impl Leading {
+    fn new(flow: i128) -> Leading {
         let dropped = width(flow).saturating_sub(60).min(62);
-        Flow {
+        Leading {
             leading: clamp_long(flow.wrapping_shr(dropped)),
             dropped,
         }
@@ -46,7 +46,7 @@ impl Factor {
             if flow == 0 {
                 continue;
             }
-            let flow = Flow::new(flow);
+            let flow = Leading::new(flow);
             let entries = pattern.entries_of(column);
             let parts = entries.of(self.parts.as_slice());
             for (row, part) in pattern.rows_of(&entries).iter().zip(parts) {

@@ -1,6 +1,6 @@
 use Rattle.batch_book.proofs.Common.{◌≡◌, ℕ, List, length, Option, None, subst, IsMissing}
 use Rattle.std.proofs.Common.{Some}
-use Rattle.batch_book.proofs.book.Book.missing.Goals as goal
+use Rattle.batch_book.proofs.book.Book.first_missing.Goals as goal
 
 -- the least empty place of a book is the least job without an end
 of_book : {J E : Type 0} (number : J → ℕ) (jobs : J) (places shown : List (Option E)) (book : J × List (Option E)) (o : Option ℕ) → shown ≡ places →
