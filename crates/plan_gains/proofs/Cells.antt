@@ -1,10 +1,7 @@
--- What a term's branches in a cell are, and that they are in range.
-use Rattle.plan_gains.proofs.Common.{All, [], ap, filter, filter_all, map, refl, ℤ, ◌≡◌, branch_gain, branches_of, counts, Entries, Fixed, Term, of_drains, of_evaps, of_rivers, well_gain, gains}
-use Rattle.plan_gains.proofs.Common.{ConstantHead, Drains, Et, HeadDepBounds, Recharge, RiverLeakage, Storage, Wells}
+-- What a term's branches in a cell are.
+use Rattle.plan_gains.proofs.Common.{[], ap, filter, filter_all, map, refl, ℤ, ◌≡◌, branch_gain, branches_of, counts, Entries, Term, of_drains, of_evaps, of_rivers, well_gain, gains, ConstantHead}
+use Rattle.plan_gains.proofs.Common.{Drains, Et, HeadDepBounds, Recharge, RiverLeakage, Storage, Wells}
 
-module _ (P : Fixed → Type 0) (base x : Entries) (all : All P x.fixed) where
-
--- branches of a cell that fits are in range
 -- what a term's branches give is what it gives
 pub gains_by : (t : Term) (base x : Entries) (l u : ℤ) → (t ≡ Wells → ⊥) → (t ≡ Recharge → ⊥) →
     map (branch_gain l u) (filter (λ b. counts t b) (branches_of t base x)) ≡ gains t base x l u

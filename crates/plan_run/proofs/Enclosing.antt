@@ -3,12 +3,9 @@ use Rattle.plan_run.proofs.Common.{◌∷◌, ◌∙◌, ◌≡◌, ℕ, List, [
 use Rattle.plan_run.proofs.Common.{PlanTask, StepsThen, heads_in, heads_listed, listed_of, Contains, ℤ, ◌<◌, ◌-ℤ◌, FlowModel, cell_count, start_head, IsMember, StartHeadsEnclose, StartHeadsFit}
 use Rattle.plan_run.proofs.Common.{PlannedLieBetween, with_plan, BothHaveOne, IsBeforeStep, PlanStepEncloses, PlanSteps, AllPlanSteps, Whole, BoundPairs, BoundsPairStep, PlanListingsEnclose, Bound}
 use Rattle.plan_run.proofs.Common.{lower_at, no_bound, upper_at, bound_at, HeadsFit, first_in, lies_encloses, next_in, nothing_apart, apart_within, starts_are_heads, step_fits, PlanFlowsEnclose}
+use Rattle.plan_run.proofs.Common.{EnclosesSigned, Fraction, heads_of, SolvesPairsFrom, encloses_member, planned_member, encloses_first, lies_in_first, member_cells, member_starts}
 use Rattle.cell_balance.specs.{minus}
-use Rattle.decimal_input.specs.{EnclosesSigned, Fraction}
-use Rattle.flow_equations.specs.{heads_of}
-use Rattle.plan_histories.specs.{SolvesPairsFrom}
-use Rattle.deck_problems.proofs.OneProblem.{encloses_member}
-use Rattle.plan_chain.proofs.{ByCell.zeros_are_placed, Enclosing.planned_member, Members.encloses_first, Members.lies_in_first, Members.member_cells, Members.member_starts}
+use Rattle.plan_chain.proofs.ByCell.{zeros_are_placed}
 use Rattle.plan_run.proofs.Faces.{listing_lists}
 
 module _ (step_encloses : PlanStepEncloses) (heads_fit : HeadsFit) (flows_enclose : PlanFlowsEnclose) (k : PlanTask) (task : IsPlanTask k) where

@@ -2,9 +2,8 @@
 use Rattle.plan_run.proofs.Common.{List, Ok, [], ap, arith, inl, inr, length, map, refl, subst, suc, sym, ℕ, ℤ, ◌++◌, ◌<◌, ◌∙◌, ◌∷◌, ◌≡◌, Option, None, Some, get_or, cases_lt, All-cons, All-nil}
 use Rattle.plan_run.proofs.Common.{append-nil, get_or_past, All, Bound, Entries, entries_at, no_entries, TimeStep, times, IsDifferenceProblem, difference_cell, drain_branch, evap_branch, known_branch}
 use Rattle.plan_run.proofs.Common.{river_branch, PlanHeads, PlanSolved, PlanTask, IsPlanStep, IsPlanTask, PlanFlows, rise, sources_of, zones_of, flows_of, ListedPlanStep, FirstSteps, IsListedStep}
-use Rattle.plan_run.proofs.Common.{ListsMore, StepsThen, heads_listed}
+use Rattle.plan_run.proofs.Common.{ListsMore, StepsThen, heads_listed, flat_map}
 use Rattle.std.proofs.lemmas.Grind.{flat_map-append}
-use Rattle.std.specs.List.{flat_map}
 use Rattle.step_problem.specs.{declared.entry.Fixed.Fixed, declared.entry.FixedKind.FixedKind, declared.entry.FixedKind.TheVariants.General, declared.entry.Link.Link, declared.place.ZoneFlow.ZoneFlow}
 use Rattle.zone_flows.specs.{faces_by_kind, fixed_faces, link_faces, cell_faces, face_from, faces, zone_flows}
 use Rattle.zone_pairs.specs.{pairs_in, zones_of_flow}

@@ -6,4 +6,5 @@ pub mod Faces
 pub mod Enclosing
 pub mod Pieces
 pub mod WithWells
+pub mod Weathers
 pub mod Walking

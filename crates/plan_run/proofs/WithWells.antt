@@ -1,8 +1,8 @@
 -- Decks with a plan's wells: valid, and alike where there are two.
 use Rattle.plan_run.proofs.Common.{◌≡◌, ◌∙◌, Err, List, None, Ok, Option, Result, Some, ap, length, refl, subst, sym, Bool, IfSome, if◌then◌else◌, option_map, true, false, FlowModel, IsModel}
 use Rattle.plan_run.proofs.Common.{AreDecks, IsSecond, refusal, IsPlan, PlannedAreAlike, PlannedAreValid, are_few, planned, with_plan, decks_with, second_planned, Text, length_all_zip, Limits, Decks}
-use Rattle.model_types.specs.{declared.entry.Entry.Entry, declared.grid.Grid.Grid}
-use Rattle.deck_span.specs.{AreAlike, ArePeriodsAlike}
+use Rattle.plan_run.proofs.Common.{Entry, AreAlike, ArePeriodsAlike}
+use Rattle.model_types.specs.declared.grid.Grid.{Grid}
 use Rattle.outside.specs.{declared.inputs.Refusal.Refusal, declared.codes.Code.TheVariants.TooManyEntries}
 use Rattle.record_lines.specs.{◌>>=◌}
 

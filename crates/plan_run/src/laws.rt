@@ -1,5 +1,5 @@
 // What a plan's listing encloses. The law is the contract of an empty function, but for the laws below that it calls.
-ghost use Rattle.plan_run.specs.{PlanListingIsOne, PlanListingsEnclose};
+ghost use Rattle.plan_run.specs.{HistoriesGiveWeathers, PlanListingIsOne, PlanListingsEnclose};
 
 use barrier_vector::laws::{
     no_barrier_beside_a_refusal, no_cut_barrier_beside_a_refusal, one_cut_barrier, one_cut_refusal,
@@ -45,3 +45,9 @@ pub fn one_plan_listing()
     heads_fit();
     plan_steps_enclose();
 }
+
+/// Where each plan's model has one history, or so has each choice of weathers, each weather has one of both plans.
+#[tactic(auto, using(crate::proofs::Weathers::histories_give_weathers))]
+pub fn histories_give_weathers()
+    ensures { HistoriesGiveWeathers }
+{}
