@@ -25,6 +25,7 @@ fn after_byte(number: u32, byte: u8) -> u32
 
 /// What follows in a text, from this line on, after one that is due at its beginning, and the number of its first line; or the
 /// number of the first line that differs.
+#[tactic(auto, using(crate::proofs::DueTexts::due_ends, crate::proofs::DueTexts::due_goes, crate::proofs::DueTexts::due_stops))]
 pub(crate) fn after_due<'a>(text: &'a [u8], due: &[u8], line: u32) -> Result<(&'a [u8], u32), u32>
     ensures { MatchResult result (λ after. after_due line text.entry.now due.now ≡ Ok (after.0.now, after.1))
         (λ n. after_due line text.entry.now due.now ≡ Err n) }

@@ -49,6 +49,7 @@ fn later_fault(lines: u32, fault: TextFault) -> TextFault
 /// The listing at the end of a text, from this line on: its lines are those of a listing of version 2 of these steps, for
 /// this model or with `between` for all models between two, as `read_listing` reads it. Otherwise the first line of another
 /// form is refused as BadListing of the text, at its line there.
+#[tactic(auto, using(crate::proofs::ListedTexts::listing_was))]
 pub fn read_steps(
     alloc: Global,
     between: bool,
