@@ -10,13 +10,14 @@ pub use Rattle.budget_bounds.specs.{all_terms, no_pair, place_of, declared.pair.
 pub use Rattle.cell_balance.proofs.Zips.{AllZip-length, AllZip-right}
 pub use Rattle.decimal_input.proofs.Powers.{ten_pos}
 pub use Rattle.fixed_text.specs.{fixed_text, padded_digits, sign}
-pub use Rattle.listing_io.specs.{AreFlows, AreListed, AreTerms, AreZonePairs, Form, Has, HasDigits, IsCellBound, IsFlowPair, IsForm, IsListedAt, IsListedStep, IsListing, IsPairIf, IsPairLine, IsTime}
-pub use Rattle.listing_io.specs.{IsWritable, Left, Line, LinesReadExactly, ListingsAreApart, ListingsAreReadAgain, ListingsWereWritten, Stops, after_word, all_lines, bound_of, cell_front, cell_line}
-pub use Rattle.listing_io.specs.{cell_word, digits_line, dir_front, each_lines, end_line, ended_line, first_line, first_line_before, first_of, first_word, flow_form, flow_of, form_of, has_evt}
-pub use Rattle.listing_io.specs.{head_form, head_front, head_if, head_line, head_pair, is_first, is_negative, is_printed, is_within, line_at, none_of, numbers_text, or_refused, over_at, pair_if}
-pub use Rattle.listing_io.specs.{pair_line, printed_terms, step_at, step_line, term_form, term_if, term_line, text_of, titled_line, value_of, with_byte, zone_front, zone_line, zone_pair}
-pub use Rattle.listing_io.specs.{declared.fault.Fault.Fault, declared.fault.Fault.TheVariants.BadLine, declared.fault.Fault.TheVariants.Memory, declared.listing.ListedStep.ListedStep}
-pub use Rattle.listing_io.specs.{declared.pair_lines.CellWord.CellWord, declared.pair_lines.CellWord.TheVariants.Head}
+pub use Rattle.listing_io.specs.{AreFlows, AreListed, AreTerms, AreZonePairs, ConvertibleListingsAreApart, ConvertibleListingsAreReadAgain, ConvertibleListingsWereWritten, Form, Has, HasDigits}
+pub use Rattle.listing_io.specs.{IsCellBound, IsFlowPair, IsForm, IsListedAt, IsListedStep, IsListing, IsPairIf, IsPairLine, IsTime, IsWritable, Left, Line, LinesReadExactly, ListingsAreApart}
+pub use Rattle.listing_io.specs.{ListingsAreReadAgain, ListingsWereWritten, Stops, after_word, all_lines, bound_of, cell_front, cell_line, cell_word, convertible_first_line, digits_line, dir_front}
+pub use Rattle.listing_io.specs.{each_lines, end_line, ended_line, first_line, first_line_before, first_of, first_word, flow_form, flow_of, form_of, has_evt, head_form, head_front, head_if, head_line}
+pub use Rattle.listing_io.specs.{head_pair, is_first, is_negative, is_printed, is_within, line_at, none_of, numbers_text, or_refused, over_at, pair_if, pair_line, printed_terms, step_at, step_line}
+pub use Rattle.listing_io.specs.{steps_to_end, term_form, term_if, term_line, text_of, titled_line, value_of, with_byte, zone_front, zone_line, zone_pair, declared.fault.Fault.Fault}
+pub use Rattle.listing_io.specs.{declared.fault.Fault.TheVariants.BadLine, declared.fault.Fault.TheVariants.Memory, declared.listing.ListedStep.ListedStep, declared.pair_lines.CellWord.CellWord}
+pub use Rattle.listing_io.specs.{declared.pair_lines.CellWord.TheVariants.Head}
 unfoldable pub use Rattle.listing_io.specs.{all_step_lines, candidate, digits_behind, first_at, flow_at, head_lines, heads_at, listing, listing_at, pair_at, pair_in, step_lines, step_text, step_with}
 unfoldable pub use Rattle.listing_io.specs.{term_lines, terms_at, text_at, variable_lines}
 pub use Rattle.model_types.specs.{cell_count, is_active, most_cells, period_at, place, steps_of, declared.model.FlowModel.FlowModel, declared.time_steps.TimeStep.TimeStep}

@@ -147,7 +147,7 @@ step_without m s zs at x good pairs time h g = (
       (flows_without s zs x.zones good.digits pairs g))),
 )
 
-steps_without : (m : FlowModel) (s : ℕ) (pairs : ℕ → List ZonePair) (xs : List ListedStep) → IsWritable m s → AreZonePairs pairs →
+pub steps_without : (m : FlowModel) (s : ℕ) (pairs : ℕ → List ZonePair) (xs : List ListedStep) → IsWritable m s → AreZonePairs pairs →
     AllZip (IsListedAt m pairs) (times m) xs → AllByRecursion NoFeed (all_step_lines m s (times m) xs)
 unfolding all_step_lines
 steps_without m s pairs xs good are h =

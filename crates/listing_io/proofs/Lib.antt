@@ -9,3 +9,4 @@ pub mod Walks
 pub mod Ends
 pub mod Periods
 pub mod Rows
+pub mod Convertible

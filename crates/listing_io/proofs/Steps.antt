@@ -107,7 +107,7 @@ step_was m s zs at left got h =
     regroup a b c f d = simp append_assoc
 
 module _ (m : FlowModel) (s : ℕ) (pairs : ℕ → List ZonePair) where
-  steps_read : IsReader s (for_each (step_at m s pairs) (times m)) (all_step_lines m s (times m)) (AllZip (IsListedAt m pairs) (times m))
+  pub steps_read : IsReader s (for_each (step_at m s pairs) (times m)) (all_step_lines m s (times m)) (AllZip (IsListedAt m pairs) (times m))
   unfolding all_step_lines
   steps_read = all_read s (step_at m s pairs) (rows_at m s) (IsListedAt m pairs) (λ at. record { again = step_again m s (pairs at.period) at; was = step_was m s (pairs at.period) at }) (times m)
 

@@ -64,7 +64,7 @@ line_if line false t = refl
 pub one_deck_apart : (title : List ℕ) → Without 79 title → (n : FlowModel) (t : ℕ) → IsWritable n t → Without 79 (digits_line title n t)
 one_deck_apart title apart n t good = title_without 79 (inr (omega arith)) refl title apart n t good (by_test 79 (codes " DIGITS") refl) (by_test 79 (codes " UNIT ") refl)
 
-rest_without : (b : ℕ) (xs ys : List ℕ) → Without b (xs ++ ys) → Without b ys
+pub rest_without : (b : ℕ) (xs ys : List ℕ) → Without b (xs ++ ys) → Without b ys
 rest_without b [] ys h = h
 rest_without b (x ∷ xs) ys h = rest_without b xs ys h.1
 

@@ -55,3 +55,7 @@ open_place g (places.Zone a b) = fault_place g (places.Zone a b)
 
 unfoldable pub not_certified_line : Grid → TimeStep → Place → List ℕ
 not_certified_line g at place = ended_line (codes "NOT CERTIFIED" ++ time_text at ++ open_place g place)
+
+-- the first cell at which not all heads between the listed ones are gentle
+unfoldable pub not_gentle_line : Grid → TimeStep → ℕ → List ℕ
+not_gentle_line g at c = ended_line (codes "NOT CERTIFIED" ++ time_text at ++ numbers_text (place g c) ++ codes " GENTLE")

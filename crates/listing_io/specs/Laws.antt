@@ -3,8 +3,9 @@ use Rattle.std.specs.Prelude.{◌≡◌, ◌⊎◌, ◌<◌, ◌≤◌, ◌^◌,
 use Rattle.outside.specs.{lines}
 use Rattle.model_types.specs.{declared.model.FlowModel.FlowModel, declared.time_steps.TimeStep.TimeStep, HasSize, times, cell_count, is_active}
 use Rattle.zone_pairs.specs.{declared.pair.ZonePair.ZonePair, zones_of_flow}
-use Rattle.listing_io.specs.{declared.listing.ListedStep.ListedStep, Listing.Line, Listing.all_step_lines, Listing.end_line, Listing.listing, Listing.text_of}
-use Rattle.listing_io.specs.{Listing.has_evt, Listing.zone_pair, Reading.first_line_before, Reading.all_lines, Reading.is_printed, Reading.listing_at}
+use Rattle.listing_io.specs.declared.listing.ListedStep.{ListedStep}
+use Rattle.listing_io.specs.Listing.{Line, all_step_lines, convertible_listing, end_line, listing, has_evt, text_of, zone_pair}
+use Rattle.listing_io.specs.Reading.{first_line_before, all_lines, convertible_listing_at, is_printed, listing_at}
 use Rattle.std.specs.List.{AllZip, range_with_len}
 use Rattle.step_problem.specs.{declared.heads.Bound.Bound, declared.place.ZoneFlow.ZoneFlow, IsHead, no_bound}
 use Rattle.budget_bounds.specs.{declared.pair.TermPair.TermPair, declared.pair.Budget.Budget, all_terms, no_pair}
@@ -99,3 +100,21 @@ abbrev pub ListingsWereWritten : Type 0
 ListingsWereWritten =
     (between : Bool) (m : FlowModel) (s : ℕ) (pairs : ℕ → List ZonePair) (text : List ℕ) (steps : List ListedStep) →
     listing_at between m s pairs (all_lines text) ≡ Ok steps → IsListing between m s steps (lines text)
+
+-- The same of the listing of a model with convertible layers: what is written is read again, and a text that is read has these lines and no others.
+abbrev pub ConvertibleListingsAreReadAgain : Type 0
+ConvertibleListingsAreReadAgain =
+    (m : FlowModel) (s : ℕ) (pairs : ℕ → List ZonePair) (steps : List ListedStep) →
+    IsWritable m s → AreZonePairs pairs → AreListed m pairs steps →
+    convertible_listing_at m s pairs (all_lines (text_of (convertible_listing m s steps))) ≡ Ok steps
+
+abbrev pub ConvertibleListingsWereWritten : Type 0
+ConvertibleListingsWereWritten =
+    (m : FlowModel) (s : ℕ) (pairs : ℕ → List ZonePair) (text : List ℕ) (steps : List ListedStep) →
+    convertible_listing_at m s pairs (all_lines text) ≡ Ok steps → lines text ≡ convertible_listing m s steps
+
+-- No text is read both as such a listing and as another one.
+abbrev pub ConvertibleListingsAreApart : Type 0
+ConvertibleListingsAreApart =
+    (between : Bool) (m n : FlowModel) (s t : ℕ) (pairs others : ℕ → List ZonePair) (text : List ℕ) (steps more : List ListedStep) → IsWritable n t →
+    convertible_listing_at m s pairs (all_lines text) ≡ Ok steps → listing_at between n t others (all_lines text) ≡ Ok more → ⊥

@@ -44,6 +44,10 @@ titled_line title true m s = digits_line title m s ++ codes " TO"
 abbrev pub first_line : Bool → FlowModel → ℕ → Line
 first_line between m s = titled_line (codes "HEADS 2") between m s
 
+-- that of a listing of a model with convertible layers ends with their word
+abbrev pub convertible_first_line : FlowModel → ℕ → Line
+convertible_first_line m s = first_line false m s ++ codes " CONVERTIBLE"
+
 -- a time step, by its stress period and its number
 abbrev pub step_line : TimeStep → Line
 step_line at = codes "STEP" ++ numbers_text (at.period ∷ at.step ∷ [])
@@ -139,6 +143,10 @@ all_step_lines m s ats steps = each_lines (λ at x. step_lines m s at x.heads x.
 -- a whole listing, of a model or of all models between two decks
 unfoldable pub listing : Bool → FlowModel → ℕ → List ListedStep → List Line
 listing between m s steps = first_line between m s ∷ (all_step_lines m s (times m) steps ++ (end_line ∷ []))
+
+-- a whole listing of a model with convertible layers
+unfoldable pub convertible_listing : FlowModel → ℕ → List ListedStep → List Line
+convertible_listing m s steps = convertible_first_line m s ∷ (all_step_lines m s (times m) steps ++ (end_line ∷ []))
 
 -- The pieces of a run: the first line, and a step.
 unfoldable pub first_text : Bool → FlowModel → ℕ → List ℕ

@@ -9,9 +9,9 @@ use Rattle.budget_bounds.specs.{declared.pair.TermPair.TermPair, all_terms, no_p
 use Rattle.model_types.specs.{declared.model.FlowModel.FlowModel, declared.time_steps.TimeStep.TimeStep, cell_count, is_active, times}
 use Rattle.zone_pairs.specs.declared.pair.ZonePair.{ZonePair}
 use Rattle.listing_io.specs.{declared.listing.ListedStep.ListedStep, declared.fault.Fault.Fault, declared.fault.Fault.TheVariants.BadLine}
-use Rattle.listing_io.specs.{declared.fault.Fault.TheVariants.Memory, Forms.Form, Forms.pair_in, Listing.Line, Listing.first_line, Listing.step_line}
-use Rattle.listing_io.specs.{Listing.head_form, Listing.head_front, Listing.dir_front, Listing.term_form, Listing.flow_form, Listing.zone_front}
-use Rattle.listing_io.specs.{Listing.has_evt, Listing.end_line}
+use Rattle.listing_io.specs.{declared.fault.Fault.TheVariants.Memory, Forms.Form, Forms.pair_in, Listing.Line, Listing.convertible_first_line}
+use Rattle.listing_io.specs.{Listing.first_line, Listing.step_line, Listing.head_form, Listing.head_front, Listing.dir_front, Listing.term_form}
+use Rattle.listing_io.specs.{Listing.flow_form, Listing.zone_front, Listing.has_evt, Listing.end_line}
 
 -- the lines left, and the number of the first of them
 pub record Left : Type 0 where
@@ -120,14 +120,21 @@ none_of n (line ∷ more) = Err n
 abbrev pub over_at : Left → Result (Unit {0}) ℕ
 over_at left = none_of left.number left.lines
 
--- a whole listing: its steps, or the number of the first line of another form than the one due
-unfoldable pub listing_at : Bool → FlowModel → ℕ → (ℕ → List ZonePair) → Left → Result (List ListedStep) ℕ
-listing_at between m s pairs left = do
-  after ← first_at between m s left
+-- what follows the first line: the steps, the line END, and no others
+abbrev pub steps_to_end : FlowModel → ℕ → (ℕ → List ZonePair) → Left → Result (List ListedStep) ℕ
+steps_to_end m s pairs after = do
   steps ← for_each (step_at m s pairs) (times m) after
   end ← text_at end_line steps.1
   over ← over_at end
   Ok steps.0
+
+-- a whole listing: its steps, or the number of the first line of another form than the one due
+unfoldable pub listing_at : Bool → FlowModel → ℕ → (ℕ → List ZonePair) → Left → Result (List ListedStep) ℕ
+listing_at between m s pairs left = first_at between m s left >>= steps_to_end m s pairs
+
+-- that of a model with convertible layers, which has its own first line
+unfoldable pub convertible_listing_at : FlowModel → ℕ → (ℕ → List ZonePair) → Left → Result (List ListedStep) ℕ
+convertible_listing_at m s pairs left = text_at (convertible_first_line m s) left >>= steps_to_end m s pairs
 
 -- the listing of a file, or BadListing at that line
 abbrev pub or_bad_listing : List ℕ → Result (List ListedStep) ℕ → Result (List ListedStep) Refusal
@@ -136,6 +143,9 @@ or_bad_listing file (Err n) = Err (refusal BadListing file n)
 
 abbrev pub listing_in : Bool → FlowModel → ℕ → (ℕ → List ZonePair) → List ℕ → List ℕ → Result (List ListedStep) Refusal
 listing_in between m s pairs file text = or_bad_listing file (listing_at between m s pairs (all_lines text))
+
+abbrev pub convertible_listing_in : FlowModel → ℕ → (ℕ → List ZonePair) → List ℕ → List ℕ → Result (List ListedStep) Refusal
+convertible_listing_in m s pairs file text = or_bad_listing file (convertible_listing_at m s pairs (all_lines text))
 
 -- What a call returned, seen by view, and what it left to be read: what reading gives, unless memory ran out.
 abbrev pub Stops : {Y : Type 0} → Fault → Result Y ℕ → Type 0

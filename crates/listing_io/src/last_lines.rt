@@ -1,8 +1,8 @@
 // The last lines of a run that name a refusal, a time step, or a place in it.
 ghost use Rattle.std.specs.Prelude.{◌≡◌, ◌++◌, IfOk};
 ghost use Rattle.model_types.specs.{HasSize};
-ghost use Rattle.listing_io.specs.{cell_text, code_text, fault_place, no_bound_line, no_bound_text, not_certified_line, open_place, refused_line, step_word};
-ghost use Rattle.listing_io.specs.{unfinished_line};
+ghost use Rattle.listing_io.specs.{cell_text, code_text, fault_place, no_bound_line, no_bound_text, not_certified_line, not_gentle_line, open_place};
+ghost use Rattle.listing_io.specs.{refused_line, step_word, unfinished_line};
 
 use crate::places::{
     dir_name, push_place, push_three, push_time_line, push_two, push_word, side_word, term_word,
@@ -147,5 +147,23 @@ pub fn write_not_certified(
     push_two(&mut text, at.period, at.step)?;
     push_open_place(&mut text, grid, place)?;
     text.push(b'\n')?;
+    Ok(text)
+}
+
+/// The line of a listing of which not all heads between the listed ones of this cell of a step are gentle.
+#[tactic(auto, unfolding(crate::specs::LastLines::not_gentle_line))]
+pub fn write_not_gentle(
+    alloc: Global,
+    grid: &Grid,
+    at: TimeStep,
+    cell: u32,
+) -> Result<Vec<u8>, AllocError>
+    requires { HasSize grid.now }
+    ensures { IfOk result (λ text. text.items ≡ not_gentle_line grid.now at cell) }
+{
+    let mut text = Vec::from_slice(alloc, b"NOT CERTIFIED")?;
+    push_two(&mut text, at.period, at.step)?;
+    push_place(&mut text, grid, cell)?;
+    text.extend_from_slice(b" GENTLE\n")?;
     Ok(text)
 }

@@ -18,11 +18,12 @@ mod words;
 
 pub use fault::Fault;
 pub use last_lines::{
-    push_no_bound, write_no_bound, write_not_certified, write_refused, write_unfinished,
+    push_no_bound, write_no_bound, write_not_certified, write_not_gentle, write_refused,
+    write_unfinished,
 };
 pub use lines::AllLines;
 pub use listing::{ListedStep, Listing};
-pub use listing_reader::read_listing;
+pub use listing_reader::{read_convertible_listing, read_listing};
 pub use listing_writer::{head_pair, push_first_line, push_zones, write_first, write_step};
 pub use pair_lines::{CellWord, Row, push_row, push_row_if, read_row, read_row_if};
 pub use places::{

@@ -3,8 +3,8 @@ ghost use Rattle.std.specs.Prelude.{◌≡◌, ◌≤◌, ◌++◌, [], ◌∷�
 ghost use Rattle.std.specs.Fmt.{signed_decimal};
 ghost use Rattle.model_types.specs.{cell_count, HasSize};
 ghost use Rattle.budget_bounds.specs.{place_of, no_pair};
-ghost use Rattle.listing_io.specs.{first_text, head_lines, head_pair, numbers_text, printed_terms, step_text, term_line, text_of, titled_line, zone_line};
-ghost use Rattle.listing_io.specs.{zone_pair};
+ghost use Rattle.listing_io.specs.{convertible_first_line, first_text, head_lines, head_pair, numbers_text, printed_terms, step_text, term_line, text_of};
+ghost use Rattle.listing_io.specs.{titled_line, zone_line, zone_pair};
 
 use crate::pair_lines::{CellWord, Row, push_row, push_row_if};
 use crate::places::{has_evt, push_time_line, push_word};
@@ -55,6 +55,18 @@ pub fn push_first_line(
         text.extend_from_slice(b" TO")?;
     }
     Ok(())
+}
+
+// Writes the first line of a listing of a model with convertible layers, without its line feed.
+pub(crate) fn push_convertible_first_line(
+    text: &mut Vec<u8>,
+    model: &FlowModel,
+    s: u32,
+) -> Result<(), AllocError>
+    ensures { IfOk result (λ _. text.new.items ≡ text.old.items ++ convertible_first_line model.now s) }
+{
+    push_first_line(text, b"HEADS 2", false, model, s)?;
+    text.extend_from_slice(b" CONVERTIBLE")
 }
 
 /// The first line of a listing: its version, the number s of digits of conductances, and LENUNI; with `between` the word
