@@ -7,9 +7,9 @@ use Rattle.check_run.proofs.{Passed.ArePassed, Passed.all_move, Passed.have_one,
 use Rattle.check_run.specs.declared.listing.CheckFault.TheVariants as fault
 
 -- what holds of the heads before a step and of the step, as they were lent
-pub here : (P : List Bound → ListedStep → Type 0) (old olds heads : List Bound) (flows : List ZoneFlow) (w x : ListedStep) → old ≡ olds → w ≡ x → heads ≡ w.heads → flows ≡ w.zones →
+pub lent_step : (P : List Bound → ListedStep → Type 0) (old olds heads : List Bound) (flows : List ZoneFlow) (w x : ListedStep) → old ≡ olds → w ≡ x → heads ≡ w.heads → flows ≡ w.zones →
     P old (record { heads = heads; budget = w.budget; zones = flows }) → P olds x
-here P old olds heads flows w x is same is_heads are_flows h = grind (arith)
+lent_step P old olds heads flows w x is same is_heads are_flows h = grind (arith)
 
 -- a step for each time
 steps_many : (ats : List TimeStep) (ws : List ListedStep) → length ws ≡ length ats → length ats ≡ length (steps_of ats ws)
@@ -130,7 +130,7 @@ module _ (limits : Limits) (ds : Decks) (s : ℕ) (zones : Option (List ℕ)) (a
         let P : List Bound → ListedStep → Type 0 = λ o x. FailsBy limits ds s zones (get_or items i d) o x fault in
         ends_by (heads_before start all i) (get_or items i d) (drop (i + 1) (times ds.first)) (step_in all i) (drop (i + 1) all) fault v
         (at_step (heads_before start all i) i items d is listed below f)
-        (here P old (heads_before start all i) heads flows w (step_in all i) old_is w_is heads_are flows_are (subst D digits h)) verdict
+        (lent_step P old (heads_before start all i) heads flows w (step_in all i) old_is w_is heads_are flows_are (subst D digits h)) verdict
 
     pub goes_here : Passes limits ds n zones (get_or items i d) old (record { heads = heads; budget = w.budget; zones = flows }) →
         BoundsMoves (checked_task ds n zones) (get_or items i d) old (step_of (get_or items i d) (record { heads = heads; budget = w.budget; zones = flows })) →
@@ -140,7 +140,7 @@ module _ (limits : Limits) (ds : Decks) (s : ℕ) (zones : Option (List ℕ)) (a
         BoundsMoves (checked_task ds k zones) (get_or items i d) old
         (step_of (get_or items i d) (record { heads = heads; budget = w.budget; zones = flows })) in
         let P : List Bound → ListedStep → Type 0 = λ o x. Passes limits ds s zones (get_or items i d) o x × BoundsMoves (checked_task ds s zones) (get_or items i d) o (step_of (get_or items i d) x) in
-        let h = here P old (heads_before start all i) heads flows w (step_in all i) old_is w_is heads_are flows_are (subst D digits (passes, moves)) in
+        let h = lent_step P old (heads_before start all i) heads flows w (step_in all i) old_is w_is heads_are flows_are (subst D digits (passes, moves)) in
         let Q : ℕ → Type 0 = λ k. IsSoFar (heads_before start all k) (drop (i + 1) (times ds.first)) (drop (i + 1) all) in
         let next : suc i ≡ i + 1 = omega arith in
         subst Q next (one_more (heads_before start all i) (get_or items i d) (drop (i + 1) (times ds.first)) (step_in all i) (drop (i + 1) all)

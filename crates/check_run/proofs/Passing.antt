@@ -21,7 +21,7 @@ flow_wider s e zones h v w covers encloses =
     let F : ZonePair → Type 0 = λ z. EnclosesSigned w.lo w.hi (s + 9) (exact_flow z.from z.to (exact_faces zones h e)) in
     wider w.lo w.hi v.lo v.hi (s + 9) _ covers.lower covers.upper (subst F (sym covers.zones) encloses)
 
-wide_enclose : (s : ℕ) (e : List ExactCell) (o : Option (List ℕ)) (h : ℕ → Fraction) (listed flows : List ZoneFlow) → AllZip CoversFlow listed flows →
+pub wide_enclose : (s : ℕ) (e : List ExactCell) (o : Option (List ℕ)) (h : ℕ → Fraction) (listed flows : List ZoneFlow) → AllZip CoversFlow listed flows →
     IfSome o (λ zones. EncloseExact s e zones h flows) → IfSome o (λ zones. EncloseExact s e zones h listed)
 wide_enclose s e None h listed flows covers encloses = tt
 wide_enclose s e (Some zones) h listed flows covers encloses = λ k d lt.
