@@ -1,7 +1,17 @@
-// What the verdict on a listing's heads says.
-ghost use Rattle.gentle_run.specs.{CertifiedIsEnclosed};
+// What the verdict on a listing says.
+ghost use Rattle.gentle_run.specs.{CertifiedHasHistory, CertifiedIsEnclosed, VerdictIsOne};
 
-/// Where the heads of a listing hold, every history of gentle heads that nearly solves the model lies within it, with its flows.
+/// A listing has at most one verdict.
+pub fn one_verdict()
+    ensures { VerdictIsOne }
+{}
+
+/// Every history of gentle heads that nearly solves the model lies within a certified listing.
 pub fn certified_is_enclosed()
     ensures { CertifiedIsEnclosed }
+{}
+
+/// And there is one, as close to solving the model as is wanted.
+pub fn certified_has_history()
+    ensures { CertifiedHasHistory }
 {}

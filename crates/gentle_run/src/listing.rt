@@ -1,19 +1,22 @@
-// The check of the heads of a listing.
-ghost use Rattle.std.specs.Prelude.{◌≡◌, ◌<◌, ◌≤◌, Contains, IfErr, IfOk, length};
-ghost use Rattle.model_types.specs.{IsModel, times as times_of};
-ghost use Rattle.problem_builder.specs.{AreEvenStorages, AreGridHeads, ArePeriodTables, AreStartHeads, AreTables};
+// The check of a listing.
+ghost use Rattle.std.specs.Prelude.{◌≡◌, ◌<◌, ◌≤◌, IfOk, length, option_map};
+ghost use Rattle.model_types.specs.{IsModel};
+ghost use Rattle.problem_builder.specs.{AreStartHeads, AreTables};
+ghost use Rattle.zone_pairs.specs.{AreZones, pairs_in};
+ghost use Rattle.listing_io.specs.{AreListed, step_in};
 ghost use Rattle.water_table.specs.{with_yield};
-ghost use Rattle.gentle_steps.specs.{FailsBy};
-ghost use Rattle.gentle_run.specs.declared.verdict.HeadsVerdict.TheVariants.{Hold};
-ghost use Rattle.gentle_run.specs.{AreHeadsListed, AreTablesOfPeriod, Holds, IsVerdict, IsVerdictAt, ListingEncloses, heads_before, listed_heads_of, step_in};
+ghost use Rattle.gentle_run.specs.declared.verdict.GentleVerdict.{GentleVerdict};
+ghost use Rattle.gentle_run.specs.declared.verdict.GentleVerdict.TheVariants.{Certified};
+ghost use Rattle.gentle_run.specs.{AreTablesOfPeriod, IsVerdict, IsVerdictAt, ListingEncloses, heads_before};
 
 use crate::kept::tables_of;
-use crate::laws::certified_is_enclosed;
-use crate::verdict::HeadsVerdict;
-use gentle_steps::{HeadsFault, test_heads};
+use crate::laws::{certified_is_enclosed, one_verdict};
+use crate::step::check_step;
+use crate::verdict::GentleVerdict;
+use gentle_steps::GentleFault;
 use listing_io::{ListedStep, Listing};
 use model_types::{FlowModel, TimeStep, times};
-use problem_builder::{PeriodTables, StepTables, Tables, start_heads};
+use problem_builder::{PeriodTables, Tables, start_heads};
 use std::alloc::{AllocError, Global};
 use step_problem::Bound;
 use water_table::ConvertibleLayers;
@@ -38,46 +41,18 @@ fn heads_before<'a>(start: &'a [Bound], listing: &'a Listing, index: usize) -> &
 }
 
 // The verdict on a listing from a step's fault at its time.
-fn verdict_at(at: TimeStep, fault: HeadsFault) -> Result<HeadsVerdict, AllocError>
+fn verdict_at(at: TimeStep, fault: GentleFault) -> Result<GentleVerdict, AllocError>
     ensures { IfOk result (IsVerdictAt at fault) }
 {
     match fault {
-        HeadsFault::Steep(cell) => Ok(HeadsVerdict::Steep(at, cell)),
-        HeadsFault::Fails(place) => Ok(HeadsVerdict::Fails(at, place)),
-        HeadsFault::Refused(refusal) => Ok(HeadsVerdict::Refused(at, refusal)),
-        HeadsFault::Memory => Err(AllocError),
+        GentleFault::Steep(cell) => Ok(GentleVerdict::Steep(at, cell)),
+        GentleFault::Fails(place) => Ok(GentleVerdict::Fails(at, place)),
+        GentleFault::Refused(refusal) => Ok(GentleVerdict::Refused(at, refusal)),
+        GentleFault::Memory => Err(AllocError),
     }
 }
 
-// Checks the listed heads of a step.
-fn check_step(
-    alloc: Global,
-    model: &FlowModel,
-    layers: &ConvertibleLayers,
-    tables: &Tables,
-    period: &PeriodTables,
-    at: TimeStep,
-    old: &[Bound],
-    listed: &[Bound],
-) -> Result<(), HeadsFault>
-    requires model { IsModel model.now }
-    requires yields { IsModel (with_yield model.now layers.now) }
-    requires time { Contains (times_of model.now) at }
-    requires digits { tables.now.digits ≤ 18 }
-    requires tables { AreTables model.now tables.now.digits tables.now }
-    requires period { ArePeriodTables model.now tables.now.digits at.period period.now }
-    requires storage { AreEvenStorages model.now tables.now.digits at.period period.now.storage }
-    requires old { AreGridHeads model.now old.now }
-    requires listed { AreGridHeads model.now listed.now }
-    ensures holds { IfOk result (λ _. Holds model.now layers.now tables.now.digits at old.now listed.now) }
-    ensures fails { IfErr result (FailsBy model.now layers.now tables.now.digits at old.now listed.now) }
-{
-    let step = StepTables::new(alloc, model, period, at)?;
-    let _posed = test_heads(alloc, model, layers, tables, period, &step, at, old, listed)?;
-    Ok(())
-}
-
-// Checks the heads of a listing step by step. `tables` are those of the run, `start` the bounds of STRT, `period` the tables of the first stress period.
+// Checks a listing step by step. `tables` are those of the run, `first` those of the first stress period, `start` the bounds of STRT.
 fn check_steps(
     alloc: Global,
     model: &FlowModel,
@@ -85,16 +60,18 @@ fn check_steps(
     tables: &Tables,
     first: PeriodTables,
     start: &[Bound],
+    zones: Option<&[u32]>,
     listing: &Listing,
-) -> Result<HeadsVerdict, AllocError>
+) -> Result<GentleVerdict, AllocError>
     requires model { IsModel model.now }
     requires yields { IsModel (with_yield model.now layers.now) }
     requires digits { tables.now.digits ≤ 18 }
     requires tables { AreTables model.now tables.now.digits tables.now }
     requires first { AreTablesOfPeriod model.now tables.now.digits first }
     requires start { AreStartHeads model.now start.now }
-    requires listing { AreHeadsListed model.now listing.now }
-    ensures { IfOk result (IsVerdict model.now layers.now tables.now.digits listing.now) }
+    requires zones { AreZones model.now (option_map (λ z. z.now) zones) }
+    requires listing { AreListed model.now (pairs_in model.now (option_map (λ z. z.now) zones)) listing.now }
+    ensures { IfOk result (IsVerdict model.now layers.now tables.now.digits (option_map (λ z. z.now) zones.entry) listing.now) }
 {
     let mut period = first;
     let times = times(alloc, model)?;
@@ -102,35 +79,54 @@ fn check_steps(
         let old = heads_before(start, listing, index);
         let step = step_at(listing, index);
         period = tables_of(alloc, model, tables, period, at.period)?;
-        let listed = step.heads.as_slice();
-        match check_step(alloc, model, layers, tables, &period, *at, old, listed) {
+        let heads = step.heads.as_slice();
+        let flows = step.zones.as_slice();
+        match check_step(
+            alloc,
+            model,
+            layers,
+            tables,
+            &period,
+            *at,
+            old,
+            zones,
+            heads,
+            &step.budget,
+            flows,
+        ) {
             Ok(()) => {}
             Err(fault) => return verdict_at(*at, fault),
         }
     }
-    Ok(HeadsVerdict::Hold)
+    Ok(GentleVerdict::Certified)
 }
 
-/// Checks the heads of a listing of a model with convertible layers, with s digits of conductances, step by step, each from the listed heads of the one
-/// before it, the first from STRT. The first step and place that fails is the verdict, or the first refusal.
-pub fn check_heads(
+/// Checks a listing of a model with convertible layers, with s digits of conductances, step by step, each from the listed heads of the one before it, the
+/// first from STRT. `zones` has the zone of each cell, if there is a zone file. The first step and place that fails is the verdict, or the first refusal.
+pub fn check_listing(
     alloc: Global,
     model: &FlowModel,
     layers: &ConvertibleLayers,
     listing: &Listing,
     s: u32,
-) -> Result<HeadsVerdict, AllocError>
+    zones: Option<&[u32]>,
+) -> Result<GentleVerdict, AllocError>
     requires model { IsModel model.now }
     requires yields { IsModel (with_yield model.now layers.now) }
     requires digits { s ≤ 18 }
-    requires listing { AreHeadsListed model.now listing.now }
-    ensures verdict { IfOk result (IsVerdict model.now layers.now s listing.now) }
-    // Where the heads of all steps hold, every history of gentle heads that nearly solves the model lies within them, with its flows and its budget terms.
-    ensures encloses { IfOk result (λ v. v ≡ Hold → ListingEncloses s model.now layers.now (listed_heads_of listing.now)) }
+    requires zones { AreZones model.now (option_map (λ z. z.now) zones) }
+    requires listing { AreListed model.now (pairs_in model.now (option_map (λ z. z.now) zones)) listing.now }
+    // The listing's one verdict.
+    ensures verdict { IfOk result (IsVerdict model.now layers.now s (option_map (λ z. z.now) zones.entry) listing.now) }
+    ensures only { IfOk result (λ v. (other : GentleVerdict) →
+        IsVerdict model.now layers.now s (option_map (λ z. z.now) zones.entry) listing.now other → other ≡ v) }
+    // Where it is certified, every history of gentle heads that balances each variable cell to less than a unit of flow lies within it.
+    ensures encloses { IfOk result (λ v. v ≡ Certified → ListingEncloses s model.now layers.now (option_map (λ z. z.now) zones.entry) listing.now) }
 {
+    one_verdict();
     certified_is_enclosed();
     let start = start_heads(alloc, model)?;
     let tables = Tables::new(alloc, model, s)?;
     let first = PeriodTables::at(alloc, model, &tables, 1)?;
-    check_steps(alloc, model, layers, &tables, first, &start, listing)
+    check_steps(alloc, model, layers, &tables, first, &start, zones, listing)
 }

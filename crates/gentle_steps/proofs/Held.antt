@@ -9,8 +9,8 @@ use Rattle.gentle_check.proofs.Signs.{signs_are_shown}
 use Rattle.gentle_steps.proofs.{Cells.problem_length, Cells.heads_are, Cells.side_cells, SideHeads.active_constant, SideHeads.side_encloses, SideHeads.side_ordered}
 
 -- wider bounds enclose what narrower ones do
-wider : (a b lo hi : ℤ) (k : ℕ) (f : Fraction) → a ≤ℤ lo → hi ≤ℤ b → EnclosesSigned lo hi k f → EnclosesSigned a b k f
-wider a b lo hi k f below above e = record {
+pub wider_encloses : (a b lo hi : ℤ) (k : ℕ) (f : Fraction) → a ≤ℤ lo → hi ≤ℤ b → EnclosesSigned lo hi k f → EnclosesSigned a b k f
+wider_encloses a b lo hi k f below above e = record {
   lower = le-trans _ _ _ (mul_mono_right (den f) a lo below) e.lower;
   upper = le-trans _ _ _ e.upper (mul_mono_right (den f) hi b above);
 }
@@ -31,12 +31,12 @@ module _ (m : FlowModel) (at : TimeStep) (listed : List Bound) (valid : IsModel 
     enclosed_by true e =
         let inside = between side c (ordered c here.within) in
         subst (EnclosesSigned (lower_at listed c) (upper_at listed c) 9) (sym (variable_at_head m at (10 ^ 9) x c e))
-        (wider _ _ (x c) (x c) 9 (share (10 ^ 9) (x c)) inside.0 inside.1 (own_bounds (x c)))
+        (wider_encloses _ _ (x c) (x c) 9 (share (10 ^ 9) (x c)) inside.0 inside.1 (own_bounds (x c)))
     enclosed_by false e =
         let k = active_constant m at.period c here.active e in
         let given = constant_head_is_enclosed m at valid time c in
         subst (EnclosesSigned (lower_at listed c) (upper_at listed c) 9) (sym (known_at m at (10 ^ 9) x c k))
-        (wider _ _ _ _ 9 (constant_head m at.period at.step c) (reach c here.within Low k) (reach c here.within High k) given)
+        (wider_encloses _ _ _ _ 9 (constant_head m at.period at.step c) (reach c here.within Low k) (reach c here.within High k) given)
 
   pub listed_encloses : (side : Side) → HeadsEnclose m listed (listed_heads m at (heads_on side listed))
   listed_encloses side c here = enclosed_by side c here (is_variable m at.period c) refl

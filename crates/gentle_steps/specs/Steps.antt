@@ -15,8 +15,8 @@ use Rattle.water_storage.specs.{ArePairs}
 use Rattle.gentle_heads.specs.{AreGentleBetween, IsFirstSteep}
 use Rattle.gentle_problem.specs.{branches_at}
 use Rattle.gentle_check.specs.{whole_balance}
-use Rattle.gentle_steps.specs.{declared.fault.HeadsFault.HeadsFault, declared.posed.Posed.Posed, Sides.side_bounds}
-use Rattle.gentle_steps.specs.declared.fault.HeadsFault.TheVariants as fault
+use Rattle.gentle_steps.specs.{declared.fault.GentleFault.GentleFault, declared.posed.Posed.Posed, Sides.side_bounds}
+use Rattle.gentle_steps.specs.declared.fault.GentleFault.TheVariants as fault
 
 -- c is the first of the numbers below n for which P doesn't hold
 pub record IsFirst (P : ℕ → Type 0) (n c : ℕ) : Type 0 where
@@ -35,7 +35,7 @@ ReachesOn Low given listed = listed.low ≤ℤ given.low
 ReachesOn High given listed = given.high ≤ℤ listed.high
 
 -- a step's fault by that of a problem
-abbrev pub of_bound : BoundFault → HeadsFault
+abbrev pub of_bound : BoundFault → GentleFault
 of_bound (bound.NoBound n) = fault.Refused n
 of_bound bound.Memory = fault.Memory
 
@@ -95,7 +95,7 @@ module _ (m : FlowModel) (w : ConvertibleLayers) (s : ℕ) (at : TimeStep) (list
     pub low_cells : map (λ e. e.id) x.low ≡ variable_cells m at.period
     pub high_cells : map (λ e. e.id) x.high ≡ variable_cells m at.period
 
-  abbrev pub IsUnposed : HeadsFault → Type 0
+  abbrev pub IsUnposed : GentleFault → Type 0
   IsUnposed (fault.Steep c) = ⊥
   IsUnposed (fault.Fails place) = ⊥
   IsUnposed (fault.Refused n) = IsRefused n
@@ -160,7 +160,7 @@ module _ (m : FlowModel) (w : ConvertibleLayers) (s : ℕ) (at : TimeStep) (old 
         IsFirstWeak p q i side → place ≡ Cell (entries_at p i).id side → FailsAt place
 
   -- the cause of a step's fault; lack of memory is possible at any time
-  abbrev pub FailsBy : HeadsFault → Type 0
+  abbrev pub FailsBy : GentleFault → Type 0
   FailsBy (fault.Steep c) = IsSteep m w at listed c
   FailsBy (fault.Fails place) = IsGentlyListed m w at listed × FailsAt place
   FailsBy (fault.Refused n) = IsGentlyListed m w at listed × IsRefused m w s at listed n

@@ -8,7 +8,7 @@ ghost use Rattle.water_table.specs.{with_yield};
 ghost use Rattle.gentle_steps.specs.{FailsBy, HeadsHold, IsFirstCrossed, IsGentlyListed, IsSteep};
 
 use crate::constants::first_short;
-use crate::fault::HeadsFault;
+use crate::fault::GentleFault;
 use crate::posed::{Posed, pose};
 use crate::signs::first_weak;
 use gentle_heads::first_steep;
@@ -82,7 +82,7 @@ pub fn test_heads(
     at: TimeStep,
     old: &[Bound],
     listed: &[Bound],
-) -> Result<Posed, HeadsFault>
+) -> Result<Posed, GentleFault>
     requires model { IsModel model.now }
     requires yields { IsModel (with_yield model.now layers.now) }
     requires time { Contains (times model.now) at }
@@ -97,11 +97,11 @@ pub fn test_heads(
     ensures fails { IfErr result (FailsBy model.now layers.now tables.now.digits at old.now listed.now) }
 {
     if let Some(cell) = first_rough(model, layers, period, at, listed) {
-        return Err(HeadsFault::Steep(cell));
+        return Err(GentleFault::Steep(cell));
     }
     let posed = pose(alloc, model, layers, tables, period, step, at, listed)?;
     if let Some((cell, side)) = first_short(model, period, step, at, listed) {
-        return Err(HeadsFault::Fails(Place::Cell(cell, side)));
+        return Err(GentleFault::Fails(Place::Cell(cell, side)));
     }
     let bounds = bounds_of(alloc, &posed.low, listed)?;
     if let Some((index, side)) = first_weak(
@@ -116,7 +116,7 @@ pub fn test_heads(
         listed,
     ) {
         let cell = posed.low.cell(index).id;
-        return Err(HeadsFault::Fails(Place::Cell(cell, side)));
+        return Err(GentleFault::Fails(Place::Cell(cell, side)));
     }
     Ok(posed)
 }

@@ -11,6 +11,7 @@ mod signs;
 mod storage;
 mod table;
 
-pub use fault::HeadsFault;
+pub use fault::GentleFault;
 pub use heads::test_heads;
 pub use posed::Posed;
+pub use sides::one_head;

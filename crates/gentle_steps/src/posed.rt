@@ -9,7 +9,7 @@ ghost use Rattle.problem_builder.specs.{AreEvenStorages, AreGridHeads, ArePeriod
 ghost use Rattle.water_table.specs.{with_yield};
 ghost use Rattle.gentle_steps.specs.{ArePosed, HasNoSideProblem, IsSideProblem, IsUnposed};
 
-use crate::fault::HeadsFault;
+use crate::fault::GentleFault;
 use crate::sides::side_bounds;
 use crate::storage::first_large;
 use gentle_problem::problem_at;
@@ -82,7 +82,7 @@ pub(crate) fn pose(
     step: &StepTables,
     at: TimeStep,
     listed: &[Bound],
-) -> Result<Posed, HeadsFault>
+) -> Result<Posed, GentleFault>
     requires model { IsModel model.now }
     requires yields { IsModel (with_yield model.now layers.now) }
     requires time { Contains (times model.now) at }
@@ -118,7 +118,7 @@ pub(crate) fn pose(
         Side::High,
     )?;
     if let Some(cell) = first_large(model, layers, tables, period, step, at) {
-        return Err(HeadsFault::Refused(too_large(cell)));
+        return Err(GentleFault::Refused(too_large(cell)));
     }
     Ok(Posed { low, high })
 }

@@ -14,7 +14,7 @@ use std::alloc::{AllocError, Global};
 use step_problem::{Bound, Side};
 
 /// One head as a bound.
-pub(crate) fn one_head(head: i64) -> Bound
+pub fn one_head(head: i64) -> Bound
     ensures { result ≡ one_head_of head }
 {
     Bound {

@@ -21,7 +21,7 @@ use water_table::ConvertibleLayers;
 
 // Whether the sum of a balance without storage and a flow of stored water has the sign of its side.
 fn has_sign(side: Side, balance: i128, stored: i128) -> bool
-    requires { IsMagnitudeAtMost stored (2 ^ 124) }
+    requires { IsMagnitudeAtMost stored (2 ^ 123) }
     ensures { IsTrue result ↔ HasSign side (balance +ℤ stored) }
 {
     match side {

@@ -1,3 +1,3 @@
 pub mod Terms
-pub use Rattle.gentle_terms.specs.Terms.{HistoryTermsLieBetween, InOrder, TermsAreInOrder, TermsLieFrom, stored_term}
+pub use Rattle.gentle_terms.specs.Terms.{HistoryTermsLieBetween, InOrder, TermsAreInOrder, TermsLieAt, TermsLieFrom, stored_term}
 unfoldable pub use Rattle.gentle_terms.specs.Terms.{water_term}

@@ -27,8 +27,7 @@ pub use Rattle.model_types.specs.{vka_at, vkcb_at, declared.face.Axis.Axis, decl
 pub use Rattle.model_types.specs.{declared.face.Face.Face, declared.model.FlowModel.FlowModel, declared.time_steps.TimeStep.TimeStep}
 pub use Rattle.pair_flows.specs.{AreComparable, CellFlows, gain_from_first}
 pub use Rattle.step_problem.proofs.Leasts.{mul_mono, mul_neg}
-pub use Rattle.water_enclosure.specs.{FlowsLieAt, FlowsLieFrom, GreaterBalancesLieLower, HasOneGentleHead, OwnFlowsAreAtMost, SignsCertify, SignsEncloseFlows, SignsEncloseHistories, flow_unit}
-pub use Rattle.water_enclosure.specs.{pair_of}
+pub use Rattle.water_enclosure.specs.{FlowsLieAt, FlowsLieFrom, GreaterBalancesLieLower, HasOneGentleHead, OwnFlowsAreAtMost, SignsEncloseFlows, SignsEncloseHistories}
 pub use Rattle.water_table.proofs.Orders.{AtMost-of, among, below_then_at_most, common_denominator_exists, less_is_below, plus_rises}
 pub use Rattle.water_table.specs.{FallsGently, FallsWithin, GainsAtLeast, HasSignsAt, HasSignsFrom, IsFull, IsGentle, IsWithin, LieInPairs, LiesInPair, ListedPair, LosesAtLeast, NearlySolvesAt}
 pub use Rattle.water_table.specs.{NearlySolvesFrom, branch, conductance_at, constant_branch, convertible_cell, convertible_step, heads_at, is_convertible, listed_heads, narrow_pair, pumped_layers}

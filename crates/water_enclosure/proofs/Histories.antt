@@ -3,7 +3,7 @@ use Rattle.water_enclosure.proofs.Common.{refl, ◌≡◌, ℕ, ◌<◌, List, [
 use Rattle.water_enclosure.proofs.Common.{over_le, IsBelow, share, Fraction, Ratio, as_fraction, opposite, AtMost, FlowModel, TimeStep, IsModel, cell_count, index_of, is_active, is_constant}
 use Rattle.water_enclosure.proofs.Common.{is_variable, start_head, variable_cells, ConvertibleLayers, GainsAtLeast, HasSignsAt, HasSignsFrom, IsWithin, LieInPairs, LiesInPair, ListedPair}
 use Rattle.water_enclosure.proofs.Common.{LosesAtLeast, NearlySolvesAt, NearlySolvesFrom, heads_at, listed_heads, variable_cell, water_balance, AtMost-of, among, common_denominator_exists, FlowsLieAt}
-use Rattle.water_enclosure.proofs.Common.{FlowsLieFrom, OwnFlowsAreAtMost, SignsEncloseFlows, SignsEncloseHistories, map, SignsCertify, flow_unit, pair_of, below_then_at_most, less_is_below}
+use Rattle.water_enclosure.proofs.Common.{FlowsLieFrom, OwnFlowsAreAtMost, SignsEncloseFlows, SignsEncloseHistories, below_then_at_most, less_is_below}
 use Rattle.model_types.specs.{times}
 use Rattle.water_enclosure.proofs.{Cells.variable_active, Linked.index_within, Linked.index_names_cell, Linked.variable_at, Order.greater_balances_lie_lower, Order.known_at, Order.own_flows_at_most}
 use Rattle.water_enclosure.proofs.{Order.variable_at_head}
@@ -125,9 +125,3 @@ pub signs_enclose_flows : SignsEncloseFlows
 signs_enclose_flows unit m w pairs d Xs valid signs near =
     flows_from m w valid unit d (times m) pairs Xs (start_head m) (start_head m) (start_head m) (λ c lt active.
     AtMost-of (start_head m c) (start_head m c) refl) (λ c lt active. AtMost-of (start_head m c) (start_head m c) refl) signs near.steps
-
-pub signs_certify : SignsCertify
-signs_certify s m w listing valid signs = record {
-  heads = λ d Xs near. signs_enclose_histories (flow_unit s) m w (map pair_of listing) d Xs valid signs near;
-  flows = λ d Xs near. signs_enclose_flows (flow_unit s) m w (map pair_of listing) d Xs valid signs near;
-}

@@ -1,5 +1,5 @@
 // What signs at gentle heads say of all other gentle heads.
-ghost use Rattle.water_enclosure.specs.{GreaterBalancesLieLower, SignsEncloseHistories, SignsEncloseFlows, SignsCertify, HasOneGentleHead};
+ghost use Rattle.water_enclosure.specs.{GreaterBalancesLieLower, SignsEncloseHistories, SignsEncloseFlows, HasOneGentleHead};
 
 /// Gentle heads at which every variable cell gains more than at others lie nowhere above these.
 pub fn greater_balances_lie_lower()
@@ -16,12 +16,6 @@ pub fn signs_enclose_histories()
 #[tactic(auto, using(crate::proofs::Histories::signs_enclose_flows))]
 pub fn signs_enclose_flows()
     ensures { SignsEncloseFlows }
-{}
-
-/// So a listing whose heads have the signs is certified: what `ConvertibleCertified` promises holds of it.
-#[tactic(auto, using(crate::proofs::Histories::signs_certify))]
-pub fn signs_certify()
-    ensures { SignsCertify }
 {}
 
 /// The pumped cell, which 0.6 m and 0.25 m both balance: its gentle heads lie within 10^-8 m of 0.6 m.

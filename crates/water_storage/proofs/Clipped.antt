@@ -1,10 +1,9 @@
 -- Bounds of the lesser and the greater of two numbers, of a fall, and of sums; and a number that is the same as another one.
 use Rattle.water_storage.proofs.Common.{ℕ, ◌+◌, ◌*◌, ◌^◌, ◌<◌, arith, refl, mul-pos, clamps, ints, int_max, int_min, Encloses, EnclosesSigned, Fraction, Ratio, den, times, as_fraction, greater}
 use Rattle.water_storage.proofs.Common.{lesser, minus, ExactFixed, Goes-first, Goes-second, fraction_over, between_over, enclosed_over, IsOver-greater, IsOver-lesser, max_times, min_times, Bound}
-use Rattle.water_storage.proofs.Common.{High, Low, fall_flow, greater_bound, lesser_bound}
+use Rattle.water_storage.proofs.Common.{High, Low, fall_flow, greater_bound, lesser_bound, Pair}
 use Rattle.cell_balance.proofs.EntryBounds.{bounds_hold}
 use Rattle.step_problem.specs.{declared.entry.Fixed.Fixed, declared.entry.FixedKind.TheVariants.Storage}
-use Rattle.conductance_bounds.specs.declared.pair.Pair.{Pair}
 
 -- the bounds of a number
 abbrev pub Within : Bound → Fraction → Type 0

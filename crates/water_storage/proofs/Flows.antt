@@ -2,9 +2,8 @@
 use Rattle.water_storage.proofs.Common.{◌≡◌, ℕ, ◌+◌, Bool, true, false, cond, refl, pos, ℤ, Encloses, EnclosesSigned, Fraction, Ratio, number, size, over, times, as_fraction, greater, lesser, minus}
 use Rattle.water_storage.proofs.Common.{whole, none_encloses, plus_encloses, Bound, High, Low, FlowModel, Period, IsModel, dec_at, one, period_at, storage_capacity, top_at, Lasts, ConvertibleLayers}
 use Rattle.water_storage.proofs.Common.{stored, ArePairs, StoredFlowsEnclose, confined_flow, crossing_flow, greater_bound, lesser_bound, stored_flow, top_bound, with_yield, IsSmallPair, arith}
-use Rattle.water_storage.proofs.Common.{yield_pair, le_of_mul-le-mul_right, storage_term, units_ceiling, units_floor, IsActive, IsTimeOf, storage_pair, capped_encloses, time_of, is_convertible}
+use Rattle.water_storage.proofs.Common.{yield_pair, le_of_mul-le-mul_right, storage_term, units_ceiling, units_floor, IsActive, IsTimeOf, storage_pair, capped_encloses, time_of, is_convertible, Side}
 use Rattle.decimal_input.specs.Ratios.{den as ratio_den, times as product}
-use Rattle.step_problem.specs.declared.heads.Side.{Side}
 use Rattle.model_types.specs.declared.time_steps.TimeStep.{TimeStep}
 use Rattle.conductance_bounds.proofs.ModelBounds.{storages_enclose}
 use Rattle.water_storage.proofs.Clipped.{Within, fall_within, greater_within, lesser_within}

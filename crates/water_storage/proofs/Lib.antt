@@ -3,4 +3,5 @@ pub mod Clipped
 pub mod Waters
 pub mod Flows
 pub mod Clamped
+pub mod Smalls
 pub mod Elevations

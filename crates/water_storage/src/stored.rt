@@ -32,7 +32,7 @@ fn crossing_flow(
     requires old { (IsHead old.low) × (IsHead old.high) }
     requires new { (IsHead new.low) × (IsHead new.high) }
     ensures value { result ≡ crossing_of model.now cell pairs.drained pairs.compressed side old new }
-    ensures small { IsMagnitudeAtMost result (2 ^ 124) }
+    ensures small { IsMagnitudeAtMost result (2 ^ 123) }
 {
     let top = top_of(model, cell);
     let below = lesser_fall(side, old, new, top);
@@ -59,7 +59,7 @@ fn moving_flow(
     requires new { (IsHead new.low) × (IsHead new.high) }
     ensures value { result ≡ cond (is_convertible model.now layers.now cell) (crossing_of model.now cell pairs.drained pairs.compressed side old new)
         (fall_flow side pairs.compressed old new) }
-    ensures small { IsMagnitudeAtMost result (2 ^ 124) }
+    ensures small { IsMagnitudeAtMost result (2 ^ 123) }
 {
     if is_convertible(model, layers, cell) {
         crossing_flow(model, pairs, cell, side, old, new)
@@ -98,7 +98,7 @@ pub fn stored_flow(
     requires old { (IsHead old.low) × (IsHead old.high) }
     requires new { (IsHead new.low) × (IsHead new.high) }
     ensures value { result ≡ stored_flow model.now layers.now tables.now.digits at cell side old new }
-    ensures small { IsMagnitudeAtMost result (2 ^ 124) }
+    ensures small { IsMagnitudeAtMost result (2 ^ 123) }
 {
     match &step.factors {
         None => 0,

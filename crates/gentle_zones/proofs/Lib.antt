@@ -1,0 +1,3 @@
+mod Common
+pub mod Faces
+pub mod Held
