@@ -2,7 +2,7 @@
 use Rattle.command_line.proofs.Common.{◌≡◌, ℕ, ◌≤◌, Bool, true, false, cond, List, [], ◌∷◌, Option, Some, None, codes, refl, subst, arith, bytes_eq, digits_value, leb-true, and_parts, Text, Row}
 use Rattle.command_line.proofs.Common.{Kinds, fault_of, subcommand_of, first_of, heads_app, is_number, number_in, number_or, Wanted, AskedCheck, Check, batch_in, write_in, check_in, command_in}
 use Rattle.command_line.proofs.Common.{digits_in, make_in, rounds_in, run_in, wanted_if, order_of_words, watch_in, workers_in, flag_in, quick_if_unwatched, AskedText, CheckText, Words, listed_in}
-use Rattle.command_line.proofs.Common.{CheckPlan, check_by, file_check_in, listing_check_in, omitted, plan_check_in, plan_in, run_by, text_check_in, unset}
+use Rattle.command_line.proofs.Common.{CheckPlan, check_by, convertible_check_in, named_check_in, file_check_in, listing_check_in, if_omitted, plan_check_in, plan_in, run_by, text_check_in, unset}
 use Rattle.std.specs.Prelude.{◌&&◌, if◌then◌else◌, decimal, nat_le, option_and_then}
 
 -- a number that was taken is one of its range
@@ -48,7 +48,7 @@ plan_fits wells rows =
     then_fits (digits_in rows) _ (λ digits b.
     then_fits (workers_in rows) _ (λ workers c.
     then_fits (rounds_in rows) _ (λ rounds d.
-    then_fits (omitted (first_of (codes "watch") rows)) _ (λ watch e. then_fits (unset (flag_in (codes "deck") rows)) _ (λ deck f. tt))))))
+    then_fits (if_omitted (first_of (codes "watch") rows)) _ (λ watch e. then_fits (unset (flag_in (codes "deck") rows)) _ (λ deck f. tt))))))
 
 run_fits : (rows : List Row) → Fits (run_in rows)
 run_fits rows = by_wells (first_of (codes "plan") rows)
@@ -74,18 +74,30 @@ file_check_fits rows = by_wells (first_of (codes "plan") rows)
     by_wells None = listing_check_fits rows
     by_wells (Some wells) = plan_check_fits wells rows
 
+convertible_check_fits : (rows : List Row) → Fits (convertible_check_in rows)
+convertible_check_fits rows =
+    then_fits (first_of (codes "name") rows) _ (λ name a. then_fits (first_of (codes "listing") rows) _ (λ listing b. then_fits (if_omitted (first_of (codes "to") rows)) _
+    (λ to c. then_fits (if_omitted (first_of (codes "plan") rows)) _ (λ plan d. then_fits (digits_in rows) _ (λ digits e. tt)))))
+
+named_check_fits : (rows : List Row) → Fits (named_check_in rows)
+named_check_fits rows = by_flag (flag_in (codes "convertible") rows)
+  where
+    by_flag : (convertible : Bool) → Fits (if convertible then convertible_check_in rows else file_check_in rows)
+    by_flag true = convertible_check_fits rows
+    by_flag false = file_check_fits rows
+
 text_check_fits : (rows : List Row) → Fits (text_check_in rows)
 text_check_fits rows =
-    then_fits (first_of (codes "name") rows) _ (λ text a. then_fits (omitted (first_of (codes "listing") rows)) _ (λ listing b. then_fits (omitted (first_of (codes "to") rows)) _
-    (λ to c. then_fits (omitted (first_of (codes "zones") rows)) _ (λ zones d. then_fits (omitted (first_of (codes "plan") rows)) _
-    (λ plan f. then_fits (digits_in rows) _ (λ digits e. (few (first_of (codes "digits") rows) digits e)))))))
+    then_fits (first_of (codes "name") rows) _ (λ text a. then_fits (if_omitted (first_of (codes "listing") rows)) _ (λ listing b. then_fits (if_omitted (first_of (codes "to") rows)) _
+    (λ to c. then_fits (if_omitted (first_of (codes "zones") rows)) _ (λ zones d. then_fits (if_omitted (first_of (codes "plan") rows)) _
+    (λ plan f. then_fits (unset (flag_in (codes "convertible") rows)) _ (λ convertible g. then_fits (digits_in rows) _ (λ digits e. (few (first_of (codes "digits") rows) digits e))))))))
 
 check_fits : (rows : List Row) → Fits (check_in rows)
 check_fits rows = by_flag (flag_in (codes "deck") rows)
   where
-    by_flag : (deck : Bool) → Fits (if deck then text_check_in rows else file_check_in rows)
+    by_flag : (deck : Bool) → Fits (if deck then text_check_in rows else named_check_in rows)
     by_flag true = text_check_fits rows
-    by_flag false = file_check_fits rows
+    by_flag false = named_check_fits rows
 
 make_fits : (rows : List Row) → Fits (make_in rows)
 make_fits rows =

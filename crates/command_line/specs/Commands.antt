@@ -35,11 +35,13 @@ run_app =
     with_option (with_flag (with_option (spanning (settling (with_word (new_app (codes "run")) (codes "name")))) (codes "watch")) (codes "deck"))
     (codes "plan")
 
--- check NAME LISTING [--digits S] [--to NAME2] [--zones Z] [--wide] [--plan WELLS], or check --deck TEXT [--digits S] [--wide]
+-- check NAME LISTING [--digits S] [--to NAME2] [--zones Z] [--wide] [--plan WELLS], or check --deck TEXT [--digits S] [--wide], or
+-- check NAME LISTING --convertible [--digits S] [--zones Z] [--wide]
 unfoldable pub check_app : App
 check_app =
-    with_option (with_flag (with_flag (spanning (with_option (with_last_word (with_word (new_app (codes "check")) (codes "name")) (codes "listing"))
-    (codes "digits"))) (codes "wide")) (codes "deck")) (codes "plan")
+    with_flag (with_option (with_flag (with_flag (spanning
+    (with_option (with_last_word (with_word (new_app (codes "check")) (codes "name")) (codes "listing"))
+    (codes "digits"))) (codes "wide")) (codes "deck")) (codes "plan")) (codes "convertible")
 
 -- make SEED SIZE
 unfoldable pub make_app : App
@@ -72,7 +74,7 @@ pub record HasForm (form : App) (c : Command) : Type 0 where
   pub is : app_of c ≡ form
   pub local : (fields_of c).has_globals ≡ false
 
--- The line where the words aren't accepted. It names neither `write NAME` and `words`, nor `--zones` of `check`, nor `--to`, `--deck`
--- and `--plan` of `run` and `check`, nor `--quick` of `run` and `batch`, nor `--wide` of all commands but `make` and `words`, which are accepted too.
+-- The line where the words aren't accepted. It names neither `write NAME` and `words`, nor `--zones` and `--convertible` of `check`, nor `--to`,
+-- `--deck` and `--plan` of `run` and `check`, nor `--quick` of `run` and `batch`, nor `--wide` of all commands but `make` and `words`, which are accepted too.
 abbrev pub usage_line : List ℕ
 usage_line = codes "USAGE: heads run NAME [--digits S] [--workers W] [--rounds P] [--zones Z] [--watch N] | heads check NAME LISTING [--digits S] | heads make SEED SIZE | heads batch LIST [--digits S] [--workers W] [--rounds P]\n"

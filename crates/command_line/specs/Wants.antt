@@ -80,14 +80,15 @@ pub record AskedBatch : Type 0 where
   pub quick : Bool
 
 -- To list a model, or with the name of a second name file all models between two; to list what a plan's wells do to either; to check a
--- listing of a model, or of all between two, or with the name of a plan's wells one of what these do, or one that stands in one text with
--- its decks; to make a model from this seed, with this many rows and columns, and sum it up; to list the models of a batch; to write the
--- deck of the model of this name file, by these limits; or to list the words of the program.
+-- listing of a model, or of all between two, or with the name of a plan's wells one of what these do, or one of a model with convertible
+-- layers, or one that stands in one text with its decks; to make a model from this seed, with this many rows and columns, and sum it up;
+-- to list the models of a batch; to write the deck of the model of this name file, by these limits; or to list the words of the program.
 pub data Wanted : Type 0 where
   Run : ListingOrder → Option Text → Wanted
   Plan : AskedPlan → Option Text → Wanted
   Check : AskedCheck → Option Text → Wanted
   CheckPlan : AskedCheck → Text → Option Text → Wanted
+  CheckConvertible : AskedCheck → Wanted
   CheckText : AskedText → Wanted
   Make : ℕ → ℕ → Wanted
   Batch : AskedBatch → Wanted
@@ -112,7 +113,7 @@ turns_of (Some text) = option_map Some (number_in 1 1000 text)
 abbrev pub watch_in : List Row → Option (Option ℕ)
 watch_in rows = turns_of (first_of (codes "watch") rows)
 
--- whether a flag is given: --quick, --wide, --deck
+-- whether a flag is given: --quick, --wide, --deck, --convertible
 abbrev pub flag_in : Text → List Row → Bool
 flag_in id rows = option_map_or (λ text. bytes_eq text (codes "true")) (first_of id rows) false
 
@@ -150,9 +151,9 @@ listed_in rows = do
   }) (first_of (codes "to") rows))
 
 -- nothing, where an argument is omitted, or a flag isn't given
-abbrev pub omitted : Option Text → Option (Unit {0})
-omitted None = Some tt
-omitted (Some text) = None
+abbrev pub if_omitted : Option Text → Option (Unit {0})
+if_omitted None = Some tt
+if_omitted (Some text) = None
 
 abbrev pub unset : Bool → Option (Unit {0})
 unset true = None
@@ -165,7 +166,7 @@ plan_in wells rows = do
   digits ← digits_in rows
   workers ← workers_in rows
   rounds ← rounds_in rows
-  watch ← omitted (first_of (codes "watch") rows)
+  watch ← if_omitted (first_of (codes "watch") rows)
   deck ← unset (flag_in (codes "deck") rows)
   Some (Plan (record {
     limits = limits_in rows;
@@ -210,20 +211,35 @@ check_by (Some wells) rows = plan_check_in wells rows
 abbrev pub file_check_in : List Row → Option Wanted
 file_check_in rows = check_by (first_of (codes "plan") rows) rows
 
--- the check of a text has one word, which is the text's name, and neither a second deck, nor a zone file, nor a plan's wells beside it
+-- the check of a listing of a model with convertible layers has neither a second deck nor a plan's wells beside it
+abbrev pub convertible_check_in : List Row → Option Wanted
+convertible_check_in rows = do
+  name ← first_of (codes "name") rows
+  listing ← first_of (codes "listing") rows
+  to ← if_omitted (first_of (codes "to") rows)
+  plan ← if_omitted (first_of (codes "plan") rows)
+  digits ← digits_in rows
+  Some (CheckConvertible (record { limits = limits_in rows; name = name; listing = listing; digits = digits; zones = first_of (codes "zones") rows }))
 
+-- of one deck, of two, or with convertible layers
+abbrev pub named_check_in : List Row → Option Wanted
+named_check_in rows = if flag_in (codes "convertible") rows then convertible_check_in rows else file_check_in rows
+
+-- the check of a text has one word, which is the text's name, and neither a second deck, nor a zone file, nor a plan's wells beside it, nor
+-- convertible layers
 abbrev pub text_check_in : List Row → Option Wanted
 text_check_in rows = do
   text ← first_of (codes "name") rows
-  listing ← omitted (first_of (codes "listing") rows)
-  to ← omitted (first_of (codes "to") rows)
-  zones ← omitted (first_of (codes "zones") rows)
-  plan ← omitted (first_of (codes "plan") rows)
+  listing ← if_omitted (first_of (codes "listing") rows)
+  to ← if_omitted (first_of (codes "to") rows)
+  zones ← if_omitted (first_of (codes "zones") rows)
+  plan ← if_omitted (first_of (codes "plan") rows)
+  convertible ← unset (flag_in (codes "convertible") rows)
   digits ← digits_in rows
   Some (CheckText (record { limits = limits_in rows; text = text; digits = digits }))
 
 abbrev pub check_in : List Row → Option Wanted
-check_in rows = if flag_in (codes "deck") rows then text_check_in rows else file_check_in rows
+check_in rows = if flag_in (codes "deck") rows then text_check_in rows else named_check_in rows
 
 abbrev pub make_in : List Row → Option Wanted
 make_in rows = do
@@ -315,6 +331,7 @@ wanted_by (order.Run a) = Run (asked_of a) (text_if a.to)
 wanted_by (order.Plan a) = Plan (plan_asked a) (text_if a.to)
 wanted_by (order.Check a) = Check (check_of a) (text_if a.to)
 wanted_by (order.CheckPlan a) = CheckPlan (check_of a.check) a.wells.now (text_if a.check.to)
+wanted_by (order.CheckConvertible a) = CheckConvertible (check_of a)
 wanted_by (order.CheckText a) = CheckText (asked_text a)
 wanted_by (order.Make a) = Make a.seed a.size
 wanted_by (order.Batch a) = Batch (batch_of a)

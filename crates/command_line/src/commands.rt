@@ -89,7 +89,8 @@ fn check_command<'a>(alloc: Global) -> Result<Command<'a>, AllocError>
     let command = with_span(alloc, command)?;
     let command = with_flag(alloc, command, "wide")?;
     let command = with_flag(alloc, command, "deck")?;
-    with_option(alloc, command, "plan")
+    let command = with_option(alloc, command, "plan")?;
+    with_flag(alloc, command, "convertible")
 }
 
 #[tactic(auto, unfolding(crate::specs::Commands::make_app))]

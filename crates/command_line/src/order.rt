@@ -12,6 +12,8 @@ pub enum Order<'a> {
     Plan(PlanOrder<'a>),
     Check(CheckOrder<'a>),
     CheckPlan(PlanCheckOrder<'a>),
+    /// Of a model with convertible layers; without a second deck.
+    CheckConvertible(CheckOrder<'a>),
     CheckText(TextOrder<'a>),
     Make(MakeOrder),
     Batch(BatchOrder<'a>),

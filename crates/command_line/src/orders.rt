@@ -1,8 +1,9 @@
 // What the words ask for, read from them.
 ghost use Rattle.std.specs.Prelude.{◌≡◌, map, option_map, option_and_then, IfOk, IfSome, IsErrOf, Some, None, false};
 ghost use Rattle.clap.specs.Words.{rows_of, found_of, first_of, subcommand_rows_of};
-ghost use Rattle.command_line.specs.{flag_in, limits_in, quick_if_unwatched, wanted_by, order_of_words, run_in, check_in, make_in, batch_in, omitted};
-ghost use Rattle.command_line.specs.{command_in, file_check_in, listed_in, listing_check_in, plan_check_in, plan_in, text_check_in, unset, write_in};
+ghost use Rattle.command_line.specs.{flag_in, limits_in, quick_if_unwatched, wanted_by, order_of_words, run_in, check_in, make_in, batch_in, if_omitted};
+ghost use Rattle.command_line.specs.{command_in, convertible_check_in, file_check_in, listed_in, listing_check_in, named_check_in, plan_check_in, plan_in};
+ghost use Rattle.command_line.specs.{text_check_in, unset, write_in};
 
 use crate::commands::heads_command;
 use crate::numbers::{
@@ -81,8 +82,8 @@ fn listing_order<'a>(found: &ArgMatches<'a>) -> Option<Order<'a>>
 }
 
 // Nothing, where an argument is omitted.
-fn omitted(text: Option<&str>) -> Option<()>
-    ensures { result ≡ omitted (option_map (λ s. s.now) text.entry) }
+fn if_omitted(text: Option<&str>) -> Option<()>
+    ensures { result ≡ if_omitted (option_map (λ s. s.now) text.entry) }
 {
     match text {
         None => Some(()),
@@ -105,7 +106,7 @@ fn plan_order<'a>(found: &ArgMatches<'a>, wells: &'a str) -> Option<Order<'a>>
     let digits = digits_or_given(text_of(found, "digits"))?;
     let workers = workers_or_given(text_of(found, "workers"))?;
     let rounds = rounds_or_given(text_of(found, "rounds"))?;
-    omitted(text_of(found, "watch"))?;
+    if_omitted(text_of(found, "watch"))?;
     unset(has_flag(found, "deck"))?;
     Some(Order::Plan(PlanOrder {
         limits: limits_in(found),
@@ -173,15 +174,46 @@ fn file_check_order<'a>(found: &ArgMatches<'a>) -> Option<Order<'a>>
     }
 }
 
+// The check of a listing of a model with convertible layers.
+fn convertible_check_order<'a>(found: &ArgMatches<'a>) -> Option<Order<'a>>
+    ensures { option_map wanted_by result ≡ convertible_check_in (rows_of (found_of found.now)) }
+{
+    let name = text_of(found, "name")?;
+    let listing = text_of(found, "listing")?;
+    if_omitted(text_of(found, "to"))?;
+    if_omitted(text_of(found, "plan"))?;
+    let digits = digits_or_given(text_of(found, "digits"))?;
+    Some(Order::CheckConvertible(CheckOrder {
+        limits: limits_in(found),
+        name,
+        to: None,
+        listing,
+        digits,
+        zones: text_of(found, "zones"),
+    }))
+}
+
+// The check of a listing by the name of its deck.
+fn named_check_order<'a>(found: &ArgMatches<'a>) -> Option<Order<'a>>
+    ensures { option_map wanted_by result ≡ named_check_in (rows_of (found_of found.now)) }
+{
+    if has_flag(found, "convertible") {
+        convertible_check_order(found)
+    } else {
+        file_check_order(found)
+    }
+}
+
 // The check of a text of decks and a listing.
 fn text_check_order<'a>(found: &ArgMatches<'a>) -> Option<Order<'a>>
     ensures { option_map wanted_by result ≡ text_check_in (rows_of (found_of found.now)) }
 {
     let text = text_of(found, "name")?;
-    omitted(text_of(found, "listing"))?;
-    omitted(text_of(found, "to"))?;
-    omitted(text_of(found, "zones"))?;
-    omitted(text_of(found, "plan"))?;
+    if_omitted(text_of(found, "listing"))?;
+    if_omitted(text_of(found, "to"))?;
+    if_omitted(text_of(found, "zones"))?;
+    if_omitted(text_of(found, "plan"))?;
+    unset(has_flag(found, "convertible"))?;
     let digits = digits_or_given(text_of(found, "digits"))?;
     Some(Order::CheckText(TextOrder {
         limits: limits_in(found),
@@ -196,7 +228,7 @@ fn check_order<'a>(found: &ArgMatches<'a>) -> Option<Order<'a>>
     if has_flag(found, "deck") {
         text_check_order(found)
     } else {
-        file_check_order(found)
+        named_check_order(found)
     }
 }
 

@@ -2,10 +2,10 @@
 use Rattle.engine.proofs.Common.{[], Job, Text, ends_of_jobs, JobEnd, Wanted, AreDecks, AreTasks, Batch, IsJobEnd, IsRunText, defined, model_line, IsValidJob, CheckPlan, CheckText, Plan, Words, Run}
 use Rattle.engine.proofs.Common.{Check, Write, Make, MayRead, files_of, files_if, refused_line, IsTask, Task, folder_name, WordsMay, Refusal, Err, IfOk, List, None, Ok, Result, Some, ap, refl, subst}
 use Rattle.engine.proofs.Common.{sym, ℕ, ◌++◌, ◌∙◌, ◌∷◌, ◌≡◌, Option, append-nil, All-weaker, All-head, All-tail, AllZip, All, slice_get, option_to_list, Order, but_batch, wanted_by, IfOk-at_ok}
-use Rattle.engine.proofs.Common.{IfOk-weaker, WordsFault, IsOrder}
+use Rattle.engine.proofs.Common.{IfOk-weaker, WordsFault, IsOrder, CheckConvertible}
 use Rattle.std.specs.Prelude.{IfSome, length}
-use Rattle.batch_book.specs.{AreJobEnds}
 use Rattle.command_line.specs.declared.order.BatchOrder.{BatchOrder}
+use Rattle.batch_book.specs.{AreJobEnds}
 use Rattle.command_line.specs.declared.order.Order.TheVariants as order
 use Rattle.command_line.specs.declared.order.WordsFault.TheVariants as fault
 use Rattle.outside.specs.declared.inputs.InputFault.TheVariants as input
@@ -51,6 +51,7 @@ module _ (may : List ℕ → Type 0) where
   MayDo (Run a to) = MayRead may a.name to a.zones
   MayDo (Plan a to) = MayRead may a.name to a.zones × May a.wells
   MayDo (CheckPlan a wells to) = MayRead may a.name to a.zones × May wells × May a.listing
+  MayDo (CheckConvertible a) = MayRead may a.name None a.zones × May a.listing
   MayDo (Make seed size) = Unit {0}
   MayDo (Check a to) = MayRead may a.name to a.zones × May a.listing
   MayDo (Batch b) = May b.list
@@ -76,6 +77,7 @@ module _ (may : List ℕ → Type 0) where
   files_may (CheckPlan a wells to) h =
       let p = three_may a.name to a.zones (wells ∷ (a.listing ∷ [])) h in
       (p.0, All-head May wells (a.listing ∷ []) p.1, All-head May a.listing [] (All-tail May wells (a.listing ∷ []) p.1))
+  files_may (CheckConvertible a) h = let p = three_may a.name None a.zones (a.listing ∷ []) h in (p.0, All-head May a.listing [] p.1)
   files_may (Make seed size) h = tt
   files_may (Batch b) h = All-head May b.list [] h
   files_may (Write limits name) h = All-head May name [] h

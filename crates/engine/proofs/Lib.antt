@@ -5,6 +5,7 @@ pub mod Ends
 pub mod DeckEnds
 pub mod Afters
 pub mod Certifying
+pub mod ConvertibleChecks
 pub mod Labels
 pub mod Spans
 pub mod Plans

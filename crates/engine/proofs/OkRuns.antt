@@ -8,12 +8,14 @@ use Rattle.engine.proofs.Common.{Wanted, AskedBatch, Batch, second_in, reads, De
 use Rattle.engine.proofs.Common.{OneDeckSpan, OneSpan, RunHeadline, RunSpanHeadline, Task, Words, after_text, case_listed, concat, decks_text, words_text, zoned_text, ◌++◌, AreText, AskedText}
 use Rattle.engine.proofs.Common.{ListingVerdict, OneTextVerdict, IsVerdict, case_parts, case_rest, certified_line, file_at, is_some, option_map, pairs_in, sym, verdict_line, unwrap_or, StandsIn}
 use Rattle.engine.proofs.Common.{parts_text, steps_after, unlike, Part, ByDeck, AreReadAs, AskedCheck, AskedPlan, OnePlan, Plan, PlanListingIsOne, PlanListingsEnclose, PlanParts, Planning, parts_read}
-use Rattle.engine.proofs.Common.{planned_task, PlanChecking, PlanVerdict, as_plan, plan_steps_read, to_plan_check, CheckPlan, PlanVerdictIsOne}
+use Rattle.engine.proofs.Common.{planned_task, PlanChecking, PlanVerdict, as_plan, plan_steps_read, to_plan_check, CheckPlan, PlanVerdictIsOne, CheckConvertible, convertible_reads}
+use Rattle.engine.proofs.Common.{ConvertibleChecking, convertible_listing_read, to_convertible_check}
+use Rattle.gentle_run.specs.{VerdictIsOne as GentleVerdictIsOne}
+use Rattle.engine.proofs.{ConvertibleChecks.convertible_checked, Certifying.certified_and_one, Certifying.is_certified, Dues.Delivers, Labels.listing_pairs, Labels.listing_times, Readings.named_read}
+use Rattle.engine.proofs.{Spans.span_checked, Spans.span_listed, PlanChecks.plan_checked, Plans.one_read_as, Plans.plan_listed, Plans.two_read_as, DeckEnds.to_check, DeckEnds.to_list}
+use Rattle.engine.proofs.{DeckEnds.to_plan, DeckEnds.to_write, Afters.valid_after, Texts.lines_are_text, Texts.ended_after, Texts.said, Texts.steps_stated, Stating.first_part, Stating.grown}
+use Rattle.engine.proofs.{Stating.last_part, Stating.span_stated, Stating.stated}
 use Rattle.listing_io.specs.{text_of}
-use Rattle.engine.proofs.{Certifying.certified_and_one, Certifying.is_certified, Dues.Delivers, Labels.listing_pairs, Labels.listing_times, Readings.named_read, Spans.span_checked, Spans.span_listed}
-use Rattle.engine.proofs.{PlanChecks.plan_checked, Plans.one_read_as, Plans.plan_listed, Plans.two_read_as, DeckEnds.to_check, DeckEnds.to_list, DeckEnds.to_plan, DeckEnds.to_write}
-use Rattle.engine.proofs.{Afters.valid_after, Texts.lines_are_text, Texts.ended_after, Texts.said, Texts.steps_stated, Stating.first_part, Stating.grown, Stating.last_part, Stating.span_stated}
-use Rattle.engine.proofs.{Stating.stated}
 use Rattle.stated_text.proofs.Stands.{parts_stand_in_text}
 unfoldable use Rattle.stated_text.specs.{parts_in}
 unfoldable use Rattle.listing_io.specs.{listing as rows_of}
@@ -35,9 +37,10 @@ pub record Laws : Type 0 where
   pub plans : PlanListingsEnclose
   pub one_plan : PlanListingIsOne
   pub plan_verdict : PlanVerdictIsOne
+  pub gentle_verdict : GentleVerdictIsOne
 
-pub laws_of : ListingIsOne → ListingExcludesRefusal → RefusalIsOne → VerdictIsOne → DifferenceIsOne → PlanListingsEnclose → PlanListingIsOne → PlanVerdictIsOne → Laws
-laws_of one bound refusal verdict difference plans one_plan plan_verdict = record {
+pub laws_of : ListingIsOne → ListingExcludesRefusal → RefusalIsOne → VerdictIsOne → DifferenceIsOne → PlanListingsEnclose → PlanListingIsOne → PlanVerdictIsOne → GentleVerdictIsOne → Laws
+laws_of one bound refusal verdict difference plans one_plan plan_verdict gentle_verdict = record {
   one = one;
   bound = bound;
   refusal = refusal;
@@ -46,6 +49,7 @@ laws_of one bound refusal verdict difference plans one_plan plan_verdict = recor
   plans = plans;
   one_plan = one_plan;
   plan_verdict = plan_verdict;
+  gentle_verdict = gentle_verdict;
 }
 
 -- the text of decks, as the one that stands in a text
@@ -315,6 +319,10 @@ module _ (laws : Laws) (old new : Seen) (puts : List Put) (pieces : List Text) (
         of_two (read_by_name asked.name (reads asked.limits files)) (read_by_name to (second_in asked.limits files)) (to_plan files (as_plan asked name) come)
         (λ a b first second. of_read (parts_read files (as_plan asked name) (two a b.model)) (λ p. come (planned_task (as_plan asked name) (two a b.model) p))
         (λ p was. of_plan_check asked name (Some to) (two a b.model) p (λ valid. two_read_as files (as_plan asked name) to a b first second valid) was))
+    one_by (Some (CheckConvertible asked)) end batched =
+        of_read (read_by_name asked.name (convertible_reads asked.limits files)) (to_convertible_check files asked) (λ x read.
+        of_read (convertible_listing_read files asked x.0) (ConvertibleChecking x.0 x.1 asked.digits)
+        (λ listing listed valid c. convertible_checked files asked x.0 x.1 listing read valid.0 listed pieces c old.written new.written (λ all are. appended all are)))
     one_by (Some (Batch b)) end batched = λ valid d. batched b refl
     one_by (Some (CheckText asked)) end batched =
         of_read (read_by_name asked.text (file_at files)) _ (λ bytes read.
@@ -348,6 +356,7 @@ headline_of (Some (Plan asked to)) files end old new o = o.headline
 headline_of (Some (Check asked None)) files end old new o = o.certified
 headline_of (Some (Check asked (Some to))) files end old new o = o.certified
 headline_of (Some (CheckPlan asked name to)) files end old new o = o.certified
+headline_of (Some (CheckConvertible asked)) files end old new o = o.certified
 headline_of (Some (Make seed size)) files end old new o = o.made
 headline_of (Some (Batch b)) files end old new o = o
 headline_of (Some (CheckText asked)) files end old new o = o.certified

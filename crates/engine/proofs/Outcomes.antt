@@ -1,11 +1,12 @@
 -- The public clauses, from all that a run comes to.
 use Rattle.engine.proofs.Common.{◌≡◌, List, Option, Ok, subst, sym, ◌∙◌, ap, refl, inl, inr, ◌⊎◌, FileSet, Rose, Put, Seen, PutsMake, Text, Agree, Status, After, Saying, one_valid, Case, Listing}
 use Rattle.engine.proofs.Common.{Making, Checking, Writing, CutOf, Defines, made_task, GoesWell, IsRunOf, IsStopped, IsValid, Planning, Difference, Comparing, IsPlain, ReadsFolder, EndsOk}
-use Rattle.engine.proofs.Common.{EndIsDefined, Wanted, Jobs, case_of, PlanChecking}
+use Rattle.engine.proofs.Common.{EndIsDefined, Wanted, Jobs, case_of, PlanChecking, ConvertibleChecking}
 use Rattle.engine.proofs.{Certifying.IsFault, Certifying.certifies, Certifying.check_is_no_fault, Certifying.one_end, Certifying.stopped_by_fault, ListingEnds.statuses_agree, ListingEnds.goes_through}
 use Rattle.engine.proofs.{ListingEnds.jobs_agree, ListingEnds.jobs_end_ok, ListingEnds.jobs_no_fault, ListingEnds.listing_is_no_fault, OkRuns.Laws, OkRuns.valid_of, PlanChecks.one_plan_end}
 use Rattle.engine.proofs.{PlanChecks.plan_certifies, PlanChecks.plan_check_is_no_fault, Plans.plan_goes_through, Plans.plan_is_no_fault, Plans.plans_agree, Dues.Ended, Dues.read_failed}
-use Rattle.engine.proofs.{Dues.write_failed, Dues.run_ended, Dues.end_decided, Dues.end_comes}
+use Rattle.engine.proofs.{Dues.write_failed, Dues.run_ended, Dues.end_decided, Dues.end_comes, ConvertibleChecks.convertible_certifies, ConvertibleChecks.convertible_check_is_no_fault}
+use Rattle.engine.proofs.{ConvertibleChecks.one_convertible_end}
 use Rattle.run_puts.specs.declared.puts.Status.TheVariants as status
 use Rattle.listing_run.specs.declared.text.ListingEnd.TheVariants as ends
 
@@ -16,6 +17,7 @@ defines_no_fault (Planning k) end pieces d h = plan_is_no_fault k end pieces d h
 defines_no_fault (Making seed size (Ok m)) end pieces d h = listing_is_no_fault (made_task m) end d.all d.listed h
 defines_no_fault (Checking limits m s steps) end pieces d h = check_is_no_fault limits m s steps end pieces d h
 defines_no_fault (PlanChecking k steps) end pieces d h = plan_check_is_no_fault k steps end pieces d h
+defines_no_fault (ConvertibleChecking m w s listing) end pieces d h = convertible_check_is_no_fault m w s listing end pieces d h
 defines_no_fault (Jobs jobs) end pieces d h = jobs_no_fault jobs d.ends d.each (subst IsFault d.ended.status_is h)
 defines_no_fault (Comparing a b c) end pieces (inl unlike) h = subst IsFault unlike.status h
 defines_no_fault (Comparing a b c) end pieces (inr (alike, d)) h = defines_no_fault c end pieces d h
@@ -28,6 +30,8 @@ decides laws (Planning k) meant end p q plain valid x y = plans_agree laws.one_p
 decides laws (Making seed size (Ok m)) meant end p q plain valid x y = statuses_agree laws (made_task m) (one_valid m valid) refl meant end x.all y.all x.listed y.listed
 decides laws (Checking limits m s steps) meant end p q plain (model, listed) x y = inr (inl (one_end limits m s steps laws.verdict model listed meant end p q x y))
 decides laws (PlanChecking k steps) meant end p q plain (task, quick, listed) x y = inr (inl (one_plan_end k steps laws.plan_verdict task quick listed meant end p q x y))
+decides laws (ConvertibleChecking m w s l) meant end p q plain (model, yields, listed) x y =
+    inr (inl (one_convertible_end m w s l laws.gentle_verdict model yields listed meant end p q x y))
 decides laws (Jobs jobs) meant end p q plain valid x y = jobs_agree laws jobs meant end p q plain valid x y
 decides laws (Comparing a b c) meant end p q plain valid (inl x) (inl y) =
     inr (inl (y.status ∙ ap (λ (d : Difference). status.Refused (b.unlike d))
@@ -46,6 +50,7 @@ ends_well laws (Planning k) goes valid end q y = plan_goes_through k goes end q 
 ends_well laws (Making seed size (Ok m)) goes valid end q y = goes_through (made_task m) goes end y.all y.listed
 ends_well laws (Checking limits d s l) verdict (valid, listed) end q y = certifies limits d s l laws.verdict valid listed verdict end q y
 ends_well laws (PlanChecking k steps) verdict (task, quick, listed) end q y = plan_certifies k steps laws.plan_verdict task quick listed verdict end q y
+ends_well laws (ConvertibleChecking m w s l) verdict (model, yields, listed) end q y = convertible_certifies m w s l laws.gentle_verdict model yields listed verdict end q y
 ends_well laws (Jobs jobs) each valid end q y = jobs_end_ok jobs end q each y
 ends_well laws (Writing m) goes valid end q y = y.0
 ends_well laws (Saying text) goes valid end q y = y.0

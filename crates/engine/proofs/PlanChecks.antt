@@ -1,9 +1,10 @@
 -- What a check of a plan's listing that ended Ok says, and that it has one end.
-use Rattle.engine.proofs.Common.{◌≡◌, ◌∙◌, ℕ, List, [], ◌∷◌, Ok, Option, ap, concat, refl, subst, sym, true, AreReadAs, AskedCheck, AskedPlan, Decks, EnclosesPairs, FileSet, HaveOneHistory, PlanParts}
-use Rattle.engine.proofs.Common.{PlanTask, Status, Text, certified_line, file_at, is_some, pairs_in, parts_read, plan_task, planned_task, Appends, IsPlanCheck, PlanVerdict, as_plan, plan_steps_read}
-use Rattle.engine.proofs.Common.{plan_verdict_line, plan_verdict_status, place_of_plan, IsPlanTask, PlanListingVerdict, Refused, IsPlanVerdict, PlanVerdictIsOne, AreListedPlan, ListedPlanStep}
+use Rattle.engine.proofs.Common.{◌≡◌, ◌∙◌, ℕ, List, [], ◌∷◌, Ok, Option, ap, concat, refl, subst, sym, true, AreReadAs, AskedCheck, AskedPlan, Decks, FileSet, PlanParts, PlanTask, Status, Text}
+use Rattle.engine.proofs.Common.{certified_line, file_at, is_some, pairs_in, parts_read, plan_task, planned_task, Appends, IsPlanCheck, PlanVerdict, as_plan, plan_steps_read, plan_verdict_line}
+use Rattle.engine.proofs.Common.{plan_verdict_status, place_of_plan, IsPlanTask, PlanListingVerdict, IsPlanVerdict, PlanVerdictIsOne, AreListedPlan, ListedPlanStep, histories_give_weathers}
+use Rattle.engine.proofs.Common.{weathers_enclosed, EnclosesWeathers, WeathersHaveOne}
+use Rattle.plan_check.specs.declared.verdict.PlanListingVerdict.TheVariants.{Refused, Certified as Holds, Fails}
 use Rattle.engine.proofs.{Certifying.IsFault, Plans.parts_are, Readings.named_read}
-use Rattle.plan_check.specs.declared.verdict.PlanListingVerdict.TheVariants.{Certified as Holds, Fails}
 use Rattle.run_puts.specs.declared.puts.Status.TheVariants as status
 
 -- a check whose status is Ok has certified the listing
@@ -38,9 +39,8 @@ module _ (files : FileSet) (asked : AskedCheck) (name : Text) (to : Option Text)
   -- what is said of a certified listing of a task
   record IsCertified (k : PlanTask) (steps : List ListedPlanStep) : Type 0 where
     pub listed : plan_steps_read (is_some to) files asked.listing k ≡ Ok steps
-    pub encloses : EnclosesPairs k steps
-    pub base : HaveOneHistory k.base
-    pub planned : HaveOneHistory k.planned
+    pub encloses : EnclosesWeathers k steps
+    pub one : WeathersHaveOne k.base k.plan
     pub verdict : IsPlanVerdict k steps Holds
 
   same_task : IsPlanTask task → task ≡ plan_task plan d p.wells.plan p.zones
@@ -57,9 +57,8 @@ module _ (files : FileSet) (asked : AskedCheck) (name : Text) (to : Option Text)
       let W : PlanTask → Type 0 = λ k. IsCertified k steps in
       let h = subst W (same_task valid) (record {
         listed = listed;
-        encloses = c.encloses holds;
-        base = c.base holds;
-        planned = c.planned holds;
+        encloses = weathers_enclosed task steps (c.encloses holds);
+        one = histories_give_weathers task valid (c.base holds) (c.planned holds);
         verdict = subst V holds c.is;
       }) in
       record {
@@ -76,8 +75,7 @@ module _ (files : FileSet) (asked : AskedCheck) (name : Text) (to : Option Text)
           listed = h.listed;
           written = appended (certified_line ∷ []) (subst L holds c.are);
           encloses = h.encloses;
-          base = h.base;
-          planned = h.planned;
+          one = h.one;
         };
         verdict = h.verdict;
       }

@@ -1,9 +1,9 @@
 -- What a run with a plan that ended Ok says.
 use Rattle.engine.proofs.Common.{[], ◌≡◌, ◌∷◌, ◌∙◌, ℕ, Err, List, None, Ok, Option, Result, Some, ap, map, refl, subst, Appends, FileSet, FlowModel, AllListedSteps, AreDecks, AreReadAs, AskedPlan}
-use Rattle.engine.proofs.Common.{Decks, EnclosesPairs, IsPlanListing, OnePlan, PlanListingsEnclose, PlanParts, PlanTask, PlannedDecks, Refusal, Second, Status, Text, TimeStep, concat, end_line}
-use Rattle.engine.proofs.Common.{file_at, one_deck, parts_read, plan_listing, plan_task, planned_in, planned_task, read_by_name, reads, second_in, times, two, wells_read, zones_read, HaveOneHistory}
-use Rattle.engine.proofs.Common.{◌>>=◌, Agree, inl, inr, sym, ListingEndsAt, StepsThen, decks_planned, heads_listed, PlanGoesThrough, All, false, IsDefinedEnd, ListsMore, PlanListingIsOne, IsPlanTask}
-use Rattle.engine.proofs.Common.{ListedPlanStep}
+use Rattle.engine.proofs.Common.{Decks, IsPlanListing, OnePlan, PlanListingsEnclose, PlanParts, PlanTask, PlannedDecks, Refusal, Second, Status, Text, TimeStep, concat, end_line, file_at, one_deck}
+use Rattle.engine.proofs.Common.{parts_read, plan_listing, plan_task, planned_in, planned_task, read_by_name, reads, second_in, times, two, wells_read, zones_read, ◌>>=◌, Agree, inl, inr, sym}
+use Rattle.engine.proofs.Common.{ListingEndsAt, StepsThen, decks_planned, heads_listed, PlanGoesThrough, All, false, IsDefinedEnd, ListsMore, PlanListingIsOne, IsPlanTask, ListedPlanStep}
+use Rattle.engine.proofs.Common.{histories_give_weathers, weathers_enclosed, EnclosesWeathers, WeathersHaveOne}
 use Rattle.std.specs.Prelude.{length}
 use Rattle.model_types.specs.declared.entry.Entry.{Entry}
 use Rattle.plan_wells.specs.{plan_of}
@@ -134,10 +134,9 @@ module _ (files : FileSet) (asked : AskedPlan) where
 record IsWholePlan (k : PlanTask) (pieces : List Text) (values : List ListedPlanStep) : Type 0 where
   pub steps : AllListedSteps k values Whole
   pub only : k.quick ≡ false → (others : List ListedPlanStep) → AllListedSteps k others Whole → others ≡ values
-  pub encloses : EnclosesPairs k values
+  pub encloses : EnclosesWeathers k values
   pub pairs : All (ListsMore k.base.first k.zones) values
-  pub base : HaveOneHistory k.base
-  pub planned : HaveOneHistory k.planned
+  pub one : WeathersHaveOne k.base k.plan
   pub are : pieces ≡ plan_listing k values end_line
 
 module _ (laws : PlanListingsEnclose) (one : PlanListingIsOne) (files : FileSet) (asked : AskedPlan) (to : Option Text) (d : Decks) (p : PlanParts) where
@@ -153,10 +152,9 @@ module _ (laws : PlanListingsEnclose) (one : PlanListingIsOne) (files : FileSet)
       record {
         steps = steps;
         only = λ plain others also. (one k l.values others Whole Whole valid plain steps also tt tt).0;
-        encloses = laws.pairs k l.values valid steps;
+        encloses = weathers_enclosed k l.values (laws.pairs k l.values valid steps);
         pairs = laws.between k l.values valid steps;
-        base = laws.base k l.values valid steps;
-        planned = laws.planned k l.values valid steps;
+        one = histories_give_weathers k valid (laws.base k l.values valid steps) (laws.planned k l.values valid steps);
         are = subst T whole l.are;
       }
 
@@ -185,8 +183,7 @@ module _ (laws : PlanListingsEnclose) (one : PlanListingIsOne) (files : FileSet)
           at = steps_at (plan_task asked d p.wells.plan p.zones) w.steps.start (times d.first) l.values w.steps.steps;
           pairs = w.pairs;
           encloses = w.encloses;
-          base = w.base;
-          planned = w.planned;
+          one = w.one;
         };
         steps = w.steps;
         only = w.only;

@@ -1,11 +1,11 @@
 -- A step whose cells have storage has a floor and a ceiling.
 use Rattle.engine.proofs.Common.{◌≡◌, ◌≢◌, ℕ, Bool, true, cond, List, [], ◌∷◌, Result, Ok, Err, Option, Some, None, inl, inr, sym, ap, subst, arith, ℤ, if◌then◌else◌, Plain, Limits, Decks, TimeStep}
 use Rattle.engine.proofs.Common.{one_deck, Bound, NoBound, Entries, lower_at, upper_at, no_heads, no_budget, no_zones, Wide, LeavesRange, HasLargeFlow, StorageHolds, faces_of, filter, pairs_below}
-use Rattle.engine.proofs.Common.{ZonePair}
+use Rattle.engine.proofs.Common.{ZonePair, Low, High}
 use Rattle.std.proofs.Common.{false}
 use Rattle.step_chain.specs.declared.solved.Solved.{Solved}
 use Rattle.step_problem.specs.{declared.place.Dir.Dir, declared.place.Dir.TheVariants.In, declared.place.Dir.TheVariants.Out, declared.place.Term.Term, declared.heads.Side.Side}
-use Rattle.step_problem.specs.{declared.heads.Side.TheVariants.Low, declared.heads.Side.TheVariants.High, declared.refusal.BoundFault.TheVariants.NoBound as AFault}
+use Rattle.step_problem.specs.{declared.refusal.BoundFault.TheVariants.NoBound as AFault}
 use Rattle.barrier_vector.specs.{IsUnbounded, RefusesOn, HasStorage, HasNoBound, no_barrier_on}
 use Rattle.barrier_vector.proofs.Sides.{stored_fault, stored_refusal, unbounded_refuses}
 use Rattle.budget_bounds.specs.{◌>>=◌, all_terms, budget_of, is_small, term_of, term_pair, terms_of, too_large}

@@ -4,15 +4,17 @@ use Rattle.std.specs.Prelude.{is_some, unsigned_abs}
 use Rattle.outside.specs.{FileSet, with_limit, file_at, file_refusal, is_good_name, declared.codes.Code.TheVariants.BadName, declared.inputs.Refusal.Refusal}
 use Rattle.record_lines.specs.{◌>>=◌}
 use Rattle.model_types.specs.{most_bytes, declared.limits.Limits.Limits, declared.limits.Limits.TheVariants.Plain, declared.model.FlowModel.FlowModel}
-use Rattle.command_line.specs.{ListingOrder, AskedBatch, AskedCheck, AskedPlan, AskedText, Batch, Check, CheckPlan, CheckText, Make, Plan, Run, Wanted, Words}
-use Rattle.command_line.specs.{Write, wanted_by, declared.order.Order.Order, declared.order.WordsFault.WordsFault}
+use Rattle.command_line.specs.{ListingOrder, AskedBatch, AskedCheck, AskedPlan, AskedText, Batch, Check, CheckConvertible, CheckPlan, CheckText, Make, Plan}
+use Rattle.command_line.specs.{Run, Wanted, Words, Write, wanted_by, declared.order.Order.Order, declared.order.WordsFault.WordsFault}
 use Rattle.command_line.specs.declared.order.WordsFault.TheVariants as fault
 use Rattle.model_reader.specs.{reads}
 use Rattle.model_text.specs.{zoned_text}
 use Rattle.zone_file.specs.{zones_of}
 use Rattle.model_maker.specs.{made_files, made_name}
 use Rattle.zone_pairs.specs.{pairs_in}
-use Rattle.listing_io.specs.{declared.listing.ListedStep.ListedStep, listing_in}
+use Rattle.listing_io.specs.{declared.listing.ListedStep.ListedStep, convertible_listing_in, listing_in}
+use Rattle.water_table.specs.declared.convertible_layers.ConvertibleLayers.{ConvertibleLayers}
+use Rattle.convertible_reader.specs.{convertible_reads}
 use Rattle.run_puts.specs.{Text}
 use Rattle.listing_run.specs.{declared.steps.Task.Task, deck_task, one_task}
 use Rattle.deck_span.specs.{AreAlike}
@@ -56,8 +58,9 @@ span_task_of asked first second zones = decks_task asked (two first second) zone
 
 -- The case of a run: the words aren't accepted; this is the first refusal; this is listed; this is listed of a plan; a model is made from this
 -- seed and size, whose files read as this one or have this refusal; this listing of decks is checked, by these limits and
--- with these digits; this listing of a plan is checked; these jobs of a batch are run; the deck of a model is written; this text is said; this
--- text is put first, as one piece, and then this is the case; or two decks are compared, and where they are alike this is the case.
+-- with these digits; this listing of a plan is checked; this listing of a model with these convertible layers is checked, with these
+-- digits; these jobs of a batch are run; the deck of a model is written; this text is said; this text is put first,
+-- as one piece, and then this is the case; or two decks are compared, and where they are alike this is the case.
 pub data Case : Type 0 where
   NoWords : Case
   Refuses : Refusal → Case
@@ -66,6 +69,7 @@ pub data Case : Type 0 where
   Making : ℕ → ℕ → Result FlowModel Refusal → Case
   Checking : Limits → Decks → ℕ → ZonedListing → Case
   PlanChecking : PlanTask → List ListedPlanStep → Case
+  ConvertibleChecking : FlowModel → ConvertibleLayers → ℕ → ZonedListing → Case
   Jobs : List Job → Case
   Writing : FlowModel → Case
   Saying : Text → Case
@@ -103,6 +107,17 @@ abbrev pub listing_read : Bool → FileSet → AskedCheck → FlowModel → Resu
 listing_read between files asked m = do
   zones ← zones_read files asked.zones m
   steps ← steps_read between files asked m zones
+  Ok (record { zones = zones; steps = steps })
+
+-- The same of a listing of a model with convertible layers.
+abbrev pub convertible_steps_read : FileSet → AskedCheck → FlowModel → Option (List ℕ) → Result (List ListedStep) Refusal
+convertible_steps_read files asked m zones =
+    read_by_name asked.listing (file_at files) >>= convertible_listing_in m asked.digits (pairs_in m zones) asked.listing
+
+abbrev pub convertible_listing_read : FileSet → AskedCheck → FlowModel → Result ZonedListing Refusal
+convertible_listing_read files asked m = do
+  zones ← zones_read files asked.zones m
+  steps ← convertible_steps_read files asked m zones
   Ok (record { zones = zones; steps = steps })
 
 -- the wells that a plan adds to decks, from its file, and the decks with them; its name is tested once the decks are read
@@ -190,6 +205,10 @@ case_planned files asked to come = case_named files asked.limits asked.name to (
 abbrev pub to_plan_check : Bool → FileSet → Text → PlanTask → Case
 to_plan_check between files name k = case_read (plan_steps_read between files name k) (PlanChecking k)
 
+-- a listing of this model with convertible layers is checked
+abbrev pub to_convertible_check : FileSet → AskedCheck → FlowModel × ConvertibleLayers → Case
+to_convertible_check files asked x = case_read (convertible_listing_read files asked x.0) (ConvertibleChecking x.0 x.1 asked.digits)
+
 -- the text of decks, each with the zones of its cells if there is a zone file
 abbrev pub second_text : Option FlowModel → Option (List ℕ) → Text
 second_text None zones = []
@@ -226,6 +245,8 @@ case_of (Some (Run asked to)) files =
     case_named files asked.limits asked.name to (λ d. case_read (zones_read files asked.zones d.first) (case_listed asked d))
 case_of (Some (Plan asked to)) files = case_planned files asked to Planning
 case_of (Some (CheckPlan asked wells to)) files = case_planned files (as_plan asked wells) to (to_plan_check (is_some to) files asked.listing)
+case_of (Some (CheckConvertible asked)) files =
+    case_read (read_by_name asked.name (convertible_reads asked.limits files)) (to_convertible_check files asked)
 case_of (Some (Make seed size)) files = Making seed size (made_model seed size)
 case_of (Some (Check asked to)) files =
     case_named files asked.limits asked.name to (λ d. case_read (listing_read (is_some to) files asked d.first) (Checking asked.limits d asked.digits))

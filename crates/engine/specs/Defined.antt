@@ -8,8 +8,8 @@ use Rattle.run_puts.specs.{Text, read_fault_line, IsBatch, declared.puts.Status.
 use Rattle.run_puts.specs.declared.puts.Status.TheVariants as status
 use Rattle.listing_run.specs.{declared.steps.Task.Task, IsListing, IsCutListing}
 use Rattle.engine.specs.{declared.job.Job.Job, Cases.Case, Cases.NoWords, Cases.Refuses, Cases.Listing, Cases.Planning, Cases.Making, Cases.Checking}
-use Rattle.engine.specs.{Cases.PlanChecking, Cases.Jobs, Cases.Writing, Cases.Saying, Cases.After, Cases.Comparing, TwoDecks.IsUnlike, Made.IsMade}
-use Rattle.engine.specs.{Checked.IsCheck, PlanChecked.IsPlanCheck}
+use Rattle.engine.specs.{Cases.PlanChecking, Cases.Jobs, Cases.Writing, Cases.Saying, Cases.After, Cases.Comparing, Cases.ConvertibleChecking}
+use Rattle.engine.specs.{TwoDecks.IsUnlike, Made.IsMade, Checked.IsCheck, ConvertibleChecked.IsConvertibleCheck, PlanChecked.IsPlanCheck}
 use Rattle.plan_run.specs.{IsCutPlanListing, IsPlanListing}
 use Rattle.deck_span.specs.{AreAlike}
 use Rattle.model_text.specs.{deck_text}
@@ -59,6 +59,7 @@ Defines (Planning k) end pieces = IsPlanListing k end pieces
 Defines (Making seed size read) end pieces = IsMade seed size read end pieces
 Defines (Checking limits d s listing) end pieces = IsCheck limits d s listing end pieces
 Defines (PlanChecking k steps) end pieces = IsPlanCheck k steps end pieces
+Defines (ConvertibleChecking m w s listing) end pieces = IsConvertibleCheck m w s listing end pieces
 Defines (Jobs jobs) end pieces = IsBatch IsJobEnd jobs end pieces
 Defines (Writing m) end pieces = IsSaid (deck_text m) end pieces
 Defines (Saying text) end pieces = IsSaid text end pieces

@@ -2,6 +2,7 @@ pub mod Headline
 pub mod SpanHeadline
 pub mod PlanHeadline
 pub mod PlanCertified
+pub mod ConvertibleCertified
 pub mod Words
 pub mod TextCertified
 pub mod DeckListing
@@ -12,6 +13,7 @@ pub mod Made
 pub mod OneListing
 pub mod Checked
 pub mod PlanChecked
+pub mod ConvertibleChecked
 pub mod Decks
 pub mod Commands
 pub mod Defined
@@ -28,13 +30,16 @@ pub mod BatchReads
 pub mod Uses
 pub use Rattle.engine.specs.BatchReads.{AreTasks, HasNames, IsBatchRead, NeverRefused}
 pub use Rattle.engine.specs.Batched.{HasEnded, HasNoList, IsJobListing}
-pub use Rattle.engine.specs.Cases.{After, Case, Checking, Comparing, IsListingOf, IsOrder, Jobs, Listing, Making, NoWords, PlanChecking, Planning, ReadsNothing}
-pub use Rattle.engine.specs.Cases.{Refuses, Saying, WorkersChangeNoCase, Writing, after_text, as_plan, but_batch, case_decks, case_listed, case_named, case_of}
-pub use Rattle.engine.specs.Cases.{case_parts, case_read, case_rest, decks_task, decks_text, job_of, job_task, jobs_read, listing_read, made_model, names_read}
-pub use Rattle.engine.specs.Cases.{parts_read, plan_steps_read, planned_task, read_by_name, second_text, span_task_of, steps_read, task_of, to_plan_check}
-pub use Rattle.engine.specs.Cases.{wells_read, zones_read}
+pub use Rattle.engine.specs.Cases.{After, Case, Checking, Comparing, ConvertibleChecking, IsListingOf, IsOrder, Jobs, Listing, Making, NoWords, PlanChecking}
+pub use Rattle.engine.specs.Cases.{Planning, ReadsNothing, Refuses, Saying, WorkersChangeNoCase, Writing, after_text, as_plan, but_batch, case_decks}
+pub use Rattle.engine.specs.Cases.{case_listed, case_named, case_of, case_parts, case_read, case_rest, convertible_listing_read, convertible_steps_read}
+pub use Rattle.engine.specs.Cases.{decks_task, decks_text, job_of, job_task, jobs_read, listing_read, made_model, names_read, parts_read, plan_steps_read}
+pub use Rattle.engine.specs.Cases.{planned_task, read_by_name, second_text, span_task_of, steps_read, task_of, to_convertible_check, to_plan_check, wells_read}
+pub use Rattle.engine.specs.Cases.{zones_read}
 pub use Rattle.engine.specs.Checked.{IsCheck, certified_line, verdict_line, verdict_status}
 pub use Rattle.engine.specs.Commands.{MayRead}
+pub use Rattle.engine.specs.ConvertibleCertified.{ConvertibleVerdict}
+pub use Rattle.engine.specs.ConvertibleChecked.{HasGentleHistories, IsConvertibleCheck, gentle_verdict_line, gentle_verdict_status}
 pub use Rattle.engine.specs.DeckListing.{OneDeckListing, OneDeckSpan}
 pub use Rattle.engine.specs.Decks.{OneDeck}
 pub use Rattle.engine.specs.Defined.{CutOf, Defines, Due, IsDue, IsJobEnd, IsRunText, IsSaid, JobDefines, ReadsFolder, broken_off, defined, model_line, unread}

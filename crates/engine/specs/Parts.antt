@@ -9,10 +9,11 @@ use Rattle.listing_io.specs.{AreListed, refused_line}
 use Rattle.zone_pairs.specs.{pairs_in, AreZones}
 use Rattle.engine.specs.{declared.zoned.ZonedListing.ZonedListing, declared.two_decks.Second.Second as SecondBy, TwoDecks.AreDecksRead, TwoDecks.Second}
 use Rattle.engine.specs.{TwoDecks.not_alike, TwoDecks.second_in, Cases.After, Cases.Case, Cases.Listing, Cases.Making, Cases.Checking, Cases.Jobs}
-use Rattle.engine.specs.{Cases.PlanChecking, Cases.Planning, Cases.Writing, Cases.Comparing, Cases.case_planned, Cases.decks_task, Cases.parts_read}
-use Rattle.engine.specs.{Cases.case_of, Cases.planned_task, Cases.read_by_name, Cases.zones_read, declared.plan_parts.PlanParts.PlanParts, Defined.Defines}
-use Rattle.engine.specs.{Defined.ReadsFolder, Uses.FolderUse, Uses.SinkUse, Uses.failed_write, declared.job.Job.Job, Runs.IsRunOf, Watched.SidePuts}
-use Rattle.engine.specs.{Watched.Watched, Watched.views_in}
+use Rattle.engine.specs.{Cases.ConvertibleChecking, Cases.PlanChecking, Cases.Planning, Cases.Writing, Cases.Comparing, Cases.case_planned, Cases.decks_task}
+use Rattle.engine.specs.{Cases.parts_read, Cases.case_of, Cases.planned_task, Cases.read_by_name, Cases.zones_read, declared.plan_parts.PlanParts.PlanParts}
+use Rattle.engine.specs.{Defined.Defines, Defined.ReadsFolder, Uses.FolderUse, Uses.SinkUse, Uses.failed_write, declared.job.Job.Job, Runs.IsRunOf}
+use Rattle.engine.specs.{Watched.SidePuts, Watched.Watched, Watched.views_in}
+use Rattle.water_table.specs.{with_yield}
 use Rattle.deck_problems.specs.{AreDecks, declared.decks.Decks.Decks}
 use Rattle.deck_span.specs.{AreAlike, IsFirstDifference, declared.difference.Difference.Difference}
 use Rattle.step_chain.specs.{two}
@@ -81,6 +82,7 @@ IsValid (Planning k) = IsPlanTask k
 IsValid (Making seed size read) = IfOk read IsModel
 IsValid (Checking limits d s listing) = AreDecks d × IsListed d.first listing
 IsValid (PlanChecking k steps) = IsPlanTask k × (k.quick ≡ true) × AreListedPlan k.base.first (pairs_in k.base.first k.zones) steps
+IsValid (ConvertibleChecking m w s listing) = IsModel m × IsModel (with_yield m w) × IsListed m listing
 IsValid (Jobs jobs) = All IsValidJob jobs
 IsValid (Writing m) = IsModel m
 IsValid (Comparing a b case) = (AreAlike a b.model → ⊥) ⊎ IsValid case

@@ -5,11 +5,9 @@ use Rattle.command_line.specs.{AskedCheck}
 use Rattle.outside.specs.{FileSet, file_at}
 use Rattle.model_types.specs.declared.entry.Entry.{Entry}
 use Rattle.deck_problems.specs.declared.decks.Decks.{Decks}
-use Rattle.exact_histories.specs.{HaveOneHistory}
 use Rattle.plan_wells.specs.{plan_of}
-use Rattle.plan_chain.specs.{decks_with}
 use Rattle.plan_listing.specs.declared.listing.ListedPlanStep.{ListedPlanStep}
-use Rattle.plan_run.specs.{EnclosesPairs}
+use Rattle.plan_run.specs.{EnclosesWeathers, WeathersHaveOne}
 use Rattle.plan_check.specs.{declared.verdict.PlanListingVerdict.TheVariants.Certified as Holds, IsPlanVerdict}
 use Rattle.run_puts.specs.{Text}
 use Rattle.engine.specs.{Cases.as_plan, Cases.plan_steps_read, Cases.zones_read, Checked.certified_line, PlanHeadline.AreReadAs, PlanHeadline.plan_task}
@@ -33,11 +31,10 @@ pub record PlanCertified (asked : AskedCheck) (wells_name : Text) (to : Option T
   pub listed : plan_steps_read (is_some to) files asked.listing (plan_task (as_plan asked wells_name) decks plan zones) ≡ Ok steps
   -- The line CERTIFIED was appended, and nothing else.
   pub written : Appends old new certified_line
-  -- Every two histories of the two plans, over any denominator, lie within what it lists.
-  pub encloses : EnclosesPairs (plan_task (as_plan asked wells_name) decks plan zones) steps
-  -- And there are such: of each plan one, or one in each choice between the two decks.
-  pub base : HaveOneHistory decks
-  pub planned : HaveOneHistory (decks_with plan decks)
+  -- The histories of the two plans in each weather, over any denominator, lie within what it lists.
+  pub encloses : EnclosesWeathers (plan_task (as_plan asked wells_name) decks plan zones) steps
+  -- And there are such: in each weather one of each plan.
+  pub one : WeathersHaveOne decks plan
 
 -- Such a check found that each step of the named listing is certified.
 pub record PlanVerdict (asked : AskedCheck) (wells_name : Text) (to : Option Text) (files : FileSet) (old new : Option (List ℕ)) : Type 0 where

@@ -6,11 +6,10 @@ use Rattle.outside.specs.{FileSet, file_at}
 use Rattle.model_types.specs.{declared.entry.Entry.Entry, declared.limits.Limits.Limits, times}
 use Rattle.model_reader.specs.{reads}
 use Rattle.deck_problems.specs.{AreDecks, declared.decks.Decks.Decks}
-use Rattle.exact_histories.specs.{HaveOneHistory}
 use Rattle.plan_wells.specs.{plan_of}
 use Rattle.plan_chain.specs.{decks_with, declared.step.PlanTask.PlanTask, declared.walk.PlanEnd.TheVariants.Whole}
 use Rattle.plan_listing.specs.declared.listing.ListedPlanStep.{ListedPlanStep}
-use Rattle.plan_run.specs.{AllListedSteps, EnclosesPairs, ListsMore, plan_listing}
+use Rattle.plan_run.specs.{AllListedSteps, EnclosesWeathers, ListsMore, WeathersHaveOne, plan_listing}
 use Rattle.run_puts.specs.{Text, end_line}
 use Rattle.engine.specs.Cases.{zones_read}
 
@@ -56,11 +55,10 @@ pub record PlanHeadline (asked : AskedPlan) (to : Option Text) (files : FileSet)
   -- The block of each time step stands under its own line STEP, and lists what flows more between each two zones that share a face.
   pub at : map (λ v. v.at) values ≡ times decks.first
   pub pairs : All (ListsMore decks.first zones) values
-  -- Every two histories of the two plans, over any denominator, lie between them.
-  pub encloses : EnclosesPairs (plan_task asked decks plan zones) values
-  -- And there are such: of each plan one, or one in each choice between the two decks.
-  pub base : HaveOneHistory decks
-  pub planned : HaveOneHistory (decks_with plan decks)
+  -- The histories of the two plans in each weather, over any denominator, lie between them.
+  pub encloses : EnclosesWeathers (plan_task asked decks plan zones) values
+  -- And there are such: in each weather one of each plan.
+  pub one : WeathersHaveOne decks plan
 
 -- Such a run has written a listing each step of which has three pairs that are certificates; without --quick the one that the files define.
 pub record OnePlan (asked : AskedPlan) (to : Option Text) (files : FileSet) (old new : Option (List ℕ)) : Type 0 where

@@ -14,9 +14,10 @@ use Rattle.plan_listing.specs.declared.listing.ListedPlanStep.{ListedPlanStep}
 use Rattle.plan_run.specs.{AllListedSteps}
 use Rattle.check_run.specs.{declared.verdict.ListingVerdict.TheVariants.Certified, IsVerdict}
 use Rattle.plan_check.specs.{declared.verdict.PlanListingVerdict.TheVariants.Certified as PlanHolds, IsPlanVerdict}
-use Rattle.engine.specs.{Cases.After, Cases.Case, Cases.Checking, Cases.Listing, Cases.Making, Cases.Comparing, Cases.Jobs, Cases.PlanChecking, Cases.Planning}
-use Rattle.engine.specs.{Cases.Saying, Cases.Writing, Cases.case_of, Made.made_task, Defined.Defines, Defined.Due, Defined.CutOf, Uses.FolderUse, Uses.SinkUse}
-use Rattle.engine.specs.{Uses.failed_write}
+use Rattle.gentle_run.specs.{IsVerdict as IsGentleVerdict, declared.verdict.GentleVerdict.TheVariants.Certified as GentleHolds}
+use Rattle.engine.specs.{Cases.After, Cases.Case, Cases.Checking, Cases.ConvertibleChecking, Cases.Listing, Cases.Making, Cases.Comparing, Cases.Jobs}
+use Rattle.engine.specs.{Cases.PlanChecking, Cases.Planning, Cases.Saying, Cases.Writing, Cases.case_of, Made.made_task, Defined.Defines, Defined.Due}
+use Rattle.engine.specs.{Defined.CutOf, Uses.FolderUse, Uses.SinkUse, Uses.failed_write}
 use Rattle.deck_span.specs.{AreAlike}
 
 -- the puts of a run of this case with this end
@@ -63,6 +64,7 @@ GoesWell (Planning k) = PlanGoesThrough k
 GoesWell (Making seed size (Ok m)) = GoesThrough (made_task m)
 GoesWell (Checking limits d s listing) = IsVerdict limits d s listing.zones listing.steps Certified
 GoesWell (PlanChecking k steps) = IsPlanVerdict k steps PlanHolds
+GoesWell (ConvertibleChecking m w s listing) = IsGentleVerdict m w s listing.zones listing.steps GentleHolds
 GoesWell (Jobs jobs) = All (λ job. (task : Task) × (job.read ≡ Ok task) × GoesThrough task) jobs
 GoesWell (Writing m) = Unit {0}
 GoesWell (Saying text) = Unit {0}

@@ -5,25 +5,27 @@ use Rattle.outside.specs.{FileSet, Rose}
 use Rattle.run_puts.specs.{Text, code_of, declared.puts.Status.Status}
 use Rattle.run_puts.specs.declared.puts.Status.TheVariants as status
 use Rattle.engine.specs.{Certified.Certified, DeckListing.DeckHeadline, DeckListing.DeckSpanHeadline, DeckListing.OneDeckListing, DeckListing.OneDeckSpan}
-use Rattle.engine.specs.{Decks.OneDeck, Headline.Headline, Made.Made, OneListing.OneListing, OneListing.OneSummary, OneListing.OneVerdict}
-use Rattle.engine.specs.{PlanCertified.PlanCertified, PlanCertified.PlanVerdict, PlanHeadline.OnePlan, PlanHeadline.PlanHeadline, SpanHeadline.OneSpan}
-use Rattle.engine.specs.{SpanHeadline.SpanCertified, SpanHeadline.SpanHeadline, SpanHeadline.SpanVerdict, TextCertified.OneTextVerdict}
-use Rattle.engine.specs.{TextCertified.TextCertified, Parts.IsStopped, Runs.EndsOk, Runs.EndIsDefined, Runs.Puts, Uses.FolderUse, Uses.HasFailed, Uses.SinkUse}
-use Rattle.engine.specs.{Uses.failed_write, Watched.SidePuts, Watched.Watched, Watched.views_in, Words.words_text, Batched.Batched, Batched.HasNoList}
-use Rattle.engine.specs.{Cases.case_of}
-use Rattle.command_line.specs.{AskedBatch, Batch, Check, CheckPlan, CheckText, ListingOrder, Make, Plan, Run, Wanted, Words, Write, order_of_words}
+use Rattle.engine.specs.{ConvertibleCertified.ConvertibleCertified, ConvertibleCertified.ConvertibleVerdict, Decks.OneDeck, Headline.Headline, Made.Made}
+use Rattle.engine.specs.{OneListing.OneListing, OneListing.OneSummary, OneListing.OneVerdict, PlanCertified.PlanCertified, PlanCertified.PlanVerdict}
+use Rattle.engine.specs.{PlanHeadline.OnePlan, PlanHeadline.PlanHeadline, SpanHeadline.OneSpan, SpanHeadline.SpanCertified, SpanHeadline.SpanHeadline}
+use Rattle.engine.specs.{SpanHeadline.SpanVerdict, TextCertified.OneTextVerdict, TextCertified.TextCertified, Parts.IsStopped, Runs.EndsOk, Runs.EndIsDefined}
+use Rattle.engine.specs.{Runs.Puts, Uses.FolderUse, Uses.HasFailed, Uses.SinkUse, Uses.failed_write, Watched.SidePuts, Watched.Watched, Watched.views_in}
+use Rattle.engine.specs.{Words.words_text, Batched.Batched, Batched.HasNoList, Cases.case_of}
+use Rattle.command_line.specs.{AskedBatch, Batch, Check, CheckConvertible, CheckPlan, CheckText, ListingOrder, Make, Plan, Run, Wanted, Words, Write}
+use Rattle.command_line.specs.{order_of_words}
 use Rattle.model_types.specs.{most_bytes, declared.limits.Limits.Limits, declared.limits.Limits.TheVariants.Plain}
 
 -- The files that the words name, and how many bytes of one are read.
 -- the name file of a run, the second one if there is one, and its zone file if there is one; the same of a plan, and its wells; the same of a
--- check, and its listing; the same of a check of a plan, and its wells and its listing; the list of a batch; the name file of a deck; the text
--- that is checked; none to make a model, and to say the words
+-- check, and its listing, also of one with convertible layers; the same of a check of a plan, and its wells and its listing; the list of a
+-- batch; the name file of a deck; the text that is checked; none to make a model, and to say the words
 abbrev pub files_of : Wanted → List Text
 files_of (Run asked to) = asked.name ∷ (option_to_list to ++ option_to_list asked.zones)
 files_of (Plan asked to) = asked.name ∷ (option_to_list to ++ (option_to_list asked.zones ++ asked.wells ∷ []))
 files_of (Check asked to) = asked.name ∷ (option_to_list to ++ (option_to_list asked.zones ++ asked.listing ∷ []))
 files_of (CheckPlan asked wells to) =
     asked.name ∷ (option_to_list to ++ (option_to_list asked.zones ++ (wells ∷ (asked.listing ∷ []))))
+files_of (CheckConvertible asked) = asked.name ∷ (option_to_list asked.zones ++ asked.listing ∷ [])
 files_of (Make seed size) = []
 files_of (Batch asked) = asked.list ∷ []
 files_of (Write limits name) = name ∷ []
@@ -44,6 +46,7 @@ limits_asked (Some (Run asked to)) = asked.limits
 limits_asked (Some (Plan asked to)) = asked.limits
 limits_asked (Some (Check asked to)) = asked.limits
 limits_asked (Some (CheckPlan asked wells to)) = asked.limits
+limits_asked (Some (CheckConvertible asked)) = asked.limits
 limits_asked (Some (Batch asked)) = asked.limits
 limits_asked (Some (Write limits name)) = limits
 limits_asked (Some (CheckText asked)) = asked.limits
@@ -62,8 +65,8 @@ abbrev pub RunSpanHeadline : (deck : Bool) → ListingOrder → Text → FileSet
 RunSpanHeadline false asked to files old new = SpanHeadline asked to files old new
 RunSpanHeadline true asked to files old new = DeckSpanHeadline asked to files old new
 
--- The headline of an order: of a listing, or of one of two decks; of a plan; of a check, or of one of two decks, of a plan, or of a text; of a made
--- model, whose listing is summed up; of each listing of a batch; of a deck; or of the words.
+-- The headline of an order: of a listing, or of one of two decks; of a plan; of a check, or of one of two decks, of a plan, of convertible
+-- layers, or of a text; of a made model, whose listing is summed up; of each listing of a batch; of a deck; or of the words.
 abbrev pub HeadlineOf : Option Wanted → FileSet → Status → (old new : Option (List ℕ)) → Type 0
 HeadlineOf None files end old new = ⊥
 HeadlineOf (Some (Run asked None)) files end old new = RunHeadline asked.deck asked files old new
@@ -72,6 +75,7 @@ HeadlineOf (Some (Plan asked to)) files end old new = PlanHeadline asked to file
 HeadlineOf (Some (Check asked None)) files end old new = Certified asked files old new
 HeadlineOf (Some (Check asked (Some to))) files end old new = SpanCertified asked to files old new
 HeadlineOf (Some (CheckPlan asked wells to)) files end old new = PlanCertified asked wells to files old new
+HeadlineOf (Some (CheckConvertible asked)) files end old new = ConvertibleCertified asked files old new
 HeadlineOf (Some (Make seed size)) files end old new = Made seed size old new
 HeadlineOf (Some (Batch asked)) files end old new = Batched asked files end old new
 HeadlineOf (Some (Write limits name)) files end old new = OneDeck limits name files old new
@@ -93,6 +97,7 @@ OneOf (Some (Plan asked to)) files end old new = OnePlan asked to files old new
 OneOf (Some (Check asked None)) files end old new = OneVerdict asked files old new
 OneOf (Some (Check asked (Some to))) files end old new = SpanVerdict asked to files old new
 OneOf (Some (CheckPlan asked wells to)) files end old new = PlanVerdict asked wells to files old new
+OneOf (Some (CheckConvertible asked)) files end old new = ConvertibleVerdict asked files old new
 OneOf (Some (Make seed size)) files end old new = OneSummary seed size old new
 OneOf (Some (Batch asked)) files end old new = Batched asked files end old new
 OneOf (Some (Write limits name)) files end old new = OneDeck limits name files old new

@@ -21,6 +21,7 @@ words_text =
     ++ (codes "  --to NAME2: LISTING is of every model between that of NAME and that of NAME2\n"
     ++ (codes "  --zones Z: LISTING has the flows between the zones of the file Z\n"
     ++ (codes "  --plan WELLS: LISTING is of what the wells of the file WELLS do\n"
+    ++ (codes "  --convertible: LISTING is of gentle heads of a model with convertible layers; not with --to, --plan\n"
     ++ (codes "check --deck TEXT: says whether the listing in TEXT is certified for the deck or the two decks in TEXT, or else where it fails first\n"
     ++ (codes "  --digits S: the digits of the run\n"
     ++ (codes "  --wide: wide limits, as the run had them\n"
@@ -33,4 +34,4 @@ words_text =
     ++ (codes "  --wide: as with run\n"
     ++ (codes "write NAME: puts the deck of the model of NAME in one spelling, one file after another\n"
     ++ (codes "  --wide: wide limits\n"
-    ++ (codes "words: puts these lines\n")))))))))))))))))))))))))))))
+    ++ (codes "words: puts these lines\n"))))))))))))))))))))))))))))))

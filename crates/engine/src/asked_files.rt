@@ -71,6 +71,14 @@ fn files_of<'a>(alloc: Global, order: Order<'a>) -> Result<AskedFiles<'a>, Alloc
             names.push(check.listing)?;
             check.limits
         }
+        Order::CheckConvertible(asked) => {
+            names.push(asked.name)?;
+            if let Some(zones) = asked.zones {
+                names.push(zones)?;
+            }
+            names.push(asked.listing)?;
+            asked.limits
+        }
         Order::Make(_) | Order::Words => Limits::Plain,
         Order::CheckText(asked) => {
             names.push(asked.text)?;

@@ -10,6 +10,7 @@ use crate::running::run_order;
 use check_run::laws::one_verdict;
 use command_line::{Order, read_order};
 use deck_span::laws::one_difference;
+use gentle_run::laws::one_verdict as one_gentle_verdict;
 use listing_run::laws::one_listing;
 use outside::{Folder, Gate, Sink};
 use plan_check::laws::one_plan_verdict;
@@ -52,6 +53,7 @@ pub fn run<R: Threads + Wait + Sync, F: Folder, K: Sink + Send, W: Sink + Send, 
     plan_listings_enclose();
     one_plan_listing();
     one_plan_verdict();
+    one_gentle_verdict();
     match read_order(alloc, words) {
         Ok(order) => match order {
             Order::Batch(asked) => {

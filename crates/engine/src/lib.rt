@@ -6,6 +6,8 @@ mod batch_reading;
 mod batching;
 mod checking;
 mod commands;
+mod convertible_checking;
+mod convertible_verdict;
 mod ending;
 mod job;
 pub mod laws;

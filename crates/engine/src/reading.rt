@@ -5,12 +5,16 @@ ghost use Rattle.outside.specs.{file_refusal, folder_name, file_at, FileSet, IsR
 ghost use Rattle.model_types.specs.{IsModel};
 ghost use Rattle.zone_pairs.specs.{AreZones};
 ghost use Rattle.model_reader.specs.{reads};
+ghost use Rattle.water_table.specs.{with_yield};
+ghost use Rattle.convertible_reader.specs.{convertible_reads};
 ghost use Rattle.engine.specs.{IsRefusedBy, read_by_name, zones_read};
 
+use convertible_reader::read_named_convertible_model;
 use model_reader::read_named_model;
 use model_types::{FlowModel, Limits, Listed};
 use outside::{Code, Folder, InputFault, file_refusal, is_good_name, read_input};
 use std::alloc::Global;
+use water_table::ConvertibleLayers;
 use zone_file::{read_zones, zone_numbers};
 
 /// The refusal of a bad name.
@@ -56,6 +60,26 @@ pub(crate) fn read_named<F: Folder>(
         return Err(bad_name(alloc));
     }
     read_named_model(alloc, limits, name, folder)
+}
+
+/// The model with convertible layers that a name file of the folder describes, by these limits. The name is tested before any file.
+pub(crate) fn read_named_convertible<F: Folder>(
+    alloc: Global,
+    limits: Limits,
+    folder: &mut F,
+    name: &str,
+) -> Result<(FlowModel, ConvertibleLayers), InputFault>
+    requires may { F.may folder.old (folder_name name.now) }
+    ensures folder { ReadsOn F.Folder folder.old folder.new result }
+    ensures reads { (files : FileSet) → F.agrees folder.new files →
+        IsReading (λ x. x) (read_by_name name.now (convertible_reads limits files)) result }
+    ensures model { IfOk result (λ x. IsModel x.0) }
+    ensures yields { IfOk result (λ x. IsModel (with_yield x.0 x.1)) }
+{
+    if !is_good_name(name.as_bytes()) {
+        return Err(bad_name(alloc));
+    }
+    read_named_convertible_model(alloc, limits, name, folder)
 }
 
 /// The zones of a model's cells, from the named zone file, if there is one.

@@ -5,6 +5,7 @@ ghost use Rattle.command_line.specs.{asked_of, text_if, wanted_by, order_of_word
 ghost use Rattle.run_puts.specs.{PutsMore};
 
 use crate::checking::check;
+use crate::convertible_checking::check_convertible;
 use crate::ending::end_reading;
 use crate::listing::put_listing;
 use crate::making::put_made;
@@ -17,6 +18,7 @@ use crate::writing::write;
 use check_run::laws::one_verdict;
 use command_line::{Order, RunOrder, WordsFault, read_order};
 use deck_span::laws::one_difference;
+use gentle_run::laws::one_verdict as one_gentle_verdict;
 use listing_run::laws::one_listing;
 use outside::{Folder, Gate, Sink};
 use plan_check::laws::one_plan_verdict;
@@ -33,7 +35,8 @@ const USAGE: &[u8] =
 /// folder, and puts the summary of its listing. `check NAME LISTING` reads the model and a listing of it, whoever wrote
 /// it, and puts whether it is certified, or else the first place that fails. With `--to NAME2` both read a second deck too,
 /// compare it with the first, and list or check bounds for all models between the two. With `--deck` a run puts the text of its
-/// decks first, as one piece. With `--plan WELLS` it puts what these wells do, and a check is of a listing of that. `write NAME`
+/// decks first, as one piece. With `--plan WELLS` it puts what these wells do, and a check is of a listing of that. With `--convertible` a
+/// check is of a listing of gentle heads of a model with convertible layers. `write NAME`
 /// reads the model and puts its deck in one spelling. `check --deck TEXT` reads a text of
 /// decks, zones and a listing, and puts whether the listing is certified. `words` puts what each word does. With `--wide` the
 /// limits of the model are wide ones. Workers in threads settle each step, and pass the gate before each turn; a check has
@@ -69,6 +72,7 @@ pub fn run_one<R: Threads + Sync, F: Folder, K: Sink + Send, W: Sink + Send, G: 
     plan_listings_enclose();
     one_plan_listing();
     one_plan_verdict();
+    one_gentle_verdict();
     let status = run_order(rt, alloc, read_order(alloc, words), folder, out, side, gate);
     folder.some_agree();
     status
@@ -102,6 +106,7 @@ pub(crate) fn run_order<
             Order::Plan(asked) => run_plan(rt, alloc, asked, folder, out, gate),
             Order::Check(asked) => check(alloc, asked, folder, out),
             Order::CheckPlan(asked) => check_plan(alloc, asked, folder, out),
+            Order::CheckConvertible(asked) => check_convertible(alloc, asked, folder, out),
             Order::Make(asked) => put_made(rt, alloc, asked, out, gate),
             Order::Write { limits, name } => write(alloc, limits, name, folder, out),
             Order::Words => put_words(out),

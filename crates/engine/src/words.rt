@@ -24,6 +24,7 @@ const WORDS: &str = concat!(
     "  --to NAME2: LISTING is of every model between that of NAME and that of NAME2\n",
     "  --zones Z: LISTING has the flows between the zones of the file Z\n",
     "  --plan WELLS: LISTING is of what the wells of the file WELLS do\n",
+    "  --convertible: LISTING is of gentle heads of a model with convertible layers; not with --to, --plan\n",
     "check --deck TEXT: says whether the listing in TEXT is certified for the deck or the two decks in TEXT, or else where it fails first\n",
     "  --digits S: the digits of the run\n",
     "  --wide: wide limits, as the run had them\n",

@@ -26,7 +26,7 @@ returns-in-Batch-clause-runs g c =
     run_result g.K.Sink c.args.out.now c.put_batch-status.new.out order (folder_use g.F.Folder c.args.folder.now c.put_batch-status.new.folder)
     (sink_use g.W.Sink c.args.side.now c.args.side.now) c.put_batch-status.result met.rests met.tells
     (laws_of c.one_listing.ensures.one c.one_listing.ensures.bound c.one_listing.ensures.refusal c.one_verdict.ensures c.one_difference.ensures
-    c.plan_listings_enclose.ensures c.one_plan_listing.ensures c.one_plan_verdict.ensures) c.some_agree.ensures
+    c.plan_listings_enclose.ensures c.one_plan_listing.ensures c.one_plan_verdict.ensures c.one_verdict-2.ensures) c.some_agree.ensures
     (puts_more g.K.Sink.leads c.put_batch-status.ensures.serves (λ more m files agree. without_views files order (Some (Batch (batch_of c.in-Batch.asked)))
     (beside.rests c.args.side.now) (c.in-Ok.ensures.order ∙ ap (λ (o : Order). Some (wanted_by o)) c.in-Batch.is) refl (m files agree)))
 
@@ -45,7 +45,7 @@ returns-in_default-clause-runs g c =
     run_result g.K.Sink c.args.out.now c.run_order-status.new.out order (folder_use g.F.Folder c.args.folder.now c.run_order-status.new.folder)
     (sink_use g.W.Sink c.args.side.now c.run_order-status.new.side) c.run_order-status.result met.rests met.tells
     (laws_of c.one_listing.ensures.one c.one_listing.ensures.bound c.one_listing.ensures.refusal c.one_verdict.ensures c.one_difference.ensures
-    c.plan_listings_enclose.ensures c.one_plan_listing.ensures c.one_plan_verdict.ensures) c.some_agree-in_default.ensures
+    c.plan_listings_enclose.ensures c.one_plan_listing.ensures c.one_plan_verdict.ensures c.one_verdict-2.ensures) c.some_agree-in_default.ensures
     (c.run_order-status.ensures.serves order (
       c.in-Ok.ensures.order ∙ sym (not_a_batch _ c.in_default.not-Batch),
       λ e.
@@ -59,5 +59,5 @@ returns-in-Err-clause-runs g c =
     run_result g.K.Sink c.args.out.now c.run_order-status-in-Err.new.out order (folder_use g.F.Folder c.args.folder.now c.run_order-status-in-Err.new.folder)
     (sink_use g.W.Sink c.args.side.now c.run_order-status-in-Err.new.side) c.run_order-status-in-Err.result met.rests met.tells
     (laws_of c.one_listing.ensures.one c.one_listing.ensures.bound c.one_listing.ensures.refusal c.one_verdict.ensures c.one_difference.ensures
-    c.plan_listings_enclose.ensures c.one_plan_listing.ensures c.one_plan_verdict.ensures) c.some_agree-in-Err.ensures
+    c.plan_listings_enclose.ensures c.one_plan_listing.ensures c.one_plan_verdict.ensures c.one_verdict-2.ensures) c.some_agree-in-Err.ensures
     (c.run_order-status-in-Err.ensures.serves order (tt, c.in-Err.ensures.usage))

@@ -18,5 +18,5 @@ returns-clause-runs g c =
     run_result g.K.Sink c.args.out.now c.run_order-status.new.out (but_batch order) (folder_use g.F.Folder c.args.folder.now c.run_order-status.new.folder)
     (sink_use g.W.Sink c.args.side.now c.run_order-status.new.side) c.run_order-status.result met.rests met.tells
     (laws_of c.one_listing.ensures.one c.one_listing.ensures.bound c.one_listing.ensures.refusal c.one_verdict.ensures c.one_difference.ensures
-    c.plan_listings_enclose.ensures c.one_plan_listing.ensures c.one_plan_verdict.ensures) c.some_agree.ensures
+    c.plan_listings_enclose.ensures c.one_plan_listing.ensures c.one_plan_verdict.ensures c.one_verdict-2.ensures) c.some_agree.ensures
     (c.run_order-status.ensures.serves _ (is_order order _ c.read_order.ensures.order c.read_order.ensures.usage))

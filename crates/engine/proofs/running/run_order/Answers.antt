@@ -109,3 +109,19 @@ returns-in-CheckText-clause-unasked g c = λ one is nothing. absurd (subst Reads
 
 pub check_text-requires : goal.check_text-requires
 check_text-requires g c = record { may = may_do (g.F.Folder.may c.args.folder.now) c.args.read _ _ c.requires.may c.in-Ok.is c.in-CheckText.is }
+
+pub returns-in-CheckConvertible-clause-serves : goal.returns-in-CheckConvertible-clause-serves
+returns-in-CheckConvertible-clause-serves g c = λ one is.
+    puts_more g.K.Sink.leads c.check_convertible.ensures.serves (λ more m files agree. without_views files one _
+    (((g.met.W.Sink g.world.𝓛 g.world.𝓜 g.world.𝓡 ((λ s x. x), (λ x. x), (λ x. x), λ x. x))).rests c.args.side.now)
+    (order_read one c.args.read _ _ is.0 c.in-Ok.is c.in-CheckConvertible.is) refl (m files agree))
+
+pub returns-in-CheckConvertible-clause-unasked : goal.returns-in-CheckConvertible-clause-unasked
+returns-in-CheckConvertible-clause-unasked g c = λ one is nothing.
+    absurd (subst ReadsNothing (order_read one c.args.read _ _ is.0 c.in-Ok.is c.in-CheckConvertible.is) nothing)
+
+pub check_convertible-requires-clause-may : goal.check_convertible-requires-clause-may
+check_convertible-requires-clause-may g c = (may_do (g.F.Folder.may c.args.folder.now) c.args.read _ _ c.requires.may c.in-Ok.is c.in-CheckConvertible.is).0
+
+pub check_convertible-requires-clause-listing : goal.check_convertible-requires-clause-listing
+check_convertible-requires-clause-listing g c = (may_do (g.F.Folder.may c.args.folder.now) c.args.read _ _ c.requires.may c.in-Ok.is c.in-CheckConvertible.is).1
