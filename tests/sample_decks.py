@@ -9,8 +9,8 @@ import os
 import re
 import subprocess
 
-# the names of listings, with lines ZONE and without
-LISTINGS = ("l.txt", "lz.txt")
+# the names of listings, with lines ZONE and without, and of a plan
+LISTINGS = ("l.txt", "lz.txt", "pl.txt")
 
 ZERO = "0.000000000000000000000"
 TERMS = ["STORAGE", "CONSTANT HEAD", "WELLS", "DRAINS", "RIVER LEAKAGE", "HEAD DEP BOUNDS", "RECHARGE"]
@@ -142,6 +142,27 @@ TWO_DECKS_QUICK_STEP = step(1, [("10.000000000", "11.000000000"), units_apart(15
 TWO_DECKS_QUICK_PUTS = [TWO_DECKS_FIRST, TWO_DECKS_QUICK_STEP
                         + text("ZONE 1 2 -6.000000002000000000000 -3.999999998000000000000"), LAST]
 
+# A plan whose well takes 4 units from the cell halfway: its head is 2 lower, and each constant head gives 2 more, in
+# all weathers between the two decks. What flows more from zone 1 to zone 2 is the 2 of the first constant head.
+PLAN = {"p.wel": text("1 0", "1 0", "1 1 2 -4")}
+
+
+def plan_step(base, zones=()):
+    """A step's lines by the heads of base as pairs: those of the plan are 2 lower between the constant heads."""
+    cells = [(low, high, 2 * (column == 1)) for column, (low, high) in enumerate(base)]
+    lines = [f"{part} 1 1 {column} {one}.000000000 {two}.000000000" for column, (low, high, less) in enumerate(cells, 1)
+             for part, one, two in (("BASE", low, high), ("PLAN", low - less, high - less), ("DRAWDOWN", less, less))]
+    more = {"CONSTANT HEAD": "4.000000000000000000000"}
+    terms = [name for name in TERMS if name not in ("WELLS", "RECHARGE")]
+    sources = [f"SOURCE {more.get(name, ZERO)} {more.get(name, ZERO)} {name}" for name in terms]
+    return text("STEP 1 1", *lines, *sources, *zones)
+
+
+PLAN_PUTS = [text("DRAWDOWN 1 DIGITS 12 UNIT 2"), plan_step([(10, 10), (15, 15), (20, 20)]), LAST]
+TWO_DECKS_PLAN_PUTS = [text("DRAWDOWN 1 DIGITS 12 UNIT 2 TO"),
+                       plan_step([(10, 11), (15, 16), (20, 21)],
+                                 ["ZONE 1 2 2.000000000000000000000 2.000000000000000000000"]), LAST]
+
 # Two cells joined by 2, whose wells take and give 4.2E9; the first is joined by 1 to a general head of 10. So its head
 # is 10, and the second one 2.1E9 higher. Its balance changes by 3 with its head: settling stops where less than 3
 # units are left, two units away from the solution. The floor of the first cell, 10 - 4.2E9, is below the range of
@@ -183,8 +204,8 @@ class Command:
 def reading_order(*names):
     """The files of THREE_CELLS and the others named, in the order in which a command reads them."""
     files = THREE_CELLS | {"z.txt": ZONES["z.txt"], "l.txt": b"".join(THREE_CELLS_PUTS),
-                           "lz.txt": b"".join(ZONES_PUTS),
-                           "list.txt": text("a.nam")}
+                           "lz.txt": b"".join(ZONES_PUTS), "pl.txt": b"".join(PLAN_PUTS),
+                           "list.txt": text("a.nam")} | PLAN
     return {name: files[name] for name in names}
 
 
@@ -204,6 +225,9 @@ COMMANDS = [
     Command("run a.nam --quick", reading_order("a.nam", "a.dis", "a.bas", "a.lpf"), QUICK_PUTS),
     Command("run a.nam --to b.nam", TWO_DECKS, TWO_DECKS_PUTS),
     Command("check a.nam l.txt --to b.nam", TWO_DECKS | {"l.txt": b"".join(TWO_DECKS_PUTS)}, [text("CERTIFIED")]),
+    Command("run a.nam --plan p.wel", reading_order("a.nam", "a.dis", "a.bas", "a.lpf", "p.wel"), PLAN_PUTS),
+    Command("check a.nam pl.txt --plan p.wel", reading_order("a.nam", "a.dis", "a.bas", "a.lpf", "p.wel", "pl.txt"),
+            [text("CERTIFIED")]),
 ]
 
 # Three models as a batch: the second one has no files, so its refusal is its text, and decides the status.
@@ -214,7 +238,7 @@ BATCH_PUTS = [text("MODEL a.nam") + b"".join(THREE_CELLS_PUTS),
 
 # Further decks: a batch, heads of thirds, three steps, a listing of thirds that is checked, two decks with zones, with
 # views, and with another conductivity in the second, an array in a file of its own, quick runs of three steps, of a
-# batch and of two decks, and floors that are out of range, and cut.
+# batch and of two decks, floors that are out of range, and cut, and a plan in all weathers between two decks.
 FURTHER = [
     Command("batch list.txt --workers 2", BATCH, BATCH_PUTS, status=2, opens=10),
     Command("run a.nam --workers 3", FOUR_CELLS, FOUR_CELLS_PUTS),
@@ -241,6 +265,10 @@ FURTHER = [
     Command("run a.nam --zones z.txt --deck", ZONES, [THREE_CELLS_ZONED, *ZONES_PUTS]),
     Command("run a.nam --to b.nam --zones z.txt --deck", TWO_DECKS | {"z.txt": ZONES["z.txt"]},
             [TWO_DECKS_ZONED, *TWO_DECKS_ZONES_PUTS]),
+    Command("run a.nam --to b.nam --plan p.wel --zones z.txt", TWO_DECKS | PLAN | {"z.txt": ZONES["z.txt"]},
+            TWO_DECKS_PLAN_PUTS),
+    Command("check a.nam pl.txt --to b.nam --plan p.wel --zones z.txt",
+            TWO_DECKS | PLAN | {"z.txt": ZONES["z.txt"], "pl.txt": b"".join(TWO_DECKS_PLAN_PUTS)}, [text("CERTIFIED")]),
 ]
 
 

@@ -1,15 +1,21 @@
-//! Reads decks with convertible layers from standard input by the calls of `convertible_reader`, and prints what they give.
+//! Reads decks with convertible layers from standard input by the calls of `convertible_reader`, and prints what they give, or the problems of their
+//! steps at given heads by those of `gentle_problem`.
 //!
 //! `@deck -` begins a deck without files. A line `@file NAME` begins a file, whose lines follow it, and replaces an
 //! earlier file of that name. `@read_fault N` makes the folder's read of this number fail. `@convertible NAME` reads the model of
 //! a name file, and prints LAYTYP by layer, HK, SS, SY and VKCB by cell, and whether SS is a storage coefficient; or the
 //! refusal, with its file, its line and its cell. A number is printed as digits and exponent.
+//! `@problem NAME DIGITS LOW HIGH ..` reads the model, too, and prints for each time step the problem at all heads within these bounds, in units of
+//! 10^-9, two numbers for each cell of the grid: entry for entry, or its first refusal.
 //!
 //! A line `@ ..` says what is shown, and is printed.
+mod problems;
+
 use convertible_reader::read_named_convertible_model;
 use decimal_input::dec::Dec;
 use model_types::{FlowModel, Limits};
 use outside::{InputFault, Refusal, good_name};
+use problems::push_problems;
 use std::io;
 use test_lines::{Answered, Deck, Page, answer_lines, first_word, take_line};
 use water_table::ConvertibleLayers;
@@ -53,13 +59,19 @@ fn push_refusal(page: &mut Page, refusal: &Refusal) {
     page.end();
 }
 
-fn push_answer(page: &mut Page, deck: &mut Deck, name: &str) -> Answered {
+fn push_answer(page: &mut Page, deck: &mut Deck, question: &str, rest: &str) -> Answered {
     deck.end_file(page.alloc())?;
+    let (name, given) = first_word(rest);
     let Some(name) = good_name(name.as_bytes()) else {
         return Ok(page.line("no name"));
     };
     match read_named_convertible_model(page.alloc(), Limits::Plain, name, &mut deck.folder) {
-        Ok((model, layers)) => push_model(page, &model, &layers),
+        Ok((model, layers)) => {
+            if question == "@problem" {
+                return push_problems(page, &model, &layers, given);
+            }
+            push_model(page, &model, &layers);
+        }
         Err(InputFault::Refused(refusal)) => push_refusal(page, &refusal),
         Err(InputFault::ReadFault) => page.line("READ FAULT"),
         Err(InputFault::Memory) => page.line("MEMORY"),
@@ -71,9 +83,9 @@ fn main(rt: HostRuntime) -> io::Result<()> {
     let mut deck = Deck::new(rt.alloc());
     answer_lines(&rt, rt.alloc(), |page, line| {
         let (word, rest) = first_word(line);
-        if word == "@convertible" {
+        if word == "@convertible" || word == "@problem" {
             page.line(line);
-            push_answer(page, &mut deck, rest)?;
+            push_answer(page, &mut deck, word, rest)?;
         } else {
             take_line(page, &mut deck, line)?;
         }
