@@ -39,7 +39,7 @@ class Solution(Bounds):
     def solve(self, step: Step, h: np.ndarray, side: int) -> np.ndarray:
         for _ in range(MOST_ROUNDS):
             rest, slope, _ = self.balance(step, h, side)
-            if np.all(np.abs(rest) <= step.conductance * np.maximum(OF_UNIT * UNIT, OF_HEAD * np.abs(h))):
+            if self.is_balanced(step, h, rest):
                 return h
             diagonal = scipy.sparse.diags(np.maximum(slope, 1e-12 * step.conductance))
             change = self.linear((diagonal - step.links).tocsc(), rest)
@@ -48,6 +48,10 @@ class Solution(Bounds):
             if self.is_close(share * change):
                 return h
         raise SystemExit(f"period {step.period + 1}, step {step.number}: Newton's method didn't end")
+
+    def is_balanced(self, step: Step, h: np.ndarray, rest: np.ndarray) -> bool:
+        """Whether these balances of the heads count as zero."""
+        return bool(np.all(np.abs(rest) <= step.conductance * np.maximum(OF_UNIT * UNIT, OF_HEAD * np.abs(h))))
 
     def is_close(self, change: np.ndarray) -> bool:
         """Whether a change is so small that it is the last one. Here the balances alone end the rounds."""
