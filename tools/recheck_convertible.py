@@ -22,7 +22,7 @@ What is tested of a step. l and u are its listed heads; a history's old heads li
   (3) Each variable cell's balance at the heads l, with the lower old heads, is one unit or more; at u, with the upper
       old heads, minus one unit or less.
   (4) Each term's pair holds what its flows come to where each cell's head goes from u to l, and each pair of zones
-      what flows through the faces between them, where the heads on both sides go from l to u.
+      what flows through the faces between them, by each conductance and each fall of head between l and u.
 
 Why that is enough. At gentle heads the flow through a branch into a cell falls weakly as the cell's own head rises and
 rises weakly with the other one. Take C(x, y)(y - x), where the halves of the branch have the thicknesses p of the cell
@@ -109,12 +109,16 @@ class WaterModel(Model):
                     step.branches[cell].append(Branch("STORAGE", compressed, None))
         return step
 
-    def conductance(self, first: int, second: int, head: Fraction, other: Fraction) -> Fraction:
-        """Between two neighbours, the smaller number first, at these heads."""
-        model = copy.copy(self)
+    def conductances(self, first: int, second: int, listing: Listing) -> Values:
+        """Between two neighbours, the smaller number first, where each is at its lower or its upper head. A conductance
+        rises with each thickness in a row or a column, and falls with it in a vertical branch: its range ends here."""
+        model, out = copy.copy(self), Values()
         model.thick = list(self.thick)
-        model.thick[first], model.thick[second] = self.saturated(first, head), self.saturated(second, other)
-        return next(conductance for _, cell, conductance in model.faces_of(first) if cell == second)
+        for head in (listing.lower[first], listing.upper[first]):
+            for other in (listing.lower[second], listing.upper[second]):
+                model.thick[first], model.thick[second] = self.saturated(first, head), self.saturated(second, other)
+                out.append(next(conductance for _, cell, conductance in model.faces_of(first) if cell == second))
+        return out
 
 
 class WaterListing(Listing):
@@ -181,14 +185,14 @@ def check_signs(low: Step, high: Step, listing: Listing, old_low: Values, old_hi
 
 
 def check_zones(model: WaterModel, step: Step, listing: Listing, faces: Faces) -> None:
-    """From zone a to b the least flow of a face is that at the lower head in a and the upper one in b."""
+    """From zone a to b: what each face has by any of its conductances and any fall of head between."""
     lower, upper = listing.lower, listing.upper
     for (a, b), (low, high) in listing.zones.items():
         sums = [ZERO, ZERO]
         for x, y, _ in faces[a, b]:
-            for at, (head, other) in enumerate(((lower[x], upper[y]), (upper[x], lower[y]))):
-                pair = (x, y, head, other) if x < y else (y, x, other, head)
-                sums[at] += model.conductance(*pair) * (head - other)
+            conductances = model.conductances(min(x, y), max(x, y), listing)
+            sums[0] += min(c * (lower[x] - upper[y]) for c in conductances)
+            sums[1] += max(c * (upper[x] - lower[y]) for c in conductances)
         if low > sums[0] or high < sums[1]:
             raise Fault(f"{step.name} ZONE {a} {b}: the pair doesn't hold the flow")
 

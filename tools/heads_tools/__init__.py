@@ -33,6 +33,7 @@ from .exports.geopackage import to_geopackage
 from .exports.netcdf import to_netcdf, to_xarray
 from .listing.headfile import read_heads, write_heads
 from .listing.listing import Listing, Step, read_listing
+from .listing.plan_listing import PlanListing, read_plan_listing
 from .planning.drawdown import changes_of
 from .program.failures import NoBounds, RunFailed
 from .program.verdict import Verdict
@@ -44,6 +45,7 @@ __all__ = [
     "Model",
     "NoBounds",
     "Place",
+    "PlanListing",
     "Problem",
     "RunFailed",
     "Step",
@@ -71,6 +73,7 @@ __all__ = [
     "read_heads",
     "read_listing",
     "read_model",
+    "read_plan_listing",
     "run",
     "template",
     "terms_frame",

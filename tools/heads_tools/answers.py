@@ -11,6 +11,7 @@ from .commands import PASSING, command
 from .commands.shared import guarded
 from .common.text import Problem
 from .listing.listing import Cell, Listing
+from .listing.plan_listing import PlanListing
 from .program.failures import failure_of
 
 Cells = Union[Cell, Sequence[Cell], None]
@@ -62,9 +63,10 @@ def option_words(options: dict[str, Any]) -> list[str]:
 def arguments(name: str, given: dict[str, Any], options: dict[str, Any]) -> tuple[argparse.Namespace, list[str]]:
     """What the command's parser makes of words by name and of options. Listings in memory are handed over as they
     are."""
-    memory = {name: each for name, each in (given | options).items() if isinstance(each, Listing)}
-    words = [str(each.path if isinstance(each, Listing) else each) for each in given.values()]
-    named = {name: each.path if isinstance(each, Listing) else each for name, each in options.items()}
+    in_memory = (Listing, PlanListing)
+    memory = {name: each for name, each in (given | options).items() if isinstance(each, in_memory)}
+    words = [str(each.path if isinstance(each, in_memory) else each) for each in given.values()]
+    named = {name: each.path if isinstance(each, in_memory) else each for name, each in options.items()}
     try:
         args, rest = parser([name]).parse_known_args(joined([name, *words, *option_words(named)]))
     except SystemExit:

@@ -9,9 +9,10 @@ from typing import TYPE_CHECKING, Any, Union
 import numpy as np
 
 from .answers import Answer, Cells, Span, arguments, call, cells_of, made, span_of
-from .commands.shared import existing, guarded, listing_of
+from .commands.shared import existing, guarded, listing_of, plan_in
 from .deck.model import Model
 from .listing.listing import Listing
+from .listing.plan_listing import PlanListing
 from .listing.spans import second_deck
 from .planning.drawdown_weather import written_by
 from .program.verdict import Verdict, check_listing
@@ -22,6 +23,7 @@ if TYPE_CHECKING:
 
 PathLike = Union[str, Path]
 Listed = Union[str, Path, Listing]
+AnyListed = Union[str, Path, Listing, PlanListing]
 
 
 def run(
@@ -29,6 +31,7 @@ def run(
     out: PathLike | None = None,
     *,
     to: PathLike | None = None,
+    plan: PathLike | None = None,
     digits: int | None = None,
     zones: PathLike | None = None,
     quick: bool = False,
@@ -40,19 +43,32 @@ def run(
     force: bool = False,
     check: bool = True,
 ) -> Answer:
-    """Runs the model; `.listing` is its listing. `to`: a second deck; `quiet`: no progress on standard error. A run
-    that doesn't end well raises RunFailed, where a step has no bounds NoBounds; with check=False it is an answer with
-    its status, which has no listing: `success, lines = run(nam, check=False)`."""
-    options = dict(
-        out=out, to=to, digits=digits, zones=zones, quick=quick, wide=wide, workers=workers, rounds=rounds, watch=watch
-    )
-    return made("run", {"nam": nam}, options | dict(quiet=quiet, force=force), check)
+    """Runs the model; `.listing` is its listing. `to`: a second deck; `plan`: a file of WEL in the model's folder,
+    `.listing` is then the part DRAWDOWN, base less plan, and read_plan_listing(answer.listing.path) has all of it;
+    `quiet`: no progress on standard error. A run that doesn't end well raises RunFailed, where a step has no bounds
+    NoBounds; with check=False it is an answer with its status, which has no listing: `success, lines = run(nam,
+    check=False)`."""
+    options = dict(out=out, to=to, plan=plan, digits=digits, zones=zones, quick=quick, wide=wide, workers=workers)
+    return made("run", {"nam": nam}, options | dict(rounds=rounds, watch=watch, quiet=quiet, force=force), check)
 
 
-def inside(nam: PathLike, *, most: int | None = None, heads: PathLike | None = None) -> Answer:
+def inside(
+    nam: PathLike | PlanListing,
+    *,
+    most: int | None = None,
+    heads: PathLike | None = None,
+    name: PathLike | None = None,
+    plan: PathLike | None = None,
+    to: PathLike | None = None,
+    plan_heads: PathLike | None = None,
+    within: str | float | None = None,
+    wide: bool = False,
+) -> Answer:
     """Whether the model is inside, with all reasons; status 1 where it isn't. `heads`: those of a run, where a layer is
-    convertible."""
-    return call("inside", {"nam": nam}, dict(most=most, heads=heads))
+    convertible. Of a plan's listing, with its base deck `name` and its wells `plan`: whether the heads of two runs lie
+    inside it, `heads` those without the wells and `plan_heads` those with them."""
+    options = dict(most=most, heads=heads, name=name, plan=plan, to=to, plan_heads=plan_heads, within=within, wide=wide)
+    return call("inside", {"nam": nam}, options)
 
 
 def plain(nam: PathLike, folder: PathLike, *, dry: PathLike | None = None, as_confined: bool = False) -> Answer:
@@ -76,12 +92,14 @@ def between(
 
 
 def look(
-    listing: Listed,
+    listing: AnyListed,
     folder: PathLike,
     *,
     name: PathLike | None = None,
     to: PathLike | None = None,
+    plan: PathLike | None = None,
     cell: Cells = None,
+    at: str | list[str] | None = None,
     given: PathLike | None = None,
     minus: Listed | None = None,
     zones: PathLike | None = None,
@@ -92,10 +110,10 @@ def look(
     force: bool = False,
 ) -> Answer:
     """Draws a listing: maps, sections, hydrographs, budget, a page; with page=True the interactive map alone. `name`:
-    the model, whose check is called first."""
-    options = dict(name=name, to=to, cell=cells_of(cell), given=given, minus=minus, zones=zones, wide=wide)
-    options |= dict(page=page, every=every, svg=svg, force=force)
-    return call("look", {"listing": listing, "folder": folder}, options)
+    the model, whose check is called first; `plan`: the wells of a plan's listing; `at`: points of it, "NAME,X,Y"."""
+    options = dict(name=name, to=to, plan=plan, cell=cells_of(cell), at=at, given=given, minus=minus, zones=zones)
+    flags = dict(wide=wide, page=page, every=every, svg=svg, force=force)
+    return call("look", {"listing": listing, "folder": folder}, options | flags)
 
 
 def compare(
@@ -203,18 +221,19 @@ def exhibit(
     folder: PathLike,
     *,
     to: PathLike | None = None,
+    plan: PathLike | None = None,
     digits: int | None = None,
     zones: PathLike | None = None,
     quick: bool = False,
     wide: bool = False,
 ) -> Answer:
-    """All that a report or a court needs of one run, in one folder."""
-    options = dict(to=to, digits=digits, zones=zones, quick=quick, wide=wide)
+    """All that a report or a court needs of one run, in one folder; `plan`: of what the wells of this file do."""
+    options = dict(to=to, plan=plan, digits=digits, zones=zones, quick=quick, wide=wide)
     return call("exhibit", {"nam": nam, "folder": folder}, options)
 
 
 def export(
-    listing: Listed,
+    listing: AnyListed,
     folder: PathLike,
     name: PathLike,
     *,
@@ -225,14 +244,15 @@ def export(
     base_name: PathLike | None = None,
     start: str | None = None,
     to: PathLike | None = None,
+    plan: PathLike | None = None,
     wide: bool = False,
     force: bool = False,
     **more: Any,
 ) -> Answer:
     """Writes NetCDF, GeoTIFF, GeoPackage, VTK and CSV of a listing of the model `name`, after its check. `formats`: of
-    nc, tif, gpkg, vtu, csv, with commas between."""
-    options = dict(name=name, at=at, last=last, minus=minus, base_name=base_name, start=start, to=to, wide=wide)
-    options |= {"as": formats or more.pop("as", None), "force": force} | more
+    nc, tif, gpkg, vtu, csv, with commas between; `plan`: the wells of a plan's listing."""
+    options = dict(name=name, at=at, last=last, minus=minus, base_name=base_name, start=start, to=to, plan=plan)
+    options |= {"as": formats or more.pop("as", None), "wide": wide, "force": force} | more
     return call("export", {"listing": listing, "folder": folder}, options)
 
 
@@ -255,10 +275,13 @@ def hds(
 
 
 def observe(
-    listing: Listed,
+    listing: AnyListed,
     points: PathLike,
     name: PathLike,
     *,
+    to: PathLike | None = None,
+    plan: PathLike | None = None,
+    part: str | None = None,
     at: str | tuple[float, ...] | None = None,
     between: bool = False,
     out: PathLike | None = None,
@@ -270,10 +293,12 @@ def observe(
     quiet: bool = False,
     force: bool = False,
 ) -> Answer:
-    """Heads at the points of a table or a HOB file; the lines of the answer are the table. `quiet`: nothing on standard
-    error."""
-    options = dict(name=name, at=at, between=between, out=out, start=start, picture=picture, pest=pest, zones=zones)
-    return call("observe", {"listing": listing, "points": points}, options | dict(wide=wide, quiet=quiet, force=force))
+    """Heads at the points of a table or a HOB file; the lines of the answer are the table. `plan`: the wells of a
+    plan's listing; `part`: of BASE, PLAN, DRAWDOWN, with commas between, what was measured first. `quiet`: nothing on
+    standard error."""
+    options = dict(name=name, to=to, plan=plan, part=part, at=at, between=between, out=out, start=start)
+    more = dict(picture=picture, pest=pest, zones=zones, wide=wide, quiet=quiet, force=force)
+    return call("observe", {"listing": listing, "points": points}, options | more)
 
 
 def zonebudget(
@@ -331,14 +356,22 @@ def ensemble(
 
 
 def check(
-    nam: PathLike, listing: Listed, *, to: PathLike | None = None, zones: PathLike | None = None, wide: bool = False
+    nam: PathLike,
+    listing: AnyListed,
+    *,
+    to: PathLike | None = None,
+    plan: PathLike | None = None,
+    zones: PathLike | None = None,
+    wide: bool = False,
 ) -> Verdict:
-    """What `heads check` says of a listing. It goes with the listing into to_netcdf and the like."""
-    args, rest = arguments("check", {"nam": nam, "listing": listing}, dict(to=to, zones=zones, wide=wide))
+    """What `heads check` says of a listing; `plan`: the wells of a plan's listing. It goes with the listing into
+    to_netcdf and the like."""
+    args, rest = arguments("check", {"nam": nam, "listing": listing}, dict(to=to, plan=plan, zones=zones, wide=wide))
     path = existing(args.nam)
-    file = existing(args.zones) if args.zones else None
+    file, wells = (existing(each) if each else None for each in (args.zones, args.plan))
     with guarded(args, rest):
-        return check_listing(path, listing_of(args.listing), file, second_deck(path, args.to), args.wide)
+        given = plan_in(args.listing).drawdown if wells else listing_of(args.listing)
+        return check_listing(path, given, file, second_deck(path, args.to), args.wide, wells)
 
 
 def plot(

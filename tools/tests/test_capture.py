@@ -68,7 +68,7 @@ def test_the_shares_are_the_listed_sources_over_the_rate(example, tool, tmp_path
         (["--rate", "5", "--cell", "1,1,1"], "given head"),
         (["--rate", "5", "--cell", "9,1,1"], "outside the grid"),
         (["--rate", "5", "--layer", "4"], "no layer 4"),
-        (["--rate", "5", "--every", "0"], "at least 1"),
+        (["--rate", "5", "--every", "0"], "a whole number from 1 to"),
     ],
 )
 def test_wells_that_take_nothing_and_wrong_words_are_refused(words, said, example, tool, tmp_path):

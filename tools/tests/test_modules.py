@@ -73,6 +73,11 @@ def test_a_module_can_be_read_at_once(module):
     assert len(MODULES[module].read_text(encoding="utf-8").splitlines()) <= MOST_LINES
 
 
+def test_so_can_each_test_and_each_script_of_the_map():
+    paths = [*TOOLS.glob("tests/*.py"), *TOOLS.glob("heads_tools/map/*")]
+    assert [path.name for path in paths if len(path.read_text(encoding="utf-8").splitlines()) > MOST_LINES] == []
+
+
 def test_each_folder_is_in_the_wheel():
     listed = re.findall(r'^    "heads_tools(?:\.(\w+))?",$', (TOOLS / "pyproject.toml").read_text(), re.M)
     assert sorted(listed) == sorted({folder_of(module) for module in MODULES}) == sorted(set().union(*LAYERS))

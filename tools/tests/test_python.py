@@ -120,6 +120,19 @@ def test_what_is_shown_of_an_object_is_one_line(tide, tmp_path):
     assert repr(heads_tools.check(nam, listing)) == f"<{listing.path.name}: CERTIFIED>"
 
 
+def test_the_lines_of_the_page_run_as_they_stand(example, monkeypatch):
+    """Those of tools/README.md, in the folder of a model."""
+    for name in ("matplotlib", "pandas", "xarray", "netCDF4"):
+        pytest.importorskip(name)
+    lines = (TOOLS / "README.md").read_text(encoding="utf-8").splitlines()
+    begin = lines.index("    import heads_tools")
+    end = next(n for n in range(begin, len(lines)) if not lines[n].startswith("    "))
+    monkeypatch.chdir(example("river_valley").parent)
+    names: dict = {}
+    exec("\n".join(line[4:] for line in lines[begin:end]), names)
+    assert names["success"] is True and names["verdict"].is_certified and Path("m.nc").stat().st_size > 1000
+
+
 def test_an_editable_install_gives_the_package_and_its_commands(tmp_path):
     """What `pip install -e tools` needs: the metadata names each folder, and the commands exist."""
     text = (TOOLS / "pyproject.toml").read_text()

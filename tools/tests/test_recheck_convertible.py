@@ -7,8 +7,8 @@ from decimal import Decimal
 import pytest
 from conftest import TOOLS
 from test_recheck import moved
-from water_listings import Pairs, drawn, is_gentle, spoilt
-from water_reference import pumped, tank
+from water_listings import Pairs, drawn, is_gentle, narrowed, spoilt, zone_file, zones_of
+from water_reference import Small, pumped, tank
 
 SCRIPT = TOOLS / "recheck_convertible.py"
 D = Decimal
@@ -92,17 +92,45 @@ def test_a_head_that_crosses_its_top_gives_from_both_sides(tmp_path):
         assert status == 1 and words.endswith("IN STORAGE: the pair doesn't hold the flows")
 
 
-def test_flows_between_zones_lie_between_those_of_the_corners(tmp_path):
+def test_flows_between_zones_have_any_conductance_and_any_fall_between(tmp_path):
     model = pumped("-600")
     (tmp_path / "zones.txt").write_text("INTERNAL 1 (FREE)\n1 2 2\n")
-    # From 10 m to 6 m: 2 * 10 / (1/10 + 1/6) * 4 is 300 m3/d, and 75 m3/d less a metre of the lower head.
+    # From 10 m to 6 m: 2 * 10 / (1/10 + 1/6) is 75 m2/d, times a fall of 4 m.
     low, high = D(6) - D("0.00000002"), D(6) + D("0.00000002")
-    flow = lambda x: 20 / (1 / D(10) + 1 / x) * (10 - x)
+    conductance = lambda x: 20 / (1 / D(10) + 1 / x)
+    least, most = conductance(low) * (10 - high), conductance(high) * (10 - low)
     text = listing_of(D(6))
     for more, status in ((D("1E-12"), 0), (D("-1E-12"), 1)):
-        line = f"ZONE 1 2 {flow(high) - more:.21f} {flow(low) + more:.21f}\nEND\n"
+        line = f"ZONE 1 2 {least - more:.21f} {most + more:.21f}\nEND\n"
         found = said(model, tmp_path, text.replace("END\n", line), "zones.txt")
         assert found[0] == status, found
+
+
+def test_a_vertical_conductance_is_least_at_the_upper_heads(tmp_path):
+    model = Small((2, 1, 1), [D(20), D(10)], [D(10), D(0)], [D(1)] * 2, [-1, 1], [D(16), D(15)], [1, 0])
+    (tmp_path / "zones.txt").write_text("INTERNAL 1 (FREE)\n1\nINTERNAL 1 (FREE)\n2\n")
+    model.wells = [(1, [D(-300)])]
+    pairs = Pairs(model, 12)
+    # Half of 6 m and half of 10 m over VK 0.5: 10000 / (6 + 10) is 625 m2/d, and 300 m3/d fall by 0.48 m.
+    low, high = pairs.steps[0][2][1], pairs.steps[0][3][1]
+    for more, status in ((D("1E-12"), 0), (D("-1E-12"), 1)):
+        line = f"ZONE 1 2 {625 * (16 - high) - more:.21f} {625 * (16 - low) + more:.21f}\nEND\n"
+        found = said(model, tmp_path, pairs.text().replace("END\n", line), "zones.txt")
+        assert found[0] == status, found
+
+
+@pytest.mark.parametrize("seed", range(0, 12, 2))
+def test_random_flows_between_zones_hold_and_narrow_ones_do_not(seed, tmp_path):
+    pairs = Pairs(drawn(seed), 12)
+    if not is_gentle(pairs):
+        return
+    zones = zones_of(pairs.model, seed)
+    (tmp_path / "zones.txt").write_text(zone_file(pairs.model, zones))
+    text = pairs.text(zones=zones)
+    assert said(pairs.model, tmp_path, text, "zones.txt") == (0, "HOLDS")
+    if "ZONE" in text:
+        status, words = said(pairs.model, tmp_path, narrowed(text, seed), "zones.txt")
+        assert status == 1 and " ZONE " in words
 
 
 def test_the_first_line_has_the_word_and_recheck_py_refuses_the_deck(tmp_path):

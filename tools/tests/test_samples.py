@@ -7,6 +7,7 @@ import recheck
 import sampled
 import spelled
 from conftest import heads
+from sampled_pairs import PAIRS
 
 REFUSED = [name for name, (_, due) in sampled.SAMPLES.items() if due not in ("as it is", "plain")]
 TAKEN = [name for name in sampled.SAMPLES if name not in REFUSED]
@@ -46,6 +47,16 @@ def test_a_sample_that_says_more_is_refused_with_its_reason(name, tmp_path, tool
     change, due = sampled.SAMPLES[name]
     status, out, err = tool("plain", written(tmp_path / "deck", change), tmp_path / "out")
     assert status == 2 and due in err and not (tmp_path / "out").exists()
+
+
+@pytest.mark.program
+@pytest.mark.parametrize("name", PAIRS)
+def test_a_sample_of_another_model_has_the_listing_of_its_plain_deck(name, tmp_path, tool):
+    spelling, meaning = PAIRS[name]
+    status, _, err = tool("plain", written(tmp_path / "deck", spelling), tmp_path / "out")
+    assert status == 0, err
+    due = run(written(tmp_path / "meant", meaning))
+    assert run(next((tmp_path / "out").glob("*.nam"))) == due and due.endswith("END\n")
 
 
 SECTION = {

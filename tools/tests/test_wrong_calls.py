@@ -29,30 +29,38 @@ WORDS = {
     "mf2005": "nam",
     "exhibit": "nam folder",
     "batch": "file",
+    "capture": "nam folder",
     "version": "",
 }
 OPTIONS = {
     "run": ["--digits 99", "--out FOLDER", "--to FILE", "--zones FILE", "--foo", "--out m.wel"],
-    "inside": ["--most x", "--heads FILE"],
+    "inside": ["--most x", "--heads FILE", "--name NAM --plan plan.wel", "--plan-heads FILE", "--within x"],
     "plain": ["--dry FILE", "--as-confined", "--foo"],
     "between": ["--wells 1", "--wells 2..1", "--package FILE", "--recharge x..y", "--stage -1..1 --package LISTING"],
     "look": ["--cell 1", "--cell 9,9,9", "--given FILE", "--minus FILE", "--zones FILE", "--name FILE", "--to NAM",
              "--name NAM --plan FILE", "--name NAM --plan plan.wel"],
     "compare": ["--csv FOLDER", "--map FILE", "--name FILE", "--zones FILE", "--csv m.wel"],
-    "drawdown": ["--cell 0,0,0", "--any", "--to FILE", "--at here", "--hk 1", "--name NAM", "--base-name FILE"],
+    "drawdown": ["--cell 0,0,0", "--any", "--to FILE", "--at here", "--hk 1", "--name NAM", "--base-name FILE",
+                 "--at x,nan,0"],
     "plans": ["--base nothing", "--cell 7,7,7"],
-    "certify": ["--digits -1", "--theta x", "--zones FILE", "--convertible", "--digits 18"],
+    "certify": ["--digits -1", "--theta x", "--theta nan", "--theta -1", "--zones FILE", "--convertible",
+                "--digits 18"],
     "check": ["--to NAM", "--zones FILE", "--parts 2"],
     "hds": ["--lower --upper", "--name FILE", "--single --name NAM"],
-    "export": ["--name NAM --as shp", "--name NAM --at here", "--name FILE", "", "--name NAM --minus FILE"],
-    "observe": ["--name NAM --start x", "--name FILE", "", "--name NAM --picture a.jpg", "--name NAM --pest FILE"],
+    "export": ["--name NAM --as shp", "--name NAM --at here", "--name FILE", "", "--name NAM --minus FILE",
+               "--name NAM --at nan,0", "--name NAM --start 2024-13-01", "--name NAM --at 1e400,0,1e30,99999999",
+               "--name NAM --plan plan.wel"],
+    "observe": ["--name NAM --start x", "--name FILE", "", "--name NAM --picture a.jpg", "--name NAM --pest FILE",
+                "--name NAM --plan plan.wel --part DRAWDOWN", "--name NAM --part x"],
     "template": ["--foo"],
     "ensemble": ["--tpl FILE --cell 1,1,1", "--tpl TPL --cell 1,1,1", "--tpl TPL --points FILE", "", "--tpl TPL"],
     "zonebudget": ["--name NAM", "--name FILE", ""],
     "exhibit": ["--digits 99", "--to FILE", "--plan FILE"],
-    "batch": ["--jobs x", "--slurm --parallel", "--write-only --parallel"],
+    "batch": ["--jobs x", "--jobs -3", "--slurm --parallel", "--write-only --parallel"],
+    "capture": ["--rate nan", "--rate 0", "--rate 1 --cell 9,9,9", "--rate 1 --every 0", "--rate 1 --reaches FILE", "",
+                "--rate 1 --to FILE", "--rate 1e400"],
 }
-COUNT = 330
+COUNT = 360
 PLAN = TOP / "tools" / "tests" / "plan_listing" / "one.txt"
 
 
@@ -85,6 +93,10 @@ def place(tmp_path_factory):
         "plan.wel": b"1 0\n1 0\n1 1 2 -1\n",
         "plan.heads": PLAN.read_bytes(),
         "cut_plan.heads": PLAN.read_bytes()[:900],
+        "Größe 1.heads": text.encode(),
+        "other.heads": text.replace("HEAD 1 1 3", "HEAD 1 1 7").encode(),
+        "huge.csv": b"layer,row,col,head\n1,1,1,5\n1,1,99999999999999999999999,1\n",
+        "dates.csv": b"name,x,y,layer,date,measured\na,1,0.5,1,2024-13-45,1e400\n",
     }
     for name, content in made.items():
         (folder / name).write_bytes(content)
@@ -98,8 +110,9 @@ def chosen(rng, kind):
     wrong = (
         "cut.heads nan.heads refused.heads empty noise words table.csv layer.csv other.nam loop.nam m.list m.zon"
         " short.zon mfsim.nam sub nothing a.nam m.heads a.dis a.lpf.tpl plan.wel plan.heads cut_plan.heads"
+        " other.heads huge.csv dates.csv"
     )
-    return right[kind] if rng.random() < 0.65 else rng.choice(wrong.split())
+    return right[kind] if rng.random() < 0.65 else rng.choice([*wrong.split(), "Größe 1.heads"])
 
 
 @pytest.mark.parametrize("part", range(6))

@@ -108,7 +108,7 @@ def test_the_faces_are_those_of_the_program(example, tool, tmp_path):
     zones = nam.with_name("m.zon")
     answer = heads_tools.run(nam, zones=zones, quiet=True)
     status, out, err = tool("zonebudget", answer.listing.path, zones, "--name", nam, "--out", tmp_path / "zones.csv")
-    assert status == 0 and "CERTIFIED" in out, out + err
+    assert status == 0 and "CERTIFIED" in out and "weren't checked" not in out, out + err
     rows = {(row["zone"], row["term"]): row for row in csv.DictReader((tmp_path / "zones.csv").open())}
     unit = Fraction(1, 10**answer.listing.flow_places)
     for a, b, low, high in answer.listing.steps[0].zones:
@@ -121,3 +121,7 @@ def test_the_faces_are_those_of_the_program(example, tool, tmp_path):
         assert Fraction(row["net_lower"]) <= Fraction(row["narrowed_lower"]) <= Fraction(row["narrowed_upper"])
     assert (tmp_path / "zones.csv.about").is_file()
     assert tool("zonebudget", answer.listing.path, zones, "--name", nam, "--out", tmp_path / "zones.csv")[0] == 0
+    other = tmp_path / "other.zon"
+    other.write_text("CONSTANT 1\n")
+    status, out, err = tool("zonebudget", answer.listing.path, other, "--name", nam)
+    assert status == 0 and "CERTIFIED" in out and "The flows between zones weren't checked" in out, out + err

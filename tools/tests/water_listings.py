@@ -123,8 +123,23 @@ class Pairs:
         losses = self.model.balances(high, old[1], period, length, D)[0]
         return all(gains[c] >= 2 * self.unit and losses[c] <= -2 * self.unit for c in self.free)
 
-    def text(self, more=D(0)):
-        """The listing. Pairs of terms are wider than the flows by `more` on each side."""
+    def zone_flows(self, zones, low, high):
+        """For each two zones, the smaller first, the least and the greatest flow from one to the other: of each face
+        between them, any conductance between the heads and any fall of head."""
+        m, out = self.model, {}
+        for x, y, axis in m.neighbours():
+            if zones[x] == zones[y] or 0 in (zones[x], zones[y]) or max(m.ibound[x], m.ibound[y]) < 0:
+                continue
+            each = [m.conductance(x, y, axis, a, b, D) for a in (low[x], high[x]) for b in (low[y], high[y])]
+            a, b = (x, y) if zones[x] < zones[y] else (y, x)
+            sums = out.setdefault((zones[a], zones[b]), [D(0), D(0)])
+            sums[0] += min(c * (low[a] - high[b]) for c in each)
+            sums[1] += max(c * (high[a] - low[b]) for c in each)
+        return sorted(out.items())
+
+    def text(self, more=D(0), zones=None):
+        """The listing, with the flows between zones if these are given, by cell. Pairs of terms and of zones are wider
+        than the flows by `more` on each side."""
         model, lines, at = self.model, [], 0
         names = TERMS if model.evt else TERMS[:-1]
         numbers = {(p, n): None for p, n, _ in model.steps()}
@@ -142,10 +157,37 @@ class Pairs:
                     ends = sorted((least.get(name, none)[at], most.get(name, none)[at]))
                     lines.append(f"{side} {self.flow(max(ends[0] - more, D(0)), ROUND_FLOOR)}"
                                  f" {self.flow(ends[1] + more, ROUND_CEILING)} {name}")
+            for (a, b), (least_flow, most_flow) in self.zone_flows(zones, low, high) if zones else ():
+                ends = self.flow(least_flow - more, ROUND_FLOOR), self.flow(most_flow + more, ROUND_CEILING)
+                lines.append(f"ZONE {a} {b} {ends[0]} {ends[1]}")
         return "\n".join([f"HEADS 2 DIGITS {self.places - 9} UNIT 2 CONVERTIBLE", *lines, "END", ""])
 
     def flow(self, x, rounding):
         return f"{x.quantize(self.unit, rounding):f}"
+
+
+def zones_of(model, seed):
+    """A random zone of each cell, 0 to 3."""
+    r = random.Random(seed)
+    return [r.choice((0, 1, 1, 2, 2, 3)) for _ in model.ibound]
+
+
+def zone_file(model, zones):
+    """The zones as a file, layer by layer."""
+    cols = model.shape[2]
+    rows = lambda v: "".join(" ".join(map(str, v[n : n + cols])) + "\n" for n in range(0, len(v), cols))
+    layers = [zones[at : at + model.size] for at in range(0, len(zones), model.size)]
+    return "".join("INTERNAL 1 (FREE) -1\n" + rows(layer) for layer in layers)
+
+
+def narrowed(text, seed):
+    """The listing with a pair of zones that lies above the flow."""
+    r, lines = random.Random(seed), text.split("\n")
+    at = r.choice([n for n, line in enumerate(lines) if line.startswith("ZONE ")])
+    word, a, b, low, high = lines[at].split()
+    unit = D(1).scaleb(D(high).as_tuple().exponent)
+    lines[at] = " ".join([word, a, b, *(f"{(D(x) + D(high) - D(low) + unit).quantize(unit):f}" for x in (low, high))])
+    return "\n".join(lines)
 
 
 def is_gentle(pairs):

@@ -103,6 +103,18 @@ class Small:
             for number in range(1, count + 1):
                 yield p, number, None if kind == "SS" else first * D(tsmult) ** (number - 1)
 
+    def conductance(self, a, b, axis, head, other, num):
+        """Between two neighbours at their heads, in numbers of the kind `num`."""
+        def wet(c, h):
+            is_conv = self.convertible[c // self.size]
+            return (min(h, num(self.top[c])) if is_conv else num(self.top[c])) - num(self.bottom[c])
+
+        if axis == DOWN:
+            bed = num(1) / num(self.vkcb) if a // self.size in self.bed else num(0)
+            return num(10000) / (wet(a, head) / (2 * num(self.vk)) + bed + wet(b, other) / (2 * num(self.vk)))
+        along = num(self.chani) if axis == COLUMN else num(1)
+        return along / (1 / (2 * num(self.k[a]) * wet(a, head)) + 1 / (2 * num(self.k[b]) * wet(b, other)))
+
     def balances(self, h, old, period, length, num):
         """The balance of each cell, and the flows in and out by term, in numbers of the kind `num`."""
         out, terms = [num(0)] * len(h), {}
@@ -113,17 +125,8 @@ class Small:
             if term:
                 terms.setdefault(term, [num(0), num(0)])[0 if q > 0 else 1] += abs(q)
 
-        def wet(c):
-            is_conv = self.convertible[c // self.size]
-            return (min(h[c], num(self.top[c])) if is_conv else num(self.top[c])) - num(self.bottom[c])
-
         for a, b, axis in self.neighbours():
-            if axis == DOWN:
-                bed = num(1) / num(self.vkcb) if a // self.size in self.bed else num(0)
-                c = area / (wet(a) / (2 * num(self.vk)) + bed + wet(b) / (2 * num(self.vk)))
-            else:
-                along = num(self.chani) if axis == COLUMN else num(1)
-                c = along / (1 / (2 * num(self.k[a]) * wet(a)) + 1 / (2 * num(self.k[b]) * wet(b)))
+            c = self.conductance(a, b, axis, h[a], h[b], num)
             q = c * (h[b] - h[a])
             if self.ibound[a] > 0:
                 give("CONSTANT HEAD" if self.ibound[b] < 0 else "", a, q)

@@ -6,7 +6,7 @@ from typing import IO
 
 from ..program.batch import batch
 from .shared import existing, flags_of
-from .words import WIDE_RUN, add_force, add_quick, add_wide, add_words
+from .words import WIDE_RUN, add_force, add_quick, add_wide, add_words, whole_number
 
 
 def add(sub: argparse.ArgumentParser) -> None:
@@ -14,7 +14,7 @@ def add(sub: argparse.ArgumentParser) -> None:
     where = sub.add_mutually_exclusive_group()
     where.add_argument("--slurm", action="store_true", help="as an array job of Slurm")
     where.add_argument("--parallel", action="store_true", help="by GNU parallel")
-    sub.add_argument("--jobs", type=int, default=0, help="models at a time (the processors)")
+    sub.add_argument("--jobs", type=whole_number(0), default=0, help="models at a time (the processors)")
     add_quick(sub)
     add_wide(sub, WIDE_RUN)
     sub.add_argument(

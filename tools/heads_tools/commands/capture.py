@@ -11,7 +11,7 @@ from ..deck.model import read_model
 from ..listing.zones import read_zones
 from ..planning.drawdown_weather import Asked
 from .shared import existing, say
-from .words import add_cells, add_digits, add_force, add_quick, add_to, add_wide, add_words
+from .words import add_cells, add_digits, add_force, add_quick, add_to, add_wide, add_words, whole_number
 
 CAPTURE = """\
 A well of one rate is put into each cell in turn, as a plan beside the deck, and a run of `heads` bounds what each term
@@ -27,10 +27,10 @@ def add(sub: argparse.ArgumentParser) -> None:
     sub.add_argument("--rate", required=True, metavar="Q", help="what the well takes, in every period")
     add_to(sub, "the deck at the other end of the weather")
     add_cells(sub, "a well at this cell")
-    sub.add_argument("--layer", type=int, default=1, metavar="K", help="without --cell: the layer of the wells (1)")
-    sub.add_argument(
-        "--every", type=int, default=1, metavar="N", help="without --cell: a well in each N-th row and column (1)"
-    )
+    layer = "without --cell: the layer of the wells (1)"
+    sub.add_argument("--layer", type=whole_number(1), default=1, metavar="K", help=layer)
+    every = "without --cell: a well in each N-th row and column (1)"
+    sub.add_argument("--every", type=whole_number(1), default=1, metavar="N", help=every)
     sub.add_argument(
         "--reaches", type=Path, metavar="M.ZON", help="a zone file: the shares of the rivers, drains and general heads"
         " of each of its zones, too"
@@ -45,8 +45,6 @@ def do(args: argparse.Namespace, _: list[str], out: IO[str]) -> int:
     from ..pages.capture_page import NOTES, capture
 
     nam = existing(args.nam)
-    if args.every < 1:
-        raise Problem("--every is a number of rows and columns, at least 1")
     cells = {each: "" for each in args.cell}
     asked = Asked(nam, nam, args.to, cells=cells, digits=args.digits, is_quick=args.quick, has_wide=args.wide)
     shape = read_model(nam).shape

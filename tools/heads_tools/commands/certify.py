@@ -7,22 +7,23 @@ from typing import IO
 
 from ..common.text import Problem
 from .shared import MOST_DIGITS, Ran, existing, say
-from .words import NAM, add_force, add_wide, add_words
+from .words import NAM, add_force, add_wide, add_words, positive, whole_number
 
 
 def add(sub: argparse.ArgumentParser) -> None:
     add_words(sub, NAM, ("heads", "heads to begin with: hds or CSV"))
-    sub.add_argument("--digits", type=int, default=12, help="the digits of the listing, from 0 to 18 (12)")
+    digits = "the digits of the listing, from 0 to 18 (12)"
+    sub.add_argument("--digits", type=whole_number(0, 18), default=12, help=digits)
     sub.add_argument("--out", type=Path, help="the listing's file, NAME.certified.heads where left out")
     sub.add_argument(
-        "--theta", type=float, help="the margin, in roundings of a head; 0.5 and more are tried where left out"
+        "--theta", type=positive, help="the margin, in roundings of a head; 0.5 and more are tried where left out"
     )
     sub.add_argument("--zones", type=Path, metavar="M.ZON", help="a zone file: the flows between its zones, too")
     sub.add_argument(
         "--convertible",
         action="store_true",
         help="layers may be convertible (LAYTYP other than 0): bounds for gentle heads, those whose fall from cell to "
-        "cell is no more than the saturated thickness of the lower one; tested and not proved",
+        "cell is no more than the saturated thickness of the lower one; certified by heads check --convertible",
     )
     add_wide(sub, "the check has the wide limits and cuts floors; given by itself for more than 65,536 cells")
     add_force(sub)

@@ -9,11 +9,10 @@ from ..common.text import Problem
 from ..deck.model import read_model
 from ..listing.fitting import demand_fit
 from ..listing.listing import Listing, read_listing
-from ..listing.plan_listing import read_plan_listing
 from ..listing.spans import second_deck
 from ..program.explain import explain
 from ..program.verdict import check_listing, status_of
-from .shared import existing, say
+from .shared import existing, plan_in, say
 from .words import NAM, add_to, add_wide, add_words, add_zones
 
 
@@ -27,7 +26,7 @@ def add(sub: argparse.ArgumentParser) -> None:
 
 def do(args: argparse.Namespace, _: list[str], out: IO[str]) -> int:
     nam, path, plan = existing(args.nam), existing(args.listing), existing(args.plan) if args.plan else None
-    listing = read_plan_listing(path).drawdown if plan else read_listing(path)
+    listing = plan_in(path).drawdown if plan else read_listing(path)
     zones = existing(args.zones) if args.zones else None
     verdict = check_listing(nam, listing, zones, second_deck(nam, args.to), args.wide, plan)
     is_refused = verdict.status is not None and not verdict.is_certified

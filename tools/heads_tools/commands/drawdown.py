@@ -16,7 +16,18 @@ from ..planning.drawdown import Drawdown, difference, tops_lines, verdict_of, wr
 from ..planning.drawdown_weather import Asked
 from ..program.verdict import status_of
 from .shared import existing, listing_of, page_folder, say
-from .words import add_force, add_quick, add_to, add_wide, add_words, add_zones, cell, named_point, stress_range
+from .words import (
+    add_digits,
+    add_force,
+    add_quick,
+    add_to,
+    add_wide,
+    add_words,
+    add_zones,
+    cell,
+    named_point,
+    stress_range,
+)
 
 DRAWDOWN_USAGE = """\
 heads-tools drawdown BASE.NAM PLAN [FOLDER] [--to HIGH.NAM | --any] [--cell K,I,J] [--at NAME,X,Y] [--digits N] [..]
@@ -62,7 +73,7 @@ def add(sub: argparse.ArgumentParser) -> None:
         help="with --any, of one well in steady periods: the drawdown at the well itself for every HK between these"
         " factors of the deck's, cell by cell (not proved)",
     )
-    sub.add_argument("--digits", type=int, metavar="N", help="the digits of the runs, from 0 to 18 (12)")
+    add_digits(sub)
     add_quick(sub)
     sub.add_argument(
         "--name",

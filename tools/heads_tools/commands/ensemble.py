@@ -11,7 +11,7 @@ from ..deck.dates import start_of
 from ..deck.model import read_model
 from ..planning.ensemble import NOTES, Asked, drop_samples, run_ensemble
 from .shared import existing, flags_of, place_for, say
-from .words import add_cells, add_digits, add_force, add_quick, add_wide, add_words
+from .words import add_cells, add_digits, add_force, add_quick, add_wide, add_words, whole_number
 
 ENSEMBLE = """\
 Fills the templates (--tpl m.lpf.tpl, in the form of PEST; `heads-tools template` writes some) with each line of
@@ -36,7 +36,7 @@ def add(sub: argparse.ArgumentParser) -> None:
     sub.add_argument("--at", metavar="X0,Y0[,ANGLE[,EPSG]]", help="the grid's place, for points by x and y")
     sub.add_argument("--start", metavar="YYYY-MM-DD", help="the date on which the model starts, for points with dates")
     add_digits(sub)
-    sub.add_argument("--jobs", type=int, default=0, help="models at a time (the processors)")
+    sub.add_argument("--jobs", type=whole_number(0), default=0, help="models at a time (the processors)")
     add_quick(sub)
     add_wide(sub, "the runs have the wide limits and cut floors")
     add_force(sub)

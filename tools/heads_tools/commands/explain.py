@@ -7,13 +7,14 @@ from typing import IO
 
 from ..program.explain import explain_output
 from .shared import existing, say
-from .words import add_words
+from .words import add_words, whole_number
 
 
 def add(sub: argparse.ArgumentParser) -> None:
     add_words(sub, ("output", "an output of heads"))
     sub.add_argument("folder", nargs="?", type=Path, help="the model's folder, the output's own where left out")
-    sub.add_argument("--digits", type=int, help="the digits of the run, where they aren't in the output")
+    digits = "the digits of the run, where they aren't in the output"
+    sub.add_argument("--digits", type=whole_number(0, 18), help=digits)
 
 
 def do(args: argparse.Namespace, _: list[str], out: IO[str]) -> int:

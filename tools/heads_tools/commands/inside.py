@@ -16,15 +16,17 @@ from ..deck.packages import read_deck
 from ..deck.sources import Report
 from ..deck.which_modflow import is_simulation
 from ..deck.writing import write_deck, written_name
+from ..listing.plan_listing import is_plan_listing
 from ..modflow6.translate import read_simulation
 from ..numbers.equations import Network, given_heads
 from ..program.explain import explain
 from ..program.program import DEFAULT_DIGITS
 from ..program.reading import read_alone
 from ..water.inside_water import water_lines
+from . import inside_plan
 from .inside_tops import tops_lines
 from .shared import existing, say
-from .words import add_words
+from .words import add_words, whole_number
 
 MOST_UNITS = 2.0**60
 MOST_FLOW = 2.0**109
@@ -164,17 +166,21 @@ def confirmed(nam: Path, model: Model, is_rewritten: bool, has_wide: bool) -> To
 
 
 def add(sub: argparse.ArgumentParser) -> None:
-    add_words(sub, ("nam", "the model's name file, or mfsim.nam of MODFLOW 6"))
-    sub.add_argument("--most", type=int, default=12, help="the reasons of a kind to show (12)")
+    add_words(sub, ("nam", "the model's name file, or mfsim.nam of MODFLOW 6; or a listing of what a plan does"))
+    sub.add_argument("--most", type=whole_number(1), default=12, help="the reasons of a kind to show (12)")
     sub.add_argument(
         "--heads",
         type=Path,
         metavar="RUN.HDS",
         help="a run's heads (hds or CSV), where a layer is convertible: are they gentle, are the layers full",
     )
+    inside_plan.add(sub)
 
 
 def do(args: argparse.Namespace, _: list[str], out: IO[str]) -> int:
+    if is_plan_listing(args.nam):
+        return inside_plan.do(args, out)
+    inside_plan.refuse_words(args)
     verdict = inside(existing(args.nam), args.most, existing(args.heads) if args.heads else None)
     say(verdict.lines, out)
     return 0 if verdict.is_inside else 1

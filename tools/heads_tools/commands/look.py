@@ -7,15 +7,22 @@ from typing import IO
 
 from ..common.text import Problem
 from ..deck.model import read_model
-from ..listing.listing import Listing
-from ..listing.plan_listing import is_plan_listing, read_plan_listing
-from ..listing.spans import second_deck
+from ..listing.plan_listing import is_plan_listing
 from ..listing.zones import read_zones
 from ..common.whole_files import whole_folder
 from ..planning.drawdown_weather import Asked
-from ..program.verdict import check_listing, status_of
-from .shared import existing, listing_of, model_for_zones, page_folder, say, verdict_of
-from .words import LISTING, add_force, add_to, add_wide, add_words, cell, named_point
+from ..program.verdict import status_of
+from .shared import (
+    existing,
+    listing_of,
+    model_for_zones,
+    page_folder,
+    plan_listing_of,
+    refuse_plan,
+    say,
+    verdict_of,
+)
+from .words import LISTING, add_force, add_plan, add_to, add_wide, add_words, cell, named_point
 
 LOOK = """\
 Tables, maps, sections, hydrographs, budget and a page. Each net budget term (in less out) has two pairs of bounds:
@@ -34,9 +41,7 @@ def add(sub: argparse.ArgumentParser) -> None:
         help="the model: true widths, elevations, times, units; and the listing is checked against it by heads check",
     )
     add_to(sub, "the second deck, where the listing is that of two decks")
-    sub.add_argument(
-        "--plan", type=Path, metavar="WELLS", help="the file of WEL of a listing of what a plan does (with --name)"
-    )
+    add_plan(sub)
     sub.add_argument(
         "--cell",
         type=cell,
@@ -79,10 +84,9 @@ def add(sub: argparse.ArgumentParser) -> None:
 
 def do(args: argparse.Namespace, _: list[str], out: IO[str]) -> int:
     model_for_zones(args)
-    if not isinstance(args.listing, Listing) and is_plan_listing(existing(args.listing)):
+    if is_plan_listing(args.listing):
         return do_plan(args, out)
-    if args.plan:
-        raise Problem(f"--plan goes with a listing of what a plan does, and {args.listing} is none")
+    refuse_plan(args)
     if args.at:
         raise Problem(f"--at goes with a plan's listing, and {args.listing} is none: name the cell (--cell)")
     listing = listing_of(args.listing)
@@ -107,17 +111,14 @@ def do(args: argparse.Namespace, _: list[str], out: IO[str]) -> int:
 
 def do_plan(args: argparse.Namespace, out: IO[str]) -> int:
     """The page of a listing of what a plan does."""
-    if not (args.name and args.plan):
-        raise Problem(f"{args.listing} lists what a plan does: name the base deck and the wells, --name and --plan")
     if args.given or args.minus or args.page or args.every or args.svg:
         raise Problem("--given, --minus, --page, --every and --svg go with a listing of heads")
-    nam, plan, listing = existing(args.name), existing(args.plan), read_plan_listing(existing(args.listing))
-    zones, to = existing(args.zones) if args.zones else None, second_deck(nam, args.to)
-    verdict = check_listing(nam, listing.drawdown, zones, to, args.wide, plan)
+    listing, verdict = plan_listing_of(args, args.listing)
     from ..pages.weather_page import look_at_plan
 
-    asked = Asked(nam, plan, args.to, cells={each: "" for each in args.cell}, points=args.at, has_wide=args.wide)
+    cells = {each: "" for each in args.cell}
+    asked = Asked(existing(args.name), existing(args.plan), args.to, cells=cells, points=args.at, has_wide=args.wide)
     with page_folder(args.folder) as folder:
         said = look_at_plan(asked, listing, verdict, folder)
     say(said + [f"open {args.folder / 'index.html'}"], out)
-    return status_of(nam, verdict)
+    return status_of(args.name, verdict)

@@ -15,7 +15,7 @@ from ..deck.sources import Report
 from ..deck.which_modflow import is_simulation
 from ..deck.writing import NOTES, write_deck, written_name
 from ..modflow6.translate import read_simulation
-from ..program.reading import one_spelling, refused
+from ..program.reading import one_spelling, refused, with_time_unit
 from ..water.plain_water import WrittenWater, plain_water
 from .shared import existing, say
 from .words import add_words
@@ -23,7 +23,7 @@ from .words import add_words
 NOT_CHANGED = "nothing but layout was changed"
 AS_READ = (
     "nothing had to be changed: these are the files of `heads write`, the model that the program reads from the deck,"
-    " in one spelling"
+    " in one spelling, with the deck's ITMUNI, for which `heads write` puts 0"
 )
 
 
@@ -65,7 +65,7 @@ def plain(nam: Path, folder: Path) -> Written:
     files = {} if report.needed else one_spelling(nam.resolve(), bool(report.wide))
     name = "p.nam" if files else written_name(deck)
     with whole_folder(folder, is_own=(folder / NOTES).is_file()) as new:
-        for each, content in files.items():
+        for each, content in (with_time_unit(files, deck.itmuni) if files else {}).items():
             with whole_file(new / each, binary=True, is_own=True) as file:
                 file.write(content)
         if not files:

@@ -2,8 +2,9 @@
 from __future__ import annotations
 
 import argparse
+import math
 from pathlib import Path
-from typing import NoReturn
+from typing import Callable, NoReturn
 
 from ..common.text import Problem
 from ..deck.ranges import range_of
@@ -55,6 +56,29 @@ def add_zones(sub: argparse.ArgumentParser) -> None:
     )
 
 
+def whole_number(least: int, most: int = 10**9) -> Callable[[str], int]:
+    """What reads a whole number from `least` to `most`."""
+
+    def read(text: str) -> int:
+        number = int(text) if text.strip().lstrip("+-").isdigit() and len(text) < 20 else least - 1
+        if not least <= number <= most:
+            raise argparse.ArgumentTypeError(f"a whole number from {least} to {most:,} is due, and not {text}")
+        return number
+
+    return read
+
+
+def positive(text: str) -> float:
+    """A number above 0."""
+    try:
+        number = float(text)
+    except ValueError:
+        number = 0.0
+    if not (number > 0 and math.isfinite(number)):
+        raise argparse.ArgumentTypeError(f"a number above 0 is due, and not {text}")
+    return number
+
+
 def stress_range(text: str) -> object:
     try:
         return range_of(text)
@@ -62,8 +86,14 @@ def stress_range(text: str) -> object:
         raise argparse.ArgumentTypeError(f"a range is LOW..HIGH, as 0.8..1.2 or -0.2..0.2, and not {text}") from None
 
 
-def add_to(sub: argparse.ArgumentParser, about: str) -> None:
+def add_to(sub: argparse._ActionsContainer, about: str) -> None:
     sub.add_argument("--to", type=Path, metavar="TO.NAM", help=about)
+
+
+def add_plan(sub: argparse._ActionsContainer) -> None:
+    sub.add_argument(
+        "--plan", type=Path, metavar="WELLS", help="the file of WEL of a listing of what a plan does (with --name)"
+    )
 
 
 def add_quick(sub: argparse.ArgumentParser) -> None:
@@ -75,7 +105,7 @@ def add_quick(sub: argparse.ArgumentParser) -> None:
     )
 
 
-def add_wide(sub: argparse.ArgumentParser, about: str = "") -> None:
+def add_wide(sub: argparse._ActionsContainer, about: str = "") -> None:
     sub.add_argument(
         "--wide",
         action="store_true",
@@ -106,7 +136,7 @@ def named_point(text: str) -> tuple[str, float, float, int]:
     """A point of the map: its name, x, y and layer."""
     name, *rest = text.split(",")
     try:
-        if not 2 <= len(rest) <= 3:
+        if not (2 <= len(rest) <= 3 and all(map(math.isfinite, map(float, rest)))):
             raise ValueError
         return name, float(rest[0]), float(rest[1]), int(rest[2]) if len(rest) == 3 else 1
     except ValueError:
@@ -120,4 +150,5 @@ def add_cells(sub: argparse.ArgumentParser, about: str) -> None:
 
 
 def add_digits(sub: argparse.ArgumentParser) -> None:
-    sub.add_argument("--digits", type=int, metavar="N", help="the digits of the runs, from 0 to 18 (12)")
+    digits = "the digits of the runs, from 0 to 18 (12)"
+    sub.add_argument("--digits", type=whole_number(0, 18), metavar="N", help=digits)

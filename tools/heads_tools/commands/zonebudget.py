@@ -11,11 +11,12 @@ from ..common.text import counted, decimal_text
 from ..common.whole_files import whole_file
 from ..deck.model import read_model
 from ..listing.fitting import demand_fit
+from ..listing.listing import Listing
 from ..listing.spans import demand_one
 from ..listing.zones import read_zones
 from ..numbers.zone_budget import zone_budgets
 from ..program.about import write_about
-from ..program.verdict import check_listing, status_of
+from ..program.verdict import Verdict, check_listing, has_zones, status_of
 from .shared import existing, listing_of, say
 from .words import LISTING, add_force, add_wide, add_words
 
@@ -39,13 +40,23 @@ def add(sub: argparse.ArgumentParser) -> None:
     add_force(sub)
 
 
+def checked(nam: Path, listing: Listing, zones: Path, has_wide: bool) -> Verdict:
+    """What `heads check` says: with the zone file where the listing has its flows, else of the heads alone."""
+    if has_zones(listing):
+        verdict = check_listing(nam, listing, zones, has_wide=has_wide)
+        if verdict.is_certified:
+            return verdict
+    return check_listing(nam, listing, has_wide=has_wide)
+
+
 def do(args: argparse.Namespace, _: list[str], out: IO[str]) -> int:
     nam = existing(args.name)
     listing, model = listing_of(args.listing), read_model(nam)
     demand_one(listing, "the budget of a zone is that of one model")
     demand_fit(listing, model)
-    zones = read_zones(existing(args.zones), nam, model.shape)
-    verdict = check_listing(nam, listing, has_wide=args.wide)
+    zone_file = existing(args.zones)
+    zones = read_zones(zone_file, nam, model.shape)
+    verdict = checked(nam, listing, zone_file, args.wide)
     text, places = io.StringIO(), listing.flow_places
     writer = csv.writer(text, lineterminator="\n")
     writer.writerow(HEADER.split(" "))

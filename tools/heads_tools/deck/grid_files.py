@@ -38,7 +38,7 @@ def layer_word_refused(name: str, row: list[str], by_start: bool) -> str:
     return (
         f"LAYTYP of layer {layers} isn't 0: a convertible layer is another model, whose transmissivity changes with the"
         " head. To make it confined is your decision, not a spelling. `heads-tools certify --convertible` makes bounds"
-        " from a run's heads (tested, not proved)"
+        " from a run's heads, which `heads check --convertible` certifies"
     )
 
 

@@ -38,6 +38,8 @@ def place_of_fields(fields: dict[str, str]) -> Place | None:
         x, y, angle = (float(fields.get(name, "0")) for name in ("xll", "yll", "rotation"))
     except ValueError:
         return None
+    if not all(map(math.isfinite, (x, y, angle))):
+        return None
     known = re.search(r"\bepsg:(\d+)", ";".join(f"{name}:{text}" for name, text in fields.items()), re.IGNORECASE)
     place = Place(x, y, angle, int(known[1]) if known else None)
     return place if "xll" in fields and place != Place() else None
@@ -91,6 +93,8 @@ def place_of(text: str) -> Place:
         if not 2 <= len(parts) <= 4:
             raise ValueError
         x, y, angle = map(float, [*parts[:3], "0"][:3])
+        if not (math.isfinite(x) and math.isfinite(y) and abs(angle) <= 360):
+            raise ValueError
         return Place(x, y, angle, int(parts[3]) if len(parts) == 4 else None)
     except ValueError:
         raise Problem(

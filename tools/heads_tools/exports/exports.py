@@ -12,9 +12,11 @@ import numpy as np
 from ..common.text import VERSION, Problem
 from ..deck.model import Model
 from ..deck.places import Place
-from ..listing.listing import Listing, Step
+from ..listing.listing import Step
+from ..listing.plan_listing import PlanListing
 from ..listing.tables import budget_of
 from ..program.verdict import NO_CHECK, Verdict, not_checked
+from .parts import AnyListing, first_of, parts_of
 
 if TYPE_CHECKING:
     import pandas
@@ -30,16 +32,16 @@ METRES = {"m": 1.0, "ft": 0.3048, "cm": 0.01}
 ROUNDED = "Heads are rounded outward to doubles."
 
 
-def comment_of(listing: Listing, verdict: Verdict | None) -> str:
+def comment_of(listing: AnyListing, verdict: Verdict | None) -> str:
     """What the numbers are, after the check of the listing whose they are."""
     told = facts_for(listing, verdict)["verdict"]
     return f"{told} {ROUNDED}"
 
 
-def facts_for(listing: Listing, verdict: Verdict | None) -> dict[str, str]:
+def facts_for(listing: AnyListing, verdict: Verdict | None) -> dict[str, str]:
     """What a file says of its numbers. A verdict on another listing is refused."""
-    verdict = verdict or not_checked(listing, NO_CHECK)
-    if verdict.sha256 != listing.sha256:
+    verdict = verdict or not_checked(first_of(listing), NO_CHECK)
+    if verdict.sha256 != first_of(listing).sha256:
         raise Problem(f"the verdict is that on another listing than {listing.path}")
     return verdict.facts() | {"made_by": f"heads-tools {VERSION}"}
 
@@ -103,38 +105,41 @@ def time_of(model: Model | None, step: Step) -> float:
 
 
 def heads_frame(
-    listing: Listing, model: Model | None = None, place: Place = Place(), verdict: Verdict | None = None
+    listing: AnyListing, model: Model | None = None, place: Place = Place(), verdict: Verdict | None = None
 ) -> pandas.DataFrame:
-    """A row for each step and cell: period, step, time, layer, row, col, x, y (with a model), lower, upper. Its attrs
-    have the verdict."""
-    pandas = package("pandas")
-    lower, upper = (
-        np.concatenate([grid[tuple((listing.cells - 1).T)] for grid in side])
-        for side in (listing.lower(), listing.upper())
-    )
-    n, steps = len(listing.cells), listing.steps
+    """A row for each step and cell: period, step, time, layer, row, col, x, y (with a model), lower, upper; of a plan's
+    listing base_lower to drawdown_upper. Its attrs have the verdict."""
+    pandas, first = package("pandas"), first_of(listing)
+    n, steps, cells = len(first.cells), first.steps, first.cells
     columns: dict[str, Any] = {
         "period": np.repeat([s.period for s in steps], n),
         "step": np.repeat([s.step for s in steps], n),
     }
     if model:
         columns["time"] = np.repeat([time_of(model, s) for s in steps], n)
-    columns |= {name: np.tile(listing.cells[:, at], len(steps)) for at, name in enumerate(("layer", "row", "col"))}
+    columns |= {name: np.tile(cells[:, at], len(steps)) for at, name in enumerate(("layer", "row", "col"))}
     if model:
         x, y = middles(model)
-        wx, wy = place.world(x[listing.cells[:, 2] - 1], y[listing.cells[:, 1] - 1])
+        wx, wy = place.world(x[cells[:, 2] - 1], y[cells[:, 1] - 1])
         columns |= {"x": np.tile(wx, len(steps)), "y": np.tile(wy, len(steps))}
-    frame = pandas.DataFrame(columns | {"lower": lower, "upper": upper})
+    for part in parts_of(listing):
+        for name, side in (("lower", part.listing.lower()), ("upper", part.listing.upper())):
+            columns[part.prefix + name] = np.concatenate([grid[tuple((cells - 1).T)] for grid in side])
+    frame = pandas.DataFrame(columns)
     frame.attrs.update(facts_for(listing, verdict))
     return frame
 
 
 def terms_frame(
-    listing: Listing, model: Model | None = None, verdict: Verdict | None = None
+    listing: AnyListing, model: Model | None = None, verdict: Verdict | None = None
 ) -> pandas.DataFrame:
-    """A row for each step and budget term, rates: in, out and net (narrowed to what the other terms leave), outward.
-    Its attrs have the verdict."""
+    """A row for each step and budget term, rates: in, out and net (narrowed to what the other terms leave), outward; of
+    a plan's listing what each term gives more under the plan. Its attrs have the verdict."""
     pandas = package("pandas")
+    if isinstance(listing, PlanListing):
+        frame = sources_frame(listing, model)
+        frame.attrs.update(facts_for(listing, verdict))
+        return frame
     names = [
         "period",
         "step",
@@ -157,3 +162,14 @@ def terms_frame(
     frame = pandas.DataFrame(rows, columns=names).set_index(["period", "step", "term"])
     frame.attrs.update(facts_for(listing, verdict))
     return frame
+
+
+def sources_frame(listing: PlanListing, model: Model | None) -> pandas.DataFrame:
+    """A row for each step and term: what the term gives more under the plan."""
+    places, rows = listing.drawdown.flow_places, []
+    for step, terms in zip(listing.drawdown.steps, listing.sources):
+        for name, pair in terms.items():
+            more = (outward(each, places, side) for each, side in zip(pair, (-1, 1)))
+            rows.append((step.period, step.step, time_of(model, step), name, *more))
+    names = ["period", "step", "time", "term", "more_lower", "more_upper"]
+    return package("pandas").DataFrame(rows, columns=names).set_index(["period", "step", "term"])

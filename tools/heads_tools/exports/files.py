@@ -12,12 +12,14 @@ from ..common.whole_files import draft_of, whole_file, write_whole
 from ..deck.model import Model
 from ..deck.places import Place
 from ..listing.listing import Listing
+from ..listing.plan_listing import PlanListing, write_plan_tables
 from ..listing.tables import write_heads_table
 from ..program.about import write_about
 from ..program.verdict import NO_CHECK, Verdict, not_checked
 from .exports import Unwritten, comment_of, demand_unit, facts_for, middles, package, time_of
 from .geopackage import to_geopackage
 from .netcdf import to_netcdf
+from .parts import AnyListing, first_of, parts_of
 
 FORMATS = ("nc", "tif", "gpkg", "vtu", "csv")
 BY_STEPS = ("tif", "vtu")
@@ -25,14 +27,15 @@ BY_STEPS = ("tif", "vtu")
 
 def to_geotiff(
     path: Path | str,
-    listing: Listing,
+    listing: AnyListing,
     model: Model,
     place: Place = Place(),
     at: int = -1,
     verdict: Verdict | None = None,
 ) -> None:
     """A picture element for each cell of a grid of equal widths; for each layer a band of lower and one of upper
-    heads of a step, the last one where it isn't named. `verdict`: what `heads check` said of the listing."""
+    heads of a step, the last one where it isn't named; of a plan's listing also of the heads with the plan, and of the
+    drawdown. `verdict`: what `heads check` said of the listing."""
     rasterio = package("rasterio")
     from rasterio.io import MemoryFile
     from rasterio.transform import Affine
@@ -44,18 +47,23 @@ def to_geotiff(
     x, y = place.world(np.array(0.0), np.array(model.delc.sum()))
     corner, turn = Affine.translation(float(x), float(y)), Affine.rotation(place.angle)
     nlay, nrow, ncol = model.shape
-    options: dict[str, Any] = {"width": ncol, "height": nrow, "count": 2 * nlay, "dtype": "float64"}
+    bands = [
+        (f"layer {k + 1} {side} {part.short}", heads[k])
+        for k in range(nlay)
+        for part in parts_of(listing)
+        for side, heads in zip(("lower", "upper"), step_of(part.listing, model, at))
+    ]
+    options: dict[str, Any] = {"width": ncol, "height": nrow, "count": len(bands), "dtype": "float64"}
     options |= {"transform": corner * turn * Affine.scale(model.delr[0], -model.delc[0]), "nodata": math.nan}
     options |= {"driver": "GTiff", "compress": "deflate", "crs": f"EPSG:{place.epsg}" if place.epsg else None}
-    sides, step = step_of(listing, model, at), listing.steps[at]
+    step = first_of(listing).steps[at]
     tags = facts_for(listing, verdict) | {"comment": comment_of(listing, verdict)}
-    bands = [(f"layer {k + 1} {name}", side[k]) for k in range(nlay) for name, side in zip(("lower", "upper"), sides)]
     with MemoryFile() as memory:
         with memory.open(**options) as file:
             file.update_tags(period=step.period, step=step.step, time=time_of(model, step), **tags)
             for band, (name, values) in enumerate(bands, 1):
                 file.write(values, band)
-                file.set_band_description(band, f"{name} {'change' if listing.is_change else 'head'}")
+                file.set_band_description(band, name)
         content = bytes(memory.getbuffer())
 
     def look(new: Path) -> None:
@@ -74,20 +82,24 @@ def step_of(listing: Listing, model: Model, at: int) -> tuple[np.ndarray, np.nda
 
 def to_vtk(
     path: Path | str,
-    listing: Listing,
+    listing: AnyListing,
     model: Model,
     place: Place = Place(),
     at: int = -1,
     verdict: Verdict | None = None,
 ) -> None:
     """A hexahedron for each cell with flow, with its lower and upper head of a step, the last one where it isn't
-    named. `verdict`: what `heads check` said of the listing, which stands in a comment of the file."""
-    meshio, path = package("meshio"), Path(path)
-    k, i, j = (listing.cells - 1).T
-    points, cells = shared(corners(listing, model, place))
-    lower, upper = step_of(listing, model, at)
-    data = {"lower": [lower[k, i, j]], "upper": [upper[k, i, j]], "layer": [k + 1]}
-    mesh = meshio.Mesh(points, [("hexahedron", cells)], cell_data=data)
+    named; of a plan's listing base_lower to drawdown_upper. `verdict`: what `heads check` said of the listing, which
+    stands in a comment of the file."""
+    meshio, path, first = package("meshio"), Path(path), first_of(listing)
+    k, i, j = (first.cells - 1).T
+    points, cells = shared(corners(first, model, place))
+    data = {
+        part.prefix + side: [heads[k, i, j]]
+        for part in parts_of(listing)
+        for side, heads in zip(("lower", "upper"), step_of(part.listing, model, at))
+    }
+    mesh = meshio.Mesh(points, [("hexahedron", cells)], cell_data=data | {"layer": [k + 1]})
     facts = facts_for(listing, verdict)
     told = "".join(f"{name}: {text}\n" for name, text in facts.items()).replace("--", "- -")
     with draft_of(path) as draft:
@@ -96,7 +108,7 @@ def to_vtk(
 
     def look(new: Path) -> None:
         found = meshio.vtu.read(new).cell_data
-        if any(not np.array_equal(found[name][0], data[name][0]) for name in ("lower", "upper")):
+        if any(not np.array_equal(found[name][0], values[0]) for name, values in data.items()):
             raise ValueError("it has other values")
 
     write_whole(path, head + f"\n<!--\n{told}-->\n".encode() + body, look)
@@ -138,7 +150,7 @@ def name_of(stem: str, kind: str, listing: Listing, at: int, is_alone: bool) -> 
 
 
 def export(
-    listing: Listing,
+    listing: AnyListing,
     folder: Path,
     model: Model,
     place: Place,
@@ -149,8 +161,8 @@ def export(
 ) -> list[str]:
     """Writes the formats into a folder, GeoTIFF and VTK for each step or the last one alone; a sentence on each. A
     format whose package is missing, or that can't hold the grid, is an error only where it was asked for alone."""
-    stem = "change" if listing.is_change else "heads"
-    seen = verdict or not_checked(listing, NO_CHECK)
+    stem = "plan" if isinstance(listing, PlanListing) else "change" if listing.is_change else "heads"
+    seen = verdict or not_checked(first_of(listing), NO_CHECK)
     whole: dict[str, Callable[[Path], None]] = {
         "nc": lambda path: to_netcdf(path, listing, model, place, seen, start),
         "gpkg": lambda path: to_geopackage(path, listing, model, place, seen, is_last),
@@ -171,15 +183,21 @@ def export(
     return said
 
 
-def to_csv(path: Path, listing: Listing, model: Model, place: Place, verdict: Verdict) -> None:
+def to_csv(path: Path, listing: AnyListing, model: Model, place: Place, verdict: Verdict) -> None:
     """The table of all steps and cells that `look` writes, and cells.csv with the cells' middles on the map, tops and
-    bottoms; the verdict in a file beside each."""
-    write_heads_table(path, listing, model.times)
+    bottoms; of a plan's listing source.csv, too. The verdict is in a file beside each."""
+    if isinstance(listing, PlanListing):
+        sources = path.with_name("source.csv")
+        write_plan_tables(listing, path, sources, model.times)
+        write_about(sources, verdict)
+    else:
+        write_heads_table(path, listing, model.times)
     write_about(path, verdict)
     x, y = middles(model)
-    k, i, j = (listing.cells - 1).T
+    all_cells = first_of(listing).cells
+    k, i, j = (all_cells - 1).T
     bottom = model.bottom[k, i, j]
-    columns = [*(listing.cells.T), *place.world(x[j], y[i]), bottom + model.thick[k, i, j], bottom]
+    columns = [*(all_cells.T), *place.world(x[j], y[i]), bottom + model.thick[k, i, j], bottom]
     cells = path.with_name("cells.csv")
     with whole_file(cells) as file:
         file.write("layer,row,col,x,y,top,bottom\n")
@@ -188,7 +206,7 @@ def to_csv(path: Path, listing: Listing, model: Model, place: Place, verdict: Ve
 
 
 def export_steps(
-    listing: Listing,
+    listing: AnyListing,
     folder: Path,
     model: Model,
     place: Place,
@@ -198,17 +216,17 @@ def export_steps(
 ) -> str:
     """Writes the files of one kind, one for each step; a sentence on them."""
     stem, kind = name
-    write = {"tif": to_geotiff, "vtu": to_vtk}[kind]
-    chosen = [len(listing.steps) - 1] if is_last else list(range(len(listing.steps)))
+    write, first = {"tif": to_geotiff, "vtu": to_vtk}[kind], first_of(listing)
+    chosen = [len(first.steps) - 1] if is_last else list(range(len(first.steps)))
     files = []
     for at in chosen:
-        path = folder / name_of(stem, kind, listing, at, len(chosen) == 1)
+        path = folder / name_of(stem, kind, first, at, len(chosen) == 1)
         write(path, listing, model, place, at, verdict)
-        files.append((path, time_of(model, listing.steps[at])))
+        files.append((path, time_of(model, first.steps[at])))
     if kind == "vtu":
         write_about(folder / f"{stem}.vtu", verdict, [path for path, _ in files])
     if len(files) == 1:
-        return f"written: {files[0][0]}" + (" (the last step)" if len(listing.steps) > 1 else "")
+        return f"written: {files[0][0]}" + (" (the last step)" if len(first.steps) > 1 else "")
     series = folder / f"{stem}.pvd"
     if kind == "vtu":
         write_series(series, files)

@@ -15,11 +15,13 @@ from ..common.text import Problem
 from ..common.whole_files import draft_of
 from ..deck.model import Model
 from ..deck.places import Place
-from ..listing.listing import Listing, Step
+from ..listing.listing import Listing
+from ..listing.plan_listing import PlanListing
 from ..program.about import write_about
 from ..program.verdict import Verdict, not_checked
 from .exports import demand_unit, facts_for, middles
 from .netcdf import wkt_of
+from .parts import AnyListing, first_of, parts_of
 
 APPLICATION, VERSION = 0x47504B47, 10300
 LITTLE, LINE, POLYGON = 1, 2, 3
@@ -49,14 +51,15 @@ WGS84 = (
 
 def to_geopackage(
     path: Path | str,
-    listing: Listing,
+    listing: AnyListing,
     model: Model,
     place: Place = Place(),
     verdict: Verdict | None = None,
     is_last: bool = False,
 ) -> None:
     """For each layer a table of polygons with the heads of the last step, and of each step where they are 50 or fewer;
-    a table of contours of lower and of upper heads; a table with what `heads check` said. Heads are rounded outward."""
+    a table of contours of lower and of upper heads; a table with what `heads check` said. Heads are rounded outward. A
+    plan's listing has base_lower to drawdown_upper in their place."""
     path = Path(path)
     demand_unit(model, place)
     demand_free(path)
@@ -68,16 +71,17 @@ def to_geopackage(
         except sqlite3.Error as error:
             raise Problem(f"{path} can't be written: {error}") from None
         draft.replace(path)
-    write_about(path, verdict or not_checked(listing))
+    write_about(path, verdict or not_checked(first_of(listing)))
 
 
 class Package:
     """The tables of one GeoPackage."""
 
-    def __init__(self, base: sqlite3.Connection, listing: Listing, model: Model, place: Place, is_last: bool):
-        self.base, self.listing, self.model, self.place = base, listing, model, place
-        steps = listing.steps
-        self.steps = [] if is_last or len(steps) == 1 or len(steps) > MOST_STEPS else steps
+    def __init__(self, base: sqlite3.Connection, listing: AnyListing, model: Model, place: Place, is_last: bool):
+        self.base, self.listing, self.model, self.place = base, first_of(listing), model, place
+        self.parts, count = parts_of(listing), len(self.listing.steps)
+        self.steps = [] if is_last or count == 1 or count > MOST_STEPS else list(range(count))
+        self.name, self.level = ("plan", "value") if isinstance(listing, PlanListing) else ("heads", "head")
         self.system = place.epsg or UNKNOWN
         x = np.concatenate([[0], np.cumsum(model.delr)])
         y = model.delc.sum() - np.concatenate([[0], np.cumsum(model.delc)])
@@ -124,34 +128,36 @@ class Package:
         corners = [(0, 0), (1, 0), (1, 1), (0, 1), (0, 0)]
         x, y = (np.stack([grid[i + down, j + right] for down, right in corners], 1) for grid in (self.x, self.y))
         columns = ["layer INTEGER", "row INTEGER", "col INTEGER", "top DOUBLE", "bottom DOUBLE"]
-        columns += ["lower DOUBLE", "upper DOUBLE"]
         bottom = self.model.bottom[k, i, j]
         values = [*(self.listing.cells[at].T), bottom + self.model.thick[k, i, j], bottom]
-        values += self.pair(self.listing.steps[-1], at)
-        for step in self.steps:
-            columns += [f"{side}_p{step.period}_s{step.step} DOUBLE" for side in ("lower", "upper")]
-            values += self.pair(step, at)
+        for n in [-1, *self.steps]:
+            step = self.listing.steps[n]
+            end = f"_p{step.period}_s{step.step}" if n >= 0 else ""
+            for part in self.parts:
+                columns += [f"{part.prefix}{side}{end} DOUBLE" for side in ("lower", "upper")]
+                values += self.pair(part.listing, n, at)
         lists = [value.tolist() for value in values]
         geometries = (blob(self.system, POLYGON, *points) for points in zip(x, y))
-        self.features(f"heads_layer{layer}", "POLYGON", columns, zip(geometries, *lists))
+        self.features(f"{self.name}_layer{layer}", "POLYGON", columns, zip(geometries, *lists))
 
-    def sides(self, step: Step) -> tuple[np.ndarray, np.ndarray]:
+    def sides(self, listing: Listing, n: int) -> tuple[np.ndarray, np.ndarray]:
         """Lower and upper heads of a step, shape (layers, rows, cols), rounded outward."""
-        one = Listing(self.listing.path, self.listing.digits, self.listing.unit, [step], self.listing.cells)
+        one = Listing(listing.path, listing.digits, listing.unit, [listing.steps[n]], listing.cells)
         return one.lower(self.model.shape)[0], one.upper(self.model.shape)[0]
 
-    def pair(self, step: Step, at: np.ndarray) -> list[np.ndarray]:
-        return [side[tuple((self.listing.cells[at] - 1).T)] for side in self.sides(step)]
+    def pair(self, listing: Listing, n: int, at: np.ndarray) -> list[np.ndarray]:
+        return [side[tuple((self.listing.cells[at] - 1).T)] for side in self.sides(listing, n)]
 
     def write_contours(self, layer: int) -> None:
         """Contours of the last step's lower and upper heads: lines through the middles of cells."""
         x, y = middles(self.model)
         rows: list[tuple] = []
-        for name, heads in zip(("lower", "upper"), self.sides(self.listing.steps[-1])):
-            for level, line in contours(x, y, heads[layer - 1]):
-                wx, wy = self.place.world(line[:, 0], line[:, 1])
-                rows.append((blob(self.system, LINE, wx, wy), layer, name, level))
-        columns = ["layer INTEGER", "bound TEXT", "head DOUBLE"]
+        for part in self.parts:
+            for name, heads in zip(("lower", "upper"), self.sides(part.listing, -1)):
+                for level, line in contours(x, y, heads[layer - 1]):
+                    wx, wy = self.place.world(line[:, 0], line[:, 1])
+                    rows.append((blob(self.system, LINE, wx, wy), layer, part.prefix + name, level))
+        columns = ["layer INTEGER", "bound TEXT", f"{self.level} DOUBLE"]
         self.features(f"contours_layer{layer}", "LINESTRING", columns, iter(rows))
 
 

@@ -17,6 +17,7 @@ from ..deck.places import Place
 from ..listing.listing import Listing
 from ..program.verdict import Verdict
 from .exports import comment_of, demand_unit, facts_for, middles, package, system_of, time_of
+from .parts import AnyListing, first_of, parts_of, title_of
 
 if TYPE_CHECKING:
     import xarray
@@ -29,38 +30,37 @@ ALONE = threading.Lock()
 
 
 def to_xarray(
-    listing: Listing,
+    listing: AnyListing,
     model: Model | None = None,
     place: Place = Place(),
     verdict: Verdict | None = None,
     start: str | None = None,
 ) -> xarray.Dataset:
-    """Lower and upper heads by time (step without a model), layer, y and x; a grid that is turned has rows and
-    columns, and the coordinates of their middles. `verdict`: what `heads check` said of the listing; `start`: the date
-    on which the model starts, YYYY-MM-DD, that of the name file's comments where left out."""
-    xarray = package("xarray")
-    shape = model.shape if model else listing.shape
+    """Lower and upper heads by time (step without a model), layer, y and x; of a plan's listing base_lower to
+    drawdown_upper. A grid that is turned has rows and columns, and the coordinates of their middles. `verdict`: what
+    `heads check` said of the listing; `start`: the date on which the model starts, YYYY-MM-DD, that of the name file's
+    comments where left out."""
+    xarray, one = package("xarray"), first_of(listing)
+    shape = model.shape if model else one.shape
     coords, axes = grid_coords(shape, model, place)
     first = "time" if model else "step"
     if model:
-        coords["time"] = time_coord(listing, model, start)
-    coords["period"] = (first, [s.period for s in listing.steps], {"long_name": "stress period"})
-    coords["step_of_period"] = (first, [s.step for s in listing.steps], {"long_name": "time step of the period"})
-    what = "change of the head" if listing.is_change else "head"
-    about = {"units": LENGTHS.get(listing.unit, "length units"), "comment": comment_of(listing, verdict)}
+        coords["time"] = time_coord(one, model, start)
+    coords["period"] = (first, [s.period for s in one.steps], {"long_name": "stress period"})
+    coords["step_of_period"] = (first, [s.step for s in one.steps], {"long_name": "time step of the period"})
+    about = {"units": LENGTHS.get(one.unit, "length units"), "comment": comment_of(listing, verdict)}
     demand_unit(model, place)
     mapping = mapping_of(model, place)
     about |= {"grid_mapping": MAPPING} if mapping else {}
     dims = (first, "layer", *axes)
     data: dict[str, Any] = {MAPPING: ((), 0, mapping)} if mapping else {}
-    data |= {
-        "lower": (dims, listing.lower(shape), about | {"long_name": f"lower bound of the {what}"}),
-        "upper": (dims, listing.upper(shape), about | {"long_name": f"upper bound of the {what}"}),
-    }
+    for part in parts_of(listing):
+        for side, heads in (("lower", part.listing.lower(shape)), ("upper", part.listing.upper(shape))):
+            data[part.prefix + side] = (dims, heads, about | {"long_name": f"{side} bound of the {part.what}"})
     data |= grid_data(model, dims[1:], about.get("grid_mapping")) if model else {}
-    ends = listing.end or "a part of a step"
-    source = f"heads, {listing.path.name}, {listing.digits} digits, ends with {ends}"
-    attrs = {"Conventions": "CF-1.8", "title": f"Bounds of the {what}", "source": source}
+    ends = one.end or "a part of a step"
+    source = f"heads, {one.path.name}, {one.digits} digits, ends with {ends}"
+    attrs = {"Conventions": "CF-1.8", "title": title_of(listing), "source": source}
     attrs |= facts_for(listing, verdict) | ({"crs": f"EPSG:{place.epsg}"} if place.epsg else {})
     return xarray.Dataset(data, coords, attrs)
 
@@ -140,7 +140,7 @@ def grid_data(model: Model, dims: tuple[str, ...], mapping: str | None) -> dict[
 
 def to_netcdf(
     path: Path | str,
-    listing: Listing,
+    listing: AnyListing,
     model: Model | None = None,
     place: Place = Place(),
     verdict: Verdict | None = None,
@@ -155,13 +155,14 @@ def to_netcdf(
         encoding |= {str(name): {"zlib": True, "complevel": 4} for name in data.data_vars if data[name].ndim}
         data.dump_to_store(backends.NetCDF4DataStore(file), encoding=encoding)
         content = bytes(file.close())
-        write_whole(path, content, lambda new: look_at(new, data))
+        bounds = [part.prefix + side for part in parts_of(listing) for side in ("lower", "upper")]
+        write_whole(path, content, lambda new: look_at(new, data, bounds))
 
 
-def look_at(path: Path, data: xarray.Dataset) -> None:
+def look_at(path: Path, data: xarray.Dataset, bounds: list[str]) -> None:
     """Raises where a file doesn't have the heads of a Dataset."""
     with package("netCDF4").Dataset(str(path)) as file:
         file.set_auto_mask(False)
-        for name in ("lower", "upper"):
+        for name in bounds:
             if not np.array_equal(file[name][:], data[name].values, equal_nan=True):
                 raise ValueError(f"it has other values of {name}")

@@ -9,6 +9,7 @@ from typing import Dict, Tuple
 
 import numpy as np
 
+from ..common.limits import WIDE
 from ..common.marks import plain, tell
 from ..common.text import Problem, counted, read_raw
 from ..common.whole_files import whole_file
@@ -79,7 +80,9 @@ def _binary(
 
 
 def _table(path: Path, text: str, shape: tuple[int, int, int] | None) -> Heads:
+    most = shape or (WIDE.layers, WIDE.side, WIDE.side)
     rows: dict[tuple[int, int], list[tuple[int, int, int, float]]] = {}
+    lines: dict[tuple[int, int], list[int]] = {}
     for n, row in enumerate(csv.reader(text.splitlines()), 1):
         if not row or row[0].startswith("#") or (n == 1 and any(c.isalpha() for c in row[0])):
             continue
@@ -92,17 +95,28 @@ def _table(path: Path, text: str, shape: tuple[int, int, int] | None) -> Heads:
             raise Problem(
                 f"{path}, line {n}: a line is [period,step,]layer,row,col,head, and this one `{','.join(row)[:60]}`"
             ) from None
+        if k > most[0] or i > most[1] or j > most[2]:
+            of = f"the grid of {shape}" if shape else "every grid that is read"
+            raise Problem(f"{path}, line {n}: layer, row, column ({k}, {i}, {j}) lie outside {of}")
         rows.setdefault(key, []).append((k, i, j, head))
+        lines.setdefault(key, []).append(n)
     out = Heads()
     for key, entries in rows.items():
         table = np.array(entries)
         cells = table[:, :3].astype(int) - 1
-        least = tuple(cells.max(axis=0) + 1)
-        if shape and any(a > b for a, b in zip(least, shape)):
-            raise Problem(f"{path}: a cell of layer, row, column {least} at most lies outside the grid of {shape}")
-        out[key] = np.full(shape or least, np.nan)
+        out[key] = np.full(shape or tuple(cells.max(axis=0) + 1), np.nan)
+        demand_once(path, np.ravel_multi_index(tuple(cells.T), out[key].shape), lines[key])
         out[key][tuple(cells.T)] = table[:, 3]
     return out
+
+
+def demand_once(path: Path, cells: np.ndarray, lines: list[int]) -> None:
+    """Refuses a table that has a cell twice: which of the two heads would count?"""
+    _, first, numbers = np.unique(cells, return_index=True, return_inverse=True)
+    again = np.flatnonzero(first[numbers] != np.arange(len(cells)))
+    if len(again):
+        one, two = lines[first[numbers[again[0]]]], lines[again[0]]
+        raise Problem(f"{path}, line {two}: its cell stands in line {one}, too")
 
 
 def write_heads(

@@ -57,7 +57,8 @@ class Listing:
     """A listing. `cells`: layer, row and column of each cell with flow, from 1, shape (cells, 3); `end`: its last
     line; `is_change`: its heads are those of one run less those of another (`changes_of` in drawdown.py); `is_span`: it
     was made of two decks and holds for every deck between them; `sha256`: that of the bytes that were read;
-    `is_convertible`: it is of a model with convertible layers, and holds for gentle heads (gentle.py)."""
+    `is_convertible`: it is of a model with convertible layers, and holds for gentle heads (gentle.py); `part`: of which
+    part of a plan's listing it is, BASE, PLAN or DRAWDOWN (plan_listing.py)."""
 
     path: Path
     digits: int
@@ -69,6 +70,7 @@ class Listing:
     is_span: bool = False
     sha256: str = ""
     is_convertible: bool = False
+    part: str = ""
 
     def __repr__(self) -> str:
         size = f"{counted(len(self.steps), 'step')} of {counted(len(self.cells), 'cell')}"
@@ -129,7 +131,7 @@ class Listing:
         `totim` (`times`: those of the model, model.times)."""
         if cell is None:
             step = self.step_of(kstpkper, totim, times or {})
-            return Bounds(self.grid(head_floor(step.low)), self.grid(-head_floor(-step.high)))
+            return Bounds(self.grid(head_floor(step.low)), self.grid(head_ceiling(step.high)))
         if not self.has(cell):
             raise Problem("cell {},{},{} isn't in the listing: it has no flow, or lies outside the grid".format(*cell))
         return int(self.places[tuple(n - 1 for n in cell)])
@@ -151,7 +153,7 @@ class Listing:
 
     def upper(self, shape: tuple[int, int, int] | None = None) -> np.ndarray:
         """Upper heads in length units, shape (steps, layers, rows, cols), rounded up; nan where there is no flow."""
-        return np.array([self.grid(-head_floor(-s.high), shape) for s in self.steps])
+        return np.array([self.grid(head_ceiling(s.high), shape) for s in self.steps])
 
     def step_at(self, period: int, step: int) -> Step:
         """The step of a stress period."""
@@ -181,7 +183,7 @@ class Listing:
         """Lower and upper heads of a cell (layer, row, column) at the ends of all steps, rounded outward."""
         at = self.at(cell)
         low, high = (np.array([getattr(step, side)[at] for step in self.steps]) for side in ("low", "high"))
-        return head_floor(low), -head_floor(-high)
+        return head_floor(low), head_ceiling(high)
 
     def grid(self, values: np.ndarray, shape: tuple[int, int, int] | None = None) -> np.ndarray:
         """Values of the cells with flow on the whole grid, nan elsewhere."""
@@ -209,10 +211,22 @@ def head_floor(units: np.ndarray) -> np.ndarray:
     return np.where(units % FIFTHS == 0, units // FIFTHS / 512, np.nextafter(near, -np.inf))
 
 
+def head_ceiling(units: np.ndarray) -> np.ndarray:
+    """The same, rounded up; 0 has no sign."""
+    return 0.0 - head_floor(-units)
+
+
 def refuse_convertible(path: Path) -> None:
     raise Problem(
         f"{path} is of a model with convertible layers: it holds for gentle heads alone, and this command takes"
         " listings of confined models"
+    )
+
+
+def refuse_plan_listing(path: Path) -> None:
+    raise Problem(
+        f"{path} lists what a plan does (`heads run NAME --plan WELLS`): `look`, `observe`, `export` and `inside`"
+        " take it, and `check` with --plan"
     )
 
 
@@ -235,7 +249,7 @@ def read_listing(path: str | Path, has_convertible: bool = False) -> Listing:
     if first[0] in NO_LISTING:
         raise Problem(f"{path} has no listing, it ended with: {lines[0][:100]}")
     if first[0] == PLAN_FIRST:
-        raise Problem(f"{path} lists what a plan does (`heads run NAME --plan WELLS`): `look` and `exhibit` take it")
+        refuse_plan_listing(Path(path))
     is_span, is_convertible = first[6:] == ["TO"], first[6:] == ["CONVERTIBLE"]
     if is_convertible and not has_convertible:
         refuse_convertible(Path(path))

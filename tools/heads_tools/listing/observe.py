@@ -2,8 +2,8 @@
 
 The head of a point is a sum of the heads of cells with exact weights (between.py), and within a transient step it lies
 on the straight line from the step's begin to its end. If every exact solution lies between the listed heads, then its
-head at the point, made in the same way, lies between lower and upper. Nothing is claimed of the ground between the
-middles of the cells."""
+head at the point, made in the same way, lies between lower and upper; so does a drawdown between those of a plan's
+listing. Nothing is claimed of the ground between the middles of the cells."""
 from __future__ import annotations
 
 import csv
@@ -14,26 +14,31 @@ from datetime import date
 from fractions import Fraction
 from functools import cached_property
 from pathlib import Path
+from typing import Callable
 
 from ..common.text import Problem, counted, decimal_text, down, up
 from ..deck.dates import date_text
 from ..deck.model import Model, exact_ends
 from ..deck.places import Place
-from .listing import UNITS_IN_ONE, Listing, Step
+from .listing import UNITS_IN_ONE, Cell, Listing, Step
+from .plan_listing import PARTS, WHAT, PlanListing
 from .points import Point, Points
 
 HEADER = "name layer row col time lower upper measured measured_less_upper measured_less_lower cells".split()
 NEARLY = Fraction(1, 10**9)
 Range = tuple[Fraction, Fraction]
+Pair = tuple[int, int]
 
 
 @dataclass(frozen=True)
 class Observation:
-    """A point at a time: its pair of heads in 10^-9, None where it has none."""
+    """A point at a time: its pair of heads in 10^-9, None where it has none. `beside`: of a plan's listing the pairs of
+    the other parts that are asked for."""
 
     point: Point
     time: Fraction
-    pair: tuple[int, int] | None = None
+    pair: Pair | None = None
+    beside: tuple[Pair | None, ...] = ()
 
     @property
     def less(self) -> tuple[int, int] | None:
@@ -50,22 +55,30 @@ class Observation:
 
     def row(self) -> list[str]:
         """The row of the table."""
-        point, heads, less = self.point, ["", ""], ["", ""]
-        if self.pair is not None:
-            heads = [decimal_text(each, 9) for each in self.pair]
+        point, heads, less = self.point, pair_words(self.pair), ["", ""]
         if self.less is not None:
             less = [decimal_text(each, 9) for each in self.less]
         measured = "" if point.measured is None else f"{float(point.measured):.12g}"
         cell = map(str, point.cell) if point.cell else ["", "", ""]
-        return [point.name, *cell, f"{float(self.time):.12g}", *heads, measured, *less, str(len(point.weights))]
+        others = (word for pair in self.beside for word in pair_words(pair))
+        ends = [*heads, measured, *less, str(len(point.weights)), *others]
+        return [point.name, *cell, f"{float(self.time):.12g}", *ends]
+
+
+def pair_words(pair: Pair | None) -> list[str]:
+    return ["", ""] if pair is None else [decimal_text(each, 9) for each in pair]
 
 
 @dataclass
 class Observer:
-    """A listing and its model, whose heads are looked at between cells and between the ends of steps."""
+    """A listing and its model, whose heads are looked at between cells and between the ends of steps. The first step
+    begins at STRT of the model and of the other deck, if there is one; a difference begins at 0. `beside`: those of
+    other parts of a plan's listing, with the same steps."""
 
     listing: Listing
     model: Model
+    other: Model | None = None
+    beside: tuple[Observer, ...] = ()
 
     @cached_property
     def ends(self) -> list[Fraction]:
@@ -84,22 +97,25 @@ class Observer:
         return next((n for n, end in enumerate(self.ends) if point.time <= end * (1 + NEARLY)), len(self.ends) - 1)
 
     def at_end(self, point: Point, step: Step) -> Range:
-        """The head at the end of a step: each weight takes the bound that is on its side."""
-        low = high = Fraction(0)
-        for cell, weight in point.weights.items():
+        """The head at the end of a step."""
+
+        def ends(cell: Cell) -> Range:
             at = self.listing.at(cell)
-            bounds = (int(step.low[at]), int(step.high[at]))[:: 1 if weight > 0 else -1]
-            low, high = low + bounds[0] * weight, high + bounds[1] * weight
-        return low, high
+            return Fraction(int(step.low[at])), Fraction(int(step.high[at]))
+
+        return summed(point, ends)
 
     def at_start(self, point: Point) -> Range:
-        """The starting head STRT."""
-        strt = self.model.deck.strt
-        head = sum(
-            Fraction(strt[k - 1].exact((i - 1) * self.model.deck.ncol + j - 1)) * weight
-            for (k, i, j), weight in point.weights.items()
-        )
-        return Fraction(head * UNITS_IN_ONE), Fraction(head * UNITS_IN_ONE)
+        """The head before the first step."""
+        return summed(point, self.start_of)
+
+    def start_of(self, cell: Cell) -> Range:
+        if self.listing.is_change:
+            return Fraction(0), Fraction(0)
+        k, i, j = cell
+        decks = [model.deck for model in (self.model, self.other) if model]
+        heads = [Fraction(deck.strt[k - 1].exact((i - 1) * deck.ncol + j - 1)) * UNITS_IN_ONE for deck in decks]
+        return min(heads), max(heads)
 
     def head(self, point: Point, n: int) -> tuple[int, int]:
         """The pair of a point in step n, in 10^-9: at the point's time where the step is transient, else at its end."""
@@ -113,31 +129,47 @@ class Observer:
             low, high = ((1 - share) * a + share * b for a, b in zip(old, (low, high)))
         return math.floor(low), math.ceil(high)
 
+    def at(self, point: Point, time: Fraction, n: int) -> Observation:
+        """A point in step n, with a head where it has weights."""
+        pair, *beside = (each.head(point, n) if point.weights else None for each in (self, *self.beside))
+        return Observation(point, time, pair, tuple(beside))
+
     def of_point(self, point: Point) -> list[Observation]:
         """A point at its time, else at the end of each step. One whose time lies outside of the listing has no head."""
         if point.time is None:
-            pairs = (self.head(point, n) if point.weights else None for n in range(len(self.ends)))
-            return [Observation(point, time, pair) for time, pair in zip(self.ends, pairs)]
+            return [self.at(point, time, n) for n, time in enumerate(self.ends)]
         try:
-            step = self.step_of(point)
+            return [self.at(point, point.time, self.step_of(point))]
         except Problem as error:
-            return [Observation(replace(point, weights={}, why=str(error)), point.time)]
-        return [Observation(point, point.time, self.head(point, step) if point.weights else None)]
+            return [self.at(replace(point, weights={}, why=str(error)), point.time, 0)]
+
+
+def summed(point: Point, range_of: Callable[[Cell], Range]) -> Range:
+    """The sum of the ranges of a point's cells: each weight takes the bound that is on its side."""
+    low = high = Fraction(0)
+    for cell, weight in point.weights.items():
+        bounds = range_of(cell)[:: 1 if weight > 0 else -1]
+        low, high = low + bounds[0] * weight, high + bounds[1] * weight
+    return low, high
 
 
 @dataclass
 class Observed:
-    """The points of a file with their heads; the date of the model's start, where times were given as dates."""
+    """The points of a file with their heads; the date of the model's start, where times were given as dates. `what`:
+    what was measured; `beside`: of a plan's listing the names of the other parts that are asked for."""
 
     observations: list[Observation]
     model: Model
     start: date | None = None
+    what: str = "head"
+    beside: tuple[str, ...] = ()
 
     def table(self) -> str:
         """The table as CSV, with a date at each line's end where the file had dates."""
         text, itmuni = io.StringIO(), self.model.deck.itmuni
         writer = csv.writer(text, lineterminator="\n")
-        writer.writerow(HEADER + ["date"] * (self.start is not None))
+        others = [f"{name.lower()}_{side}" for name in self.beside for side in ("lower", "upper")]
+        writer.writerow(HEADER + others + ["date"] * (self.start is not None))
         for each in self.observations:
             writer.writerow(each.row() + [date_text(self.start, each.time, itmuni)] * (self.start is not None))
         return text.getvalue()
@@ -161,9 +193,9 @@ class Observed:
         root = math.isqrt(least // count), math.isqrt(-(-most // count)) + 1
         outside = sum(each.is_impossible for each in self.observations)
         return [
-            f"Measured less head, {counted(count, 'value')}: mean {down(mean[0], 9)} to {up(mean[1], 9)}, root of the "
-            f"mean square {down(root[0], 9)} to {up(root[1], 9)}; {outside} of {count} measured heads are of no exact"
-            " solution"
+            f"Measured less {self.what}, {counted(count, 'value')}: mean {down(mean[0], 9)} to {up(mean[1], 9)}, root"
+            f" of the mean square {down(root[0], 9)} to {up(root[1], 9)}; {outside} of {count} measured"
+            f" {'drawdowns' if self.what == WHAT['DRAWDOWN'] else 'heads'} are of no exact solution"
         ]
 
 
@@ -177,8 +209,26 @@ def observe(
 ) -> Observed:
     """The points of a file, a table or a HOB file, with their heads."""
     file = Points(path, listing, model, place, is_between, start)
-    observer = Observer(listing, model)
+    observations = observed(file, Observer(listing, model))
+    return Observed(observations, model, start if file.has_dates else None)
+
+
+def observe_plan(
+    listing: PlanListing, model: Model, other: Model | None, file: Points, parts: tuple[str, ...] = PARTS[:1]
+) -> Observed:
+    """The points of a file with what a plan's listing says of them. What was measured is that of the first of the
+    parts; the pairs of the others stand beside it. `other`: the second deck, where there is one."""
+    named = dict(zip(PARTS, listing.parts))
+    beside = tuple(Observer(named[part], model, other) for part in parts[1:])
+    observations = observed(file, Observer(named[parts[0]], model, other, beside))
+    if file.has_heads and parts[0] == "DRAWDOWN":
+        raise Problem(f"{file.path} is a HOB file, which has heads: drawdowns that were measured stand in a table")
+    return Observed(observations, model, file.start if file.has_dates else None, WHAT[parts[0]], parts[1:])
+
+
+def observed(file: Points, observer: Observer) -> list[Observation]:
+    """The points of a file with their heads. It is refused where none has one."""
     observations = [each for point in file.read() for each in observer.of_point(point)]
     if observations and all(each.point.why for each in observations):
-        raise Problem(f"{path}: no point has a head; {observations[0].point.name}: {observations[0].point.why}")
-    return Observed(observations, model, start if file.has_dates else None)
+        raise Problem(f"{file.path}: no point has a head; {observations[0].point.name}: {observations[0].point.why}")
+    return observations

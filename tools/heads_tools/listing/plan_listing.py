@@ -10,10 +10,14 @@ from pathlib import Path
 import numpy as np
 
 from ..common.marks import plain
-from ..common.text import Problem, counted
+from ..common.text import Problem, counted, decimal_text
+from ..common.whole_files import whole_file
+from .cell_lines import write_cells
 from .listing import PLAN_FIRST, Listing, Step, bad_line, flow_of, forms_of, listing_bytes, steps_in
 
 PARTS = ("BASE", "PLAN", "DRAWDOWN")
+# What the numbers of each part are.
+WHAT = {"BASE": "head without the plan's wells", "PLAN": "head with the plan's wells", "DRAWDOWN": "drawdown"}
 LINES = (*PARTS, "STEP", "SOURCE", "ZONE")
 FIRST_LINE = re.compile(r"DRAWDOWN 1 DIGITS (\d+) UNIT (-?\d+)( TO)?")
 Pair = tuple[int, int]
@@ -43,9 +47,11 @@ class PlanListing:
         return self.base, self.planned, self.drawdown
 
 
-def is_plan_listing(path: Path) -> bool:
-    """Whether a file begins as a plan's listing does."""
-    with open(path, "rb") as file:
+def is_plan_listing(given: object) -> bool:
+    """Whether something given is a plan's listing, a part of one, or a file that begins as one does."""
+    if not isinstance(given, Path) or not given.is_file():
+        return isinstance(given, PlanListing) or isinstance(given, Listing) and bool(given.part)
+    with open(given, "rb") as file:
         return plain(file.read(64))[0].startswith(f"{PLAN_FIRST} ".encode())
 
 
@@ -60,9 +66,9 @@ def read_plan_listing(path: str | Path) -> PlanListing:
     digits, unit, is_span = int(first[1]), int(first[2]), first[3] is not None
     digest = hashlib.sha256(content).hexdigest()
     base, planned, drawdown = (
-        Listing(Path(path), digits, unit, end=end, is_span=is_span, sha256=digest, is_change=word == "DRAWDOWN")
-        for word in PARTS
+        Listing(Path(path), digits, unit, end=end, is_span=is_span, sha256=digest, part=word) for word in PARTS
     )
+    drawdown.is_change = True
     out = PlanListing(base, planned, drawdown, [])
     for begin, stop in ranges:
         is_part = (begin, stop) == ranges[-1] and not end
@@ -113,3 +119,23 @@ def step_of(
         else:
             raise ValueError(f"a line begins with {word}")
     return steps, cells, sources
+
+
+def write_plan_tables(
+    listing: PlanListing, path: Path, sources: Path, times: dict[tuple[int, int], tuple[float, float]]
+) -> None:
+    """The three pairs of each cell, and what each term gives more under the plan, as tables of all steps with all
+    digits."""
+    pairs = ",".join(f"{part.lower()}_{side}" for part in PARTS for side in ("lower", "upper"))
+    with whole_file(path) as file:
+        file.write(f"period,step,time,layer,row,col,{pairs}\n")
+        for steps in zip(*(part.steps for part in listing.parts)):
+            begin = f"{steps[0].period},{steps[0].step},{times[steps[0].period, steps[0].step][1]:.12g},"
+            heads = (side for step in steps for side in (step.low, step.high))
+            write_cells(file, begin, ",", listing.drawdown.cells, *heads)
+    with whole_file(sources) as file:
+        file.write("period,step,term,more_lower,more_upper\n")
+        for step, terms in zip(listing.drawdown.steps, listing.sources):
+            for name, pair in terms.items():
+                more = ",".join(decimal_text(each, listing.drawdown.flow_places) for each in pair)
+                file.write(f"{step.period},{step.step},{name},{more}\n")

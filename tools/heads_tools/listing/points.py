@@ -41,7 +41,7 @@ class Point:
 class Points:
     """A file of points, read for a listing and its model. `is_between`: points of a map lie between the middles of
     cells, and aren't those of their cell. `start`: the date on which the model starts. `has_dates`: some time of the
-    file is a date."""
+    file is a date; `has_heads`: it is a HOB file, whose measurements are heads."""
 
     path: Path
     listing: Listing
@@ -50,6 +50,7 @@ class Points:
     is_between: bool = False
     start: date | None = None
     has_dates: bool = False
+    has_heads: bool = False
 
     def read(self) -> list[Point]:
         """The points of a table with a header (name, x, y or row, col; layer, time, measured may lack) or of a HOB
@@ -69,6 +70,7 @@ class Points:
             if points and all(point.cell is None for point in points):
                 raise Problem(f"{self.path}, line {lines[1][0]}: {points[0].why}; so do all points")
             return points
+        self.has_heads = True
         return Hob(self, lines).read()
 
     def of_table(self, n: int, row: dict, comma: str = ",") -> Point:
@@ -79,11 +81,15 @@ class Points:
             layer = int(number("layer") or 1)
             x, y = (float(text(name)) if text("x") else math.nan for name in "xy")
             cell = None if text("x") else (layer, int(text("row")), int(text("col")))
+            if text("x") and not (math.isfinite(x) and math.isfinite(y)):
+                raise ValueError
             name, measured = (row.get("name") or f"point {n - 1}").strip(), number("measured")
             when = (row.get("date") or row.get("time") or "").strip()
             self.has_dates = self.has_dates or is_date(when)
             time = time_since(self.start, when, self.model.deck.itmuni) if is_date(when) else number("time")
             weight = float(text("weight")) if text("weight") else 1.0
+            if not math.isfinite(weight):
+                raise ValueError
         except Problem as error:
             raise Problem(f"{self.path}, line {n}: {error}") from None
         except (ValueError, TypeError, KeyError):

@@ -18,8 +18,11 @@ def read_zones(path: Path, nam: Path, shape: tuple[int, int, int]) -> np.ndarray
     reading.at = Source(path, path.name, reading.report)
     layers = [read_array(reading, *shape[1:], f"the zones of layer {k + 1}") for k in range(shape[0])]
     zones = np.array([layer.floats() for layer in layers])
-    if (zones != np.round(zones)).any() or (zones < 0).any() or (zones > 999).any():
-        raise Problem(f"{path}: a zone is a whole number from 0 to 999")
+    wrong = np.argwhere((zones != np.round(zones)) | (zones < 0) | (zones > 999))
+    if len(wrong):
+        cell = tuple(wrong[0])
+        at = " ".join(str(n + 1) for n in cell)
+        raise Problem(f"{path}, cell {at} (layer row column): {zones[cell]:g} is no zone, a whole number from 0 to 999")
     return zones.astype(int)
 
 

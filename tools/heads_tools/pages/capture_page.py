@@ -134,8 +134,9 @@ def draw_maps(it: Captures, folder: Path, page: Page) -> None:
             for k in [k for k in range(len(layers)) if np.isfinite(layers[k]).any()]:
                 file, about = f"{word}_{number}_layer{k + 1}", f"{word.capitalize()} share of {name}, layer {k + 1}"
                 label = f"{word} share of the well's water, %"
-                maps.layer_map(album, file, plan, layers[k], k + 1, about, label, COLOURS, Normalize(0, 100))
-                caption = f"{about}: of the water of a well in the cell; grey cells weren't asked, or have no flow"
+                words = k + 1, about, label, COLOURS, Normalize(0, 100)
+                maps.layer_map(album, file, plan, layers[k], *words, grey="not asked, or no flow")
+                caption = f"{about}: of the water of a well in the cell"
                 page.picture(name, f"{file}.png", caption, about if side == 0 else "")
 
 

@@ -49,7 +49,8 @@ class OverTime(Looking):
             last = steps[-1]
             values = [last.low, last.high] + [last.width()] * self.listing.is_span
             rows = [[" ".join(map(str, c)), *(decimal_text(v[self.listing.at(c)], 9) for v in values)] for c in cells]
-            heading = ["layer row column, last step", "lower", "upper"] + ["upper less lower"] * self.listing.is_span
+            sides = ["lower", "upper"] + ["upper less lower"] * self.listing.is_span
+            heading = ["layer row column, last step", *(f"{side}, {self.unit}" for side in sides)]
             self.page.table(HYDROGRAPHS, heading, rows)
         if len(steps) > 1:
             self.jobs.append(partial(self.draw_hydrographs, cells or self.curve_cells()))

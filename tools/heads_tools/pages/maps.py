@@ -258,9 +258,10 @@ def layer_map(
     colours: str | Colormap,
     norm: Normalize,
     nought: str = "",
+    grey: str = "no flow",
 ) -> None:
     """A map of values of a layer, with contours and a bar. `nought`: what a value of 0 means, where such cells are left
-    white and no contours are drawn."""
+    white and no contours are drawn. `grey`: what a cell without a value is."""
     tall = MAP_WIDTH * plan.ratio
     with album.figure(name, WIDTH, tall + 1.3) as figure:
         axes = box(figure, LEFT, 0.9, MAP_WIDTH, tall)
@@ -271,7 +272,7 @@ def layer_map(
         elif (values <= 0).any():
             overlay(axes, plan, values <= 0)
             handles.append(patch(KNOWN, nought))
-        handles += [patch(NO_FLOW, "no flow")] if np.isnan(values).any() else []
+        handles += [patch(NO_FLOW, grey)] if np.isnan(values).any() else []
         axes.set(xlabel=plan.axis, ylabel=plan.axis, title=title)
         legend_below(axes, handles, 0.5, 4)
         add_bar(figure, mesh, box(figure, LEFT + MAP_WIDTH + 0.1, 0.9, 0.13, tall)).set_label(label)

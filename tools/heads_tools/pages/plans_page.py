@@ -56,7 +56,8 @@ def draw_plans(plans: list[Plan], base: Plan, folder: Path, cells: list[Cell]) -
     set_verdict(page, seen)
     say_tops(page, base.change, changes)
     head, rows = table_of(plans, cells)
-    page.text("Plans", f"Drawdown in {ground.unit}; a click on the head of a column sorts the table.")
+    river = f", the river's water in {ground.rate}" if any("river" in name for name in head) else ""
+    page.text("Plans", f"Drawdown in {ground.unit}{river}; a click on the head of a column sorts the table.")
     page.table("Plans", head, rows, is_sorted=True)
     draw_small_maps(changes, Album(folder), page)
     terms = [

@@ -17,7 +17,7 @@ from ..deck.packages import read_deck
 from ..deck.reading import Reading
 from ..deck.sources import Report
 from ..deck.stress_files import read_list
-from ..program.reading import one_spelling, refused
+from ..program.reading import one_spelling, refused, with_time_unit
 
 BASE, HIGH, PLAN = "base", "base_high", "plan"
 WELLS_ALONE = "a plan may add wells, or take wells out, and change nothing else"
@@ -47,6 +47,7 @@ def spelled(nam: Path, folder: Path, stem: str, has_wide: bool) -> Spelled:
     if not files:
         said = refused(nam, has_wide) or ["`heads write` puts no deck of it that can be read again"]
         raise Problem(f"{nam.name}: " + " ".join(said))
+    files = with_time_unit(files, read_deck(nam)[0].itmuni)
     texts = {kind_of(name): text for name, text in files.items() if name != "p.nam"}
     for kind, text in texts.items():
         write_file(folder / file_of(stem, kind), text)

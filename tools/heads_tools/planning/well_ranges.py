@@ -1,6 +1,7 @@
 """The drawdown at a single well in steady steps where HK is known within ranges alone, cell by cell: it falls as any
 conductance grows (Rayleigh's law of effective resistance). So a run with each HK at its lower end bounds it on the one
-side, and one with each at its upper end on the other. At other cells two runs bound nothing. It isn't proved here."""
+side, and one with each at its upper end on the other. At other cells two runs bound nothing. The law is proved
+(crates/plan_conductances); that the decks which are written here have the steps that it speaks of isn't."""
 from __future__ import annotations
 
 from dataclasses import dataclass, replace
@@ -82,7 +83,8 @@ def well_lines(found: AtWell) -> list[str]:
     name = "layer {} row {} column {}".format(*found.cell)
     said = (
         f"At the plan's well alone ({name}), where HK is anywhere between {factors} times the deck's, cell by cell, and"
-        f" in any weather ({verdicts}). Not proved by machine: that {FALLS}. At other cells these runs bound nothing"
+        f" in any weather ({verdicts}). Proved by machine (crates/plan_conductances): {FALLS}. Not proved: that these"
+        " decks have such steps. At other cells these runs bound nothing"
     )
     place = " ".join(map(str, found.cell))
     return [f"{said}:"] + [

@@ -163,6 +163,8 @@ def run_by_program(jobs: list[Job], options: list[str], at_once: int) -> bool:
     program doesn't have the command."""
     for folder in sorted({j.nam.parent for j in jobs}):
         here = [j for j in jobs if j.nam.parent == folder]
+        if not os.access(folder, os.W_OK):
+            raise Problem(f"{folder} can't be written: Permission denied")
         with tempfile.NamedTemporaryFile("w", suffix=".txt", prefix="batch", dir=folder, newline="\n") as names:
             names.write("".join(f"{j.nam.name}\n" for j in here))
             names.flush()

@@ -336,6 +336,11 @@ def checks_plans() -> bool:
     return takes(["check", "a.nam", "a.txt", "--plan", "a.wel"])
 
 
+def checks_convertible() -> bool:
+    """Whether the program checks listings of models with convertible layers."""
+    return takes(["check", "a.nam", "a.txt", "--convertible"])
+
+
 def with_wide(ended: Ended, options: list[str], folder: Path) -> list[str] | None:
     """The options of a second run, which is one with --wide, where the first one's last line asks for the word; this
     is said on standard error."""

@@ -45,3 +45,10 @@ def one_spelling(nam: Path, has_wide: bool = False) -> dict[str, bytes]:
     except Problem:
         return {}
     return files_of(done.stdout, limits_of(has_wide).bytes)
+
+
+def with_time_unit(files: dict[str, bytes], itmuni: int) -> dict[str, bytes]:
+    """The files of `heads write` with the deck's own ITMUNI: it has no effect there, so 0 is put, but pages and exports
+    name the unit."""
+    dis = re.sub(rb"^((?:\d+ ){4})0 ", rb"\g<1>%d " % itmuni, files["p.dis"], count=1)
+    return files | {"p.dis": dis}

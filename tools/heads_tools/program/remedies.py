@@ -136,7 +136,8 @@ def profile(spot: Spot, folder: Path) -> str:
             2: (
                 "LAYTYP: every layer is confined (0) here. A convertible layer is another model, whose transmissivity"
                 " changes with the head: to make it confined is your decision, not a spelling. `heads-tools certify"
-                " --convertible` makes bounds of such a model from a run's heads (tested, not proved)."
+                " --convertible` makes bounds of such a model from a run's heads, which `heads check --convertible`"
+                " certifies."
             ),
             3: "LAYAVG: only the harmonic mean (0) is read.",
             6: "LAYWET: no wetting in confined layers; write 0.",

@@ -35,7 +35,8 @@ class Verdict:
     """`status`: that of `heads check`, None where it wasn't called; `last`: its last line, or why it wasn't called;
     `name`: the listing's file; `has_zones`: whether the listing has lines ZONE; `is_zoned`: whether the check was given
     their zone file, without which they aren't checked; `is_span`: the listing is that of two decks; `is_change`: the
-    verdict is that on two listings, whose heads were subtracted; `sha256`: that of the listing; `model`: the name file;
+    verdict is that on two listings, whose heads were subtracted; `sha256`: that of the listing; `model`: the name file,
+    with the words that name a plan's wells and a second deck;
     `program`: the sha256 of the program that checked, or ran; `is_plan`: the listing is one of what a plan does;
     `is_run`: status and last line are those of the run that has just made the listing, which wasn't checked."""
 
@@ -147,7 +148,8 @@ def check_listing(
     --wide where that is asked for, or where the listing is known to be of such a run. `plan`: the wells of a plan's
     listing. The file has to have the bytes that were read: else there is nothing to check."""
     demand_decks(listing, to or [])
-    told = listing.path.name, has_zones(listing), zones is not None, listing.is_span, False, listing.sha256, nam.name
+    model = " ".join([nam.name, *(["--plan", plan.name] if plan else []), *(to or [])])
+    told = listing.path.name, has_zones(listing), zones is not None, listing.is_span, False, listing.sha256, model
     if plan and not checks_plans():
         return Verdict(None, NO_PLANS, *told, is_plan=True)
     with tempfile.TemporaryDirectory(prefix="heads_") as folder:

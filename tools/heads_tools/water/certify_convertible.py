@@ -3,11 +3,11 @@
 At each step two solves in doubles, with a little less and a little more water, give lower and upper heads. All heads
 between them have to be gentle (gentle.py), and at each cell the balance at the lower heads is at least 10^-9, at the
 upper ones at most -10^-9. `heads check` tests these signs on two confined decks (frozen.py), and they are computed here
-in whole numbers, too, since the program passes a cell at its floor or its ceiling without a sign. That such signs
-enclose the gentle heads of the model isn't proved: crates/pair_flows proves the laws, and nothing joins them to a
-model."""
+in whole numbers, too, since the program passes a cell at its floor or its ceiling without a sign. Then the listing has
+to be certified by `heads check --convertible`, where the program has the word: what that certifies is proved."""
 from __future__ import annotations
 
+import os
 import sys
 import tempfile
 from pathlib import Path
@@ -15,13 +15,14 @@ from pathlib import Path
 import numpy as np
 
 from ..common.kept_files import demand_free
-from ..common.limits import PLAIN, is_large
+from ..common.limits import PLAIN, is_large, wide_words
 from ..common.text import counted
 from ..listing.headfile import read_heads
 from ..listing.listing import Listing, Step
 from ..numbers.certify import Certified, write_listing
 from ..numbers.whole import Pair, pair_of_heads
 from ..program.explain import explain
+from ..program.program import call, checks_convertible
 from .convertible import Convertible, read_convertible
 from .frozen import SIDES, Frozen, budget
 from .gentle import GENTLE, NotGentle, first_not_gentle
@@ -31,10 +32,10 @@ from .water_steps import Found, StepData, steps_of
 
 MARGINS = (1.5, 4.0, 12.0, 40.0, 200.0)
 ONE = 10**9
+PROVED = "heads check --convertible certified the listing, and what that certifies is proved."
 NOT_PROVED = (
-    "Tested and not proved: that these signs enclose the gentle heads of the model. crates/pair_flows proves the laws"
-    " of such flows and signs; nothing joins them to a model yet. Saturated thickness, storage and the budget are"
-    " computed by heads-tools."
+    "Tested and not proved: that these signs enclose the gentle heads of the model. This program has no check"
+    " --convertible, which proves it. Saturated thickness, storage and the budget are computed by heads-tools."
 )
 
 
@@ -61,12 +62,27 @@ def certify_convertible(
         print(f"CAREFUL: {remark}", file=sys.stderr)
     run = RunHeads(heads, read_heads(heads, water.shape, np.inf), water)
     work = Bounds(water, run, digits, (factor,) if factor else MARGINS, has_wide or needs_wide(water))
+    tried = out.with_name(out.name + ".tried")
     try:
-        listing = work.listing(out)
+        listing = work.listing(tried)
     except Refused as refused:
         return refused.ended
     write_listing(listing, water.model)
-    return Certified(0, "CERTIFIED", [*said(water, listing, work), *run.differences(listing)], listing)
+    is_proved = checks_convertible()
+    if is_proved and (refusal := check_refusal(nam, listing, work.has_wide)):
+        return refusal
+    os.replace(tried, out)
+    listing.path = out
+    return Certified(0, "CERTIFIED", [*said(water, listing, work, is_proved), *run.differences(listing)], listing)
+
+
+def check_refusal(nam: Path, listing: Listing, has_wide: bool) -> Certified | None:
+    """How `heads check --convertible` ends on a listing that it doesn't certify."""
+    words = ["check", nam.name, str(listing.path.resolve()), "--digits", str(listing.digits), "--convertible"]
+    ended = call([*words, *wide_words(has_wide)], nam.parent)
+    if ended.last == "CERTIFIED":
+        return None
+    return Certified(ended.status or 6, ended.last, [ended.last, f"{listing.path} is no certificate"])
 
 
 def needs_wide(water: Convertible) -> bool:
@@ -75,18 +91,19 @@ def needs_wide(water: Convertible) -> bool:
     return is_large(water.shape) or int(water.active.sum()) + max(entries, default=0) > PLAIN.entries
 
 
-def said(water: Convertible, listing: Listing, work: Bounds) -> list[str]:
-    """What a certified listing says, and what was tested."""
+def said(water: Convertible, listing: Listing, work: Bounds, is_proved: bool) -> list[str]:
+    """What a certified listing says, and what was proved and tested."""
     flow = f"{water.model.length}3/{water.model.time}"
     cells = counted(int(water.in_layer.sum()), "cell")
+    balance = f"10^-{listing.digits + 9}" if is_proved else "10^-9"
     return [
         f"CERTIFIED for gentle heads: {listing.path} (margins of {work.widest_margin:g} roundings)",
-        f"All histories of gentle heads that balance each cell at each step to less than 10^-9 {flow} lie between the"
-        " listed heads, with their budget's flows. Of solutions that aren't gentle nothing is said.",
+        f"All histories of gentle heads that balance each cell at each step to less than {balance} {flow} lie between"
+        " the listed heads, with their budget's flows. Of solutions that aren't gentle nothing is said.",
         GENTLE,
         f"heads check certified two confined decks for each of {counted(len(listing.steps), 'step')}, whose tops are"
         " the water tables of the lower and of the upper heads; the signs were computed here in whole numbers, too.",
-        NOT_PROVED,
+        PROVED if is_proved else NOT_PROVED,
         f"{listing.summary()}; {work.unconfined} of {cells} of convertible layers have a water table at some step",
     ]
 

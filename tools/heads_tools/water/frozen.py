@@ -26,6 +26,9 @@ from .water_steps import StepData
 
 SIDES = ("LOW", "HIGH")
 ANCHOR = "1"
+# The program rounds each operation of a formula to 18 digits; here a formula is rounded once. One unit and this share of
+# a number are room for that.
+ROUNDINGS = 10**16
 
 
 class Frozen:
@@ -50,6 +53,14 @@ class Frozen:
         cells = np.flatnonzero(data.is_variable).tolist()
         held = lambda heads, cell: water.water(data.stored, cell, heads[cell])
         return {cell: held(old, cell) - held(self.heads, cell) for cell in cells}
+
+    def stored(self, old: Heads) -> Pair:
+        """The least and the most flow of stored water into each variable cell, with room for roundings."""
+        places, flows = self.digits + HEAD_PLACES, self.storage(old)
+        falls = {cell: abs(int(old[cell]) - int(self.heads[cell])) for cell in flows}
+        least = [floor_of(flow, places) - room(flow, falls[cell], places) for cell, flow in flows.items()]
+        most = [-floor_of(-flow, places) + room(flow, falls[cell], places) for cell, flow in flows.items()]
+        return whole(least), whole(most)
 
     def rounded(self, flow: Fraction, places: int) -> int:
         """A flow in 10^-places, on this side's safe side."""
@@ -113,6 +124,26 @@ def whole_step(deck: Deck, data: StepData, digits: int) -> WholeStep:
     step = WholeStep(WholeModel(model_of(deck), digits), 1, 1, {})
     step.constant = data.constant
     return step
+
+
+def room(flow: Fraction, fall: int, places: int) -> int:
+    """By how much the program's bound of stored water may be off: a unit of its storage below the top and above it, for
+    each 10^-9 that the head falls."""
+    return 2 * fall + int(abs(flow) * 10**places) // ROUNDINGS + 1 if flow else 0
+
+
+def wider(pair: Pair) -> Pair:
+    """A number's bounds, with room for those that the program has of it; zero is exact."""
+    low, high = pair[0].astype(object), pair[1].astype(object)
+    more = lambda units: np.where(units != 0, abs(units) // ROUNDINGS + 1, 0)
+    return low - more(low), high + more(high)
+
+
+def widen_rounded(step: WholeStep) -> None:
+    """Gives the program room in the conductances of branches and of evapotranspiration, and in recharge."""
+    step.network.links = [(a, b, wider(pair)) for a, b, pair in step.network.links]
+    step.recharge = (step.recharge[0], wider(step.recharge[1]))
+    step.evap = (step.evap[0], wider(step.evap[1]), *step.evap[2:])
 
 
 def widen(step: WholeStep, other: WholeStep) -> None:
@@ -193,6 +224,8 @@ def budget(low: Frozen, high: Frozen, old: Pair) -> dict[str, list[int]]:
     """Each term's least and most in, least and most out, in 10^-(digits + 9), between the lower and the upper heads: a
     flow into a cell is least at the upper ones and most at the lower ones. `old`: the heads of the step before."""
     sums = {name: [0, 0, 0, 0] for name in TERMS}
+    widen_rounded(low.step)
+    widen_rounded(high.step)
 
     def add(name: str, least: np.ndarray, most: np.ndarray) -> None:
         for at, values in enumerate((least, most, -most, -least)):
@@ -201,8 +234,7 @@ def budget(low: Frozen, high: Frozen, old: Pair) -> dict[str, list[int]]:
     flows = zip(high.step.flows(high.heads, high.heads, 0), low.step.flows(low.heads, low.heads, 1))
     for (name, _, least), (_, _, most) in flows:
         add(name, least, most)
-    places = low.digits + HEAD_PLACES
-    taken = high.storage(old[0]).values(), low.storage(old[1]).values()
-    least = whole([floor_of(flow, places) for flow in taken[0]])
-    add("STORAGE", least, whole([-floor_of(-flow, places) for flow in taken[1]]))
+    least, _ = high.stored(old[0])
+    _, most = low.stored(old[1])
+    add("STORAGE", least, most)
     return {name: sums[name] for name in list(TERMS)[: 8 if "EVT" in low.deck.areal else 7]}

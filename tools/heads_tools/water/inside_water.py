@@ -23,7 +23,7 @@ def water_lines(nam: Path, heads: Path | None) -> list[str]:
     except Problem as error:
         return [f"convertible layers: {error}"]
     out = [
-        "convertible layers: `heads-tools certify --convertible` takes the deck, for gentle heads (tested, not proved);"
+        "convertible layers: `heads-tools certify --convertible` takes the deck, for gentle heads;"
         " `heads-tools plain --as-confined` where the layers are full"
     ]
     if heads is None:
