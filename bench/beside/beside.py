@@ -45,8 +45,8 @@ class TimedSolution(Solution):
     """Heads in doubles, and the processor seconds of their systems: one in each step of a model without bends."""
 
     seconds = 0.0
-    # Heads lie this far outside of listed ones at most.
-    most_outside = 1e-3
+    # Heads lie this far outside of listed ones at most; errors of a step are carried to the next.
+    most_outside = 1e-2
 
     def is_balanced(self, step: Step, h: np.ndarray, rest: np.ndarray) -> bool:
         """Whether no balance alone would move its head by 10^-5."""
@@ -73,7 +73,6 @@ class ByPcg(TimedSolution):
     """Each system goes to a process by a file. A change of 10^-5 ends the rounds, as it ends those of a system: the
     larger the model is, the further off are its heads."""
 
-    most_outside = 1e-2
     built = folder = Path()
 
     def is_close(self, change: np.ndarray) -> bool:
